@@ -1,20 +1,23 @@
 -- Of which commands the clauses of the top calls speak: each that the words ask for, or the one that is settled. Own.
-use Rattle.std.specs.Prelude.{◌≡◌, true, false, ℕ, List, Option, None, Result, Ok, OnOk, String, map, string_bytes}
+use Rattle.std.specs.Prelude.{◌≡◌, ◌≤◌, true, false, ℕ, List, Option, None, Result, Ok, OnOk, String, map, string_bytes}
 use Rattle.std.specs.declared.alloc.Global.{Global}
 use Rattle.pgb_outside.specs.Content.{Content, Name}
+use Rattle.pgb_outside.specs.States.{ClockState}
 use Rattle.pgb_model.specs.Text.{Text}
 use Rattle.pgb_options.specs.declared.settle.Command.{Command}
 use Rattle.pgb_options.specs.Commands.{IsCommand}
 use Rattle.pgb_options.specs.Settings.{Settled}
-use Rattle.pgb_stage.specs.Plans.{AreHeld}
+use Rattle.pgb_stage.specs.declared.plan.Plan.{Plan}
+use Rattle.pgb_stage.specs.Plans.{AreHeld, first_lock, second_lock}
 use Rattle.pgb_stage.specs.Seen.{Seen}
 use Rattle.pgb_prepare.specs.declared.ready.Ready.{Ready}
 use Rattle.pgb_prepare.specs.Readies.{IsReady}
+use Rattle.pgb_prepare.specs.Taking.{HoldsOnly}
 use Rattle.pgb_command.specs.declared.order.Order.{Order}
 use Rattle.pgb_command.specs.declared.settings.Settings.{Settings}
 use Rattle.pgb_command.specs.Asked.{Request, Asked, Asks, MayAsk, requested}
-use Rattle.pgb_command.specs.Tables.{plan_of, uses_spool, uses_workers, is_on_repository}
-use Rattle.pgb_command.specs.Told.{request_of, IsOrder}
+use Rattle.pgb_command.specs.Tables.{OnBackup, plan_of, uses_spool, uses_workers, is_on_repository}
+use Rattle.pgb_command.specs.Told.{request_of, asked_of, IsOrder}
 
 -- ---- what a request has no use for
 
@@ -84,9 +87,13 @@ Between told P old new = P (told old) (told new)
 abbrev pub OnTold : {W R : Type 0} → (W → Seen) → (Seen → Seen → R → Type 0) → W → W → R → Type 0
 OnTold told P old new result = P (told old) (told new) result
 
--- it does where the result is Ok
-abbrev pub AtOk : {W R E : Type 0} → (W → Seen) → (Seen → Seen → Type 0) → W → W → Result R E → Type 0
-AtOk told P old new result = OnOk result (P (told old) (told new))
+-- and of what the settings ask
+abbrev pub OnAsked : {W R : Type 0} → (W → Seen) → (Asked → Seen → Seen → R → Type 0) → Settings → W → W → R → Type 0
+OnAsked told P s old new result = P (asked_of s) (told old) (told new) result
+
+-- of what they ask, where the result is Ok
+abbrev pub AtOk : {W R E : Type 0} → (W → Seen) → (Asked → Seen → Seen → Type 0) → Settings → W → W → Result R E → Type 0
+AtOk told P s old new result = OnOk result (P (asked_of s) (told old) (told new))
 
 -- the locks are held that the settings' request needs
 abbrev pub HoldsLocks : Settings → List Name → Type 0
@@ -104,6 +111,14 @@ IsOrderFor s order = IsOrder (request_of s.request) s.pg1_path.now order
 abbrev pub OpensNoFolder : Request → Type 0
 OpensNoFolder request = (plan_of request).folder ≡ false
 
--- it takes no lock
-abbrev pub TakesNoLock : Request → Type 0
-TakesNoLock request = ((plan_of request).backup_lock ≡ false) × ((plan_of request).archive_lock ≡ false)
+-- this holds where the plan takes no lock
+abbrev pub WhereNoLock : Plan → Type 0 → Type 0
+WhereNoLock plan P = plan.backup_lock ≡ false → plan.archive_lock ≡ false → P
+
+-- no locks are held but those of the plan
+abbrev pub HoldsAtMost : Plan → Text → List Name → Type 0
+HoldsAtMost plan stanza held = HoldsOnly (first_lock plan stanza) (second_lock plan stanza) held
+
+-- of a backup: the clock tells no second now that it couldn't tell before
+abbrev pub LeastGrows : Request → ClockState → ClockState → Type 0
+LeastGrows request old new = OnBackup request (old.least ≤ new.least)

@@ -5,7 +5,7 @@ ghost use Rattle.pgb_command.specs.Asked.{alone, create as asks_create, push as 
 ghost use Rattle.pgb_command.specs.Did.{Acknowledges, Did, Followed, Ran, SamePlaces};
 ghost use Rattle.pgb_command.specs.Told.{request_of, asked_of, AreWorkers, IsLeft};
 ghost use Rattle.pgb_command.specs.declared.order.Order.TheVariants.{ArchivePushAsync as DrainOrder, Backup as BackupOrder, BackupRunning as BackupRunningOrder, Restore as RestoreOrder, Rehearse as RehearseOrderOf};
-ghost use Rattle.pgb_command.specs.Ranges.{AtOk, Between, HoldsLocks, IsOrderFor, IsReadyFor, OnTold};
+ghost use Rattle.pgb_command.specs.Ranges.{AtOk, Between, HoldsLocks, IsOrderFor, IsReadyFor, OnAsked, OnTold};
 
 use crate::fault::{
     Fault, create_end, drain_end, examine_end, get_end, inform_end, leave_end, prune_end, push_end,
@@ -114,8 +114,8 @@ impl<
         order: LeaveOrder<'_>,
     ) -> Result<Outcome, Fault>
         requires order { IsLeft (request_of settings.now.request) settings.now.pg1_path.now order }
-        ensures did { OnTold ⟦<Self as Told>⟧.told (Did (asked_of settings.now)) self.old self.new result }
-        ensures left { AtOk ⟦<Self as Told>⟧.told (Acknowledges (asked_of settings.now)) self.old self.new result }
+        ensures did { OnAsked ⟦<Self as Told>⟧.told Did settings.now self.old self.new result }
+        ensures left { AtOk ⟦<Self as Told>⟧.told Acknowledges settings.now self.old self.new result }
         ensures places { Between ⟦<Self as Told>⟧.told SamePlaces self.old self.new }
         ensures rest { self.new ≡ record self.old {
           repo = self.new.repo;

@@ -1,15 +1,15 @@
 // The stages of a command, over all that is handed to the program.
-ghost use Rattle.std.specs.Prelude.{◌≡◌, ◌≤◌, true, false, Some, None, OnOk, IfErr, [], ◌⊎◌, map};
-ghost use Rattle.pgb_stage.specs.Plans.{first_lock, second_lock, AreHeld};
+ghost use Rattle.std.specs.Prelude.{◌≡◌, true, false, Some, None, OnOk, IfErr, [], ◌⊎◌, map};
+ghost use Rattle.pgb_stage.specs.Plans.{AreHeld};
 ghost use Rattle.pgb_stage.specs.Halts.{HaltCause, Never};
 ghost use Rattle.pgb_stage.specs.Seen.{Failed, AreRead};
-ghost use Rattle.pgb_prepare.specs.Taking.{AreNames, HoldsOnly};
+ghost use Rattle.pgb_prepare.specs.Taking.{AreNames};
 ghost use Rattle.pgb_command.specs.Asked.{alone};
 ghost use Rattle.pgb_command.specs.Did.{Acknowledges, Ran, Did, ComesBehind, Brackets, SamePlaces, OpensPlaces, ArePlacesOpened, TakesAll, OnlyLocked};
 ghost use Rattle.pgb_command.specs.Kept.{KeepsFolder, KeepsInAndOut, KeepsLocked, KeepsSpool, KeepsWorkers};
-ghost use Rattle.pgb_command.specs.Ranges.{AtOk, Between, HoldsLocks, IsOnRepository, IsOrderFor, IsReadyFor, OnTold, OpensNoFolder, UsesNoSpool, UsesNoWorkers};
+ghost use Rattle.pgb_command.specs.Ranges.{AtOk, Between, HoldsAtMost, HoldsLocks, IsOnRepository, IsOrderFor, IsReadyFor, LeastGrows, OnAsked, OnTold, OpensNoFolder, UsesNoSpool, UsesNoWorkers, WhereNoLock};
 ghost use Rattle.pgb_command.specs.Told.{request_of, asked_of, AreWorkers, IsCourse};
-ghost use Rattle.pgb_command.specs.Tables.{OnBackup, plan_of, spool_of};
+ghost use Rattle.pgb_command.specs.Tables.{plan_of, spool_of};
 
 use crate::asking::{plan_of, spool_of};
 use crate::fault::Fault;
@@ -54,7 +54,7 @@ impl<
         requires { plan.now ≡ plan_of (request_of settings.now.request) }
         ensures read { Between ⟦<Self as Told>⟧.told AreRead self.old self.new }
         ensures places { Between ⟦<Self as Told>⟧.told (OpensPlaces (asked_of settings.now)) self.old self.new }
-        ensures opened { AtOk ⟦<Self as Told>⟧.told (ArePlacesOpened (asked_of settings.now)) self.old self.new result }
+        ensures opened { AtOk ⟦<Self as Told>⟧.told ArePlacesOpened settings.now self.old self.new result }
         ensures cause { IfErr result (HaltCause Never (OnTold ⟦<Self as Told>⟧.told Failed self.old self.new)) }
         ensures rest { self.new ≡ record self.old {
           repo = self.new.repo;
@@ -84,15 +84,15 @@ impl<
         requires free { (K.state self.old.locks).taken ≡ [] }
         requires plan { plan.now ≡ plan_of (request_of settings.now.request) }
         requires course { IsCourse (request_of settings.now.request) settings.now.pg1_path.now course }
-        ensures did { OnTold ⟦<Self as Told>⟧.told (Did (asked_of settings.now)) self.old self.new result }
-        ensures left { AtOk ⟦<Self as Told>⟧.told (Acknowledges (asked_of settings.now)) self.old self.new result }
-        ensures brackets { OnTold ⟦<Self as Told>⟧.told (Brackets (asked_of settings.now)) self.old self.new result }
+        ensures did { OnAsked ⟦<Self as Told>⟧.told Did settings.now self.old self.new result }
+        ensures left { AtOk ⟦<Self as Told>⟧.told Acknowledges settings.now self.old self.new result }
+        ensures brackets { OnAsked ⟦<Self as Told>⟧.told Brackets settings.now self.old self.new result }
         ensures released { (K.state self.new.locks).taken ≡ [] }
         ensures tree { plan.now.folder ≡ false → self.new.tree ≡ self.old.tree }
         ensures quiet { settings.now.server ≡ None → self.new.server ≡ self.old.server }
         ensures alone { UsesNoWorkers (request_of settings.now.request) → KeepsWorkers self.old self.new }
         ensures waits { UsesNoSpool (request_of settings.now.request) → KeepsSpool self.old self.new }
-        ensures idle { plan.now.backup_lock ≡ false → plan.now.archive_lock ≡ false → self.new.locks ≡ self.old.locks }
+        ensures idle { WhereNoLock plan.now (self.new.locks ≡ self.old.locks) }
         ensures rest { KeepsInAndOut self.old self.new }
     {
         self.open(settings, plan)?;
@@ -106,10 +106,10 @@ impl<
     pub(crate) fn obey(&mut self, alloc: Global, settings: &Settings<'_>) -> Result<Outcome, Fault>
         requires workers { AreWorkers (map L.link_state self.old.links.items) }
         requires free { (K.state self.old.locks).taken ≡ [] }
-        ensures did { OnTold ⟦<Self as Told>⟧.told (Did (asked_of settings.now)) self.old self.new result }
-        ensures left { AtOk ⟦<Self as Told>⟧.told (Acknowledges (asked_of settings.now)) self.old self.new result }
-        ensures brackets { OnTold ⟦<Self as Told>⟧.told (Brackets (asked_of settings.now)) self.old self.new result }
-        ensures words { OnTold ⟦<Self as Told>⟧.told (ComesBehind (asked_of settings.now)) self.old self.new result }
+        ensures did { OnAsked ⟦<Self as Told>⟧.told Did settings.now self.old self.new result }
+        ensures left { AtOk ⟦<Self as Told>⟧.told Acknowledges settings.now self.old self.new result }
+        ensures brackets { OnAsked ⟦<Self as Told>⟧.told Brackets settings.now self.old self.new result }
+        ensures words { OnAsked ⟦<Self as Told>⟧.told ComesBehind settings.now self.old self.new result }
         ensures released { (K.state self.new.locks).taken ≡ [] }
         ensures quiet { settings.now.server ≡ None → self.new.server ≡ self.old.server }
         ensures alone { UsesNoWorkers (request_of settings.now.request) → KeepsWorkers self.old self.new }
@@ -135,7 +135,7 @@ impl<
         requires plan { plan.now ≡ plan_of (request_of settings.now.request) }
         requires locked { AreHeld plan.now settings.now.stanza.now (K.state self.old.locks).taken }
         requires order { IsOrderFor settings.now order }
-        ensures did { OnTold ⟦<Self as Told>⟧.told (Did (asked_of settings.now)) self.old self.new result }
+        ensures did { OnAsked ⟦<Self as Told>⟧.told Did settings.now self.old self.new result }
         ensures places { Between ⟦<Self as Told>⟧.told SamePlaces self.old self.new }
         ensures tree { plan.now.folder ≡ false → self.new.tree ≡ self.old.tree }
         ensures quiet { settings.now.server ≡ None → self.new.server ≡ self.old.server }
@@ -168,17 +168,16 @@ impl<
         requires plan { plan.now ≡ plan_of (request_of settings.now.request) }
         requires names { AreNames names.now plan.now settings.now.stanza.now }
         requires order { IsOrderFor settings.now order }
-        ensures did { OnTold ⟦<Self as Told>⟧.told (Did (asked_of settings.now)) self.old self.new result }
+        ensures did { OnAsked ⟦<Self as Told>⟧.told Did settings.now self.old self.new result }
         ensures places { Between ⟦<Self as Told>⟧.told SamePlaces self.old self.new }
-        ensures held { HoldsOnly (first_lock plan.now settings.now.stanza.now)
-            (second_lock plan.now settings.now.stanza.now) (K.state self.new.locks).taken }
-        ensures took { AtOk ⟦<Self as Told>⟧.told (TakesAll (asked_of settings.now)) self.old self.new result }
+        ensures held { HoldsAtMost plan.now settings.now.stanza.now (K.state self.new.locks).taken }
+        ensures took { AtOk ⟦<Self as Told>⟧.told TakesAll settings.now self.old self.new result }
         ensures only { Between ⟦<Self as Told>⟧.told (OnlyLocked (asked_of settings.now)) self.old self.new }
         ensures tree { plan.now.folder ≡ false → self.new.tree ≡ self.old.tree }
         ensures quiet { settings.now.server ≡ None → self.new.server ≡ self.old.server }
         ensures alone { UsesNoWorkers (request_of settings.now.request) → KeepsWorkers self.old self.new }
         ensures waits { UsesNoSpool (request_of settings.now.request) → KeepsSpool self.old self.new }
-        ensures idle { plan.now.backup_lock ≡ false → plan.now.archive_lock ≡ false → self.new.locks ≡ self.old.locks }
+        ensures idle { WhereNoLock plan.now (self.new.locks ≡ self.old.locks) }
         ensures rest { KeepsInAndOut self.old self.new }
     {
         take_locks(
@@ -204,16 +203,16 @@ impl<
         requires free { (K.state self.old.locks).taken ≡ [] }
         requires plan { plan.now ≡ plan_of (request_of settings.now.request) }
         requires order { IsOrderFor settings.now order }
-        ensures did { OnTold ⟦<Self as Told>⟧.told (Did (asked_of settings.now)) self.old self.new result }
+        ensures did { OnAsked ⟦<Self as Told>⟧.told Did settings.now self.old self.new result }
         ensures places { Between ⟦<Self as Told>⟧.told SamePlaces self.old self.new }
         ensures released { (K.state self.new.locks).taken ≡ [] }
-        ensures took { AtOk ⟦<Self as Told>⟧.told (TakesAll (asked_of settings.now)) self.old self.new result }
+        ensures took { AtOk ⟦<Self as Told>⟧.told TakesAll settings.now self.old self.new result }
         ensures only { Between ⟦<Self as Told>⟧.told (OnlyLocked (asked_of settings.now)) self.old self.new }
         ensures tree { plan.now.folder ≡ false → self.new.tree ≡ self.old.tree }
         ensures quiet { settings.now.server ≡ None → self.new.server ≡ self.old.server }
         ensures alone { UsesNoWorkers (request_of settings.now.request) → KeepsWorkers self.old self.new }
         ensures waits { UsesNoSpool (request_of settings.now.request) → KeepsSpool self.old self.new }
-        ensures idle { plan.now.backup_lock ≡ false → plan.now.archive_lock ≡ false → self.new.locks ≡ self.old.locks }
+        ensures idle { WhereNoLock plan.now (self.new.locks ≡ self.old.locks) }
         ensures rest { KeepsInAndOut self.old self.new }
     {
         let names = lock_names(alloc, plan, settings.stanza)?;
@@ -234,7 +233,7 @@ impl<
         requires locked { HoldsLocks settings.now (K.state self.old.locks).taken }
         requires order { IsOrderFor settings.now order }
         requires ready { IsReadyFor settings.now (⟦<Self as Told>⟧.told self.old) ready }
-        ensures ran { OnTold ⟦<Self as Told>⟧.told (Ran (asked_of settings.now)) self.old self.new result }
+        ensures ran { OnAsked ⟦<Self as Told>⟧.told Ran settings.now self.old self.new result }
         ensures tree { OpensNoFolder (request_of settings.now.request) → self.new.tree ≡ self.old.tree }
         ensures quiet { settings.now.server ≡ None → self.new.server ≡ self.old.server }
         ensures alone { UsesNoWorkers (request_of settings.now.request) → KeepsWorkers self.old self.new }
@@ -265,8 +264,7 @@ impl<
         requires order { IsOrderFor settings.now order }
         requires ready { IsReadyFor settings.now (⟦<Self as Told>⟧.told self.old) ready }
         ensures ran { OnTold ⟦<Self as Told>⟧.told (Ran (alone (asked_of settings.now))) self.old self.new result }
-        ensures least { OnBackup (request_of settings.now.request)
-            ((C.state self.old.clock).least ≤ (C.state self.new.clock).least) }
+        ensures least { LeastGrows (request_of settings.now.request) (C.state self.old.clock) (C.state self.new.clock) }
         ensures tree { OpensNoFolder (request_of settings.now.request) → self.new.tree ≡ self.old.tree }
         ensures quiet { settings.now.server ≡ None → self.new.server ≡ self.old.server }
         ensures alone { UsesNoWorkers (request_of settings.now.request) → KeepsWorkers self.old self.new }
