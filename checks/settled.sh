@@ -1,5 +1,5 @@
 #!/usr/bin/env bash
-# How often the commands of the archive sync: what the note tells to be durable isn't synced again. strace counts, and makes each sync
+# How often commands sync: what the note tells to be durable isn't synced again. strace counts, and makes each sync
 # take a while, so that the file system's clock goes on meanwhile also where a sync is quick.
 . "$(dirname "$0")/common"
 counted=(strace -f -qq -o calls -e trace=fsync,fdatasync,sync,syncfs -e inject=fsync:delay_exit=20000)
@@ -108,4 +108,12 @@ for call in '\["sync", "-f", ' 'syncfs([0-9]*) *= 0'; do
     [ "$(grep -c "$call" calls)" = 1 ] || complain "of many folders there isn't one call of $call"
 done
 [ "$(grep -c ' fsync(' calls)" = 2 ] || complain "of many folders some are synced singly: $(grep -c ' fsync(' calls)"
+
+# A backup syncs its many folders at once, and notes them. So the next one finds few that it has to sync, and syncs these singly.
+rm -r repo/archive/demo/15-1/00000002000000*
+for kind in full incr; do
+    strace -f -qq -o calls -e trace=fsync,syncfs "$top/bin/pgbackrest" "${places[@]}" --lock-path="$room/lock" --no-online --no-expire-auto \
+        --type="$kind" backup >output 2>&1 || complain "a backup of the kind $kind ended with $?"
+done
+[ "$(grep -c 'syncfs(' calls)" = 0 ] || complain 'a backup behind another one syncs the whole file system'
 exit "$wrong"

@@ -2,8 +2,8 @@
 //!
 //! What is proved, by the contract of the function that is named:
 //!
-//! - `RealDisk`, `RealTree`, `RealFiles`, `RealSource`, `RealInput`, `RealSink`, `RealLocks`, `RealClock` and
-//!   `RealWire` meet their traits: that Failed comes only where the count of faults rose, which path a name means, and
+//! - `RealDisk`, `RealTree`, `RealFiles`, `RealSource`, `RealInput`, `RealSink`, `RealReplies`, `RealLocks`, `RealClock`
+//!   and `RealWire` meet their traits: that Failed comes only where the count of faults rose, which path a name means, and
 //!   the like.
 //! - Nothing is proved about content, nor about the note of settled folders.
 #![tactic(auto)]
@@ -17,6 +17,7 @@ mod locks;
 mod noted;
 mod place;
 mod progress;
+mod replies;
 mod settle;
 mod sink;
 mod source;
@@ -29,6 +30,7 @@ pub use disk::RealDisk;
 pub use files::RealFiles;
 pub use input::RealInput;
 pub use locks::RealLocks;
+pub use replies::RealReplies;
 pub use sink::RealSink;
 pub use source::RealSource;
 pub use tree::RealTree;

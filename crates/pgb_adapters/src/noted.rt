@@ -14,7 +14,8 @@ const NOTE: &str = "settled.note";
 // The first line, which is there as soon as anything is.
 const HEAD: &str = "settled folders\n";
 
-const MOST_LINES: usize = 64;
+/// As many folders as it lists.
+pub const MOST_LINES: usize = 256;
 
 const MOST_BYTES: u64 = 65_536;
 
@@ -67,6 +68,8 @@ pub struct Noted {
     young: Option<State>,
     // the folder in which this process changed a name last
     changed: Option<String>,
+    // its state in which its names are durable, since they were made so behind that change
+    durable: Option<State>,
     // the node that was changed last of those that were seen
     latest: Option<State>,
 }
@@ -77,6 +80,7 @@ impl Noted {
             synced: Vec::new(rt.alloc()),
             young: None,
             changed: None,
+            durable: None,
             latest: None,
         }
     }
@@ -84,6 +88,7 @@ impl Noted {
     /// This process changes a name. No other changes one in its folder meanwhile: that is what the locks are for.
     pub fn change(&mut self, place: &Place, name: &str) -> io::Result<()> {
         self.young = None;
+        self.durable = None;
         let path = place.path_of(name)?;
         self.changed = Some(String::from_str(place.rt.alloc(), folder_of(&path))?);
         Ok(())
@@ -111,42 +116,48 @@ impl Noted {
         }
     }
 
-    /// Makes the names in a folder durable that was seen in this state, but where the states that were told have it.
-    pub fn sync(
-        &mut self,
-        place: &Place,
-        told: &[State],
-        path: &str,
-        state: State,
-    ) -> io::Result<()> {
-        if told.iter().any(|durable| *durable == state) {
-            return Ok(());
-        }
-        let is_past = self
-            .latest
-            .as_ref()
-            .is_some_and(|latest| state.is_before(latest));
-        let Some(folder) = sync_folder(&place.rt, path)? else {
-            return Ok(());
-        };
-        if state.is_fine() && is_in_state(&folder, state) {
-            self.add(path, state, is_past);
+    /// Whether the names in a folder that was seen in this state are durable: these states were told, or this process made them so.
+    pub fn is_durable(&self, told: &[State], path: &str, state: State) -> bool {
+        let is_own = self.durable == Some(state) && self.has_changed(path);
+        is_own || told.iter().any(|durable| *durable == state)
+    }
+
+    /// Makes the names in a folder durable that was seen in this state.
+    pub fn sync(&mut self, place: &Place, path: &str, state: State) -> io::Result<()> {
+        if let Some(folder) = sync_folder(&place.rt, path)? {
+            if is_in_state(&folder, state) {
+                self.add(path, state);
+            }
         }
         Ok(())
     }
 
-    // A state is kept where the clock was past it as the sync began, or where no other process changes names in the folder.
-    // Without memory it isn't.
-    fn add(&mut self, path: &str, state: State, is_past: bool) {
+    /// The names in a folder are durable that was in this state before they were made so, and is after it. That is noted where the
+    /// clock was past the state before it, or where no other process changes names in the folder. Without memory it isn't.
+    pub fn add(&mut self, path: &str, state: State) {
+        let is_past = self
+            .latest
+            .as_ref()
+            .is_some_and(|latest| state.is_before(latest));
+        let is_changed = self.has_changed(path);
+        if !state.is_fine() || self.synced.len() >= MOST_LINES {
+            return;
+        }
         if is_past {
             let _ = self.synced.insert(0, state);
-        } else if self
-            .changed
-            .as_ref()
-            .is_some_and(|changed| changed.as_str() == path)
-        {
+        } else if is_changed {
             self.young = Some(state);
         }
+        if is_changed {
+            self.durable = Some(state);
+        }
+    }
+
+    // Whether it is the folder in which this process changed a name last.
+    fn has_changed(&self, path: &str) -> bool {
+        self.changed
+            .as_ref()
+            .is_some_and(|changed| changed.as_str() == path)
     }
 
     /// Writes the note anew, where this process changes names and has something to add. It isn't needed, so a failure isn't told.

@@ -1,6 +1,6 @@
 // Makes the names in a folder durable, and the bytes of the files below one.
-use crate::noted::{Noted, State};
-use crate::place::{Place, folder_of, no_memory, sync_folder, unless_absent};
+use crate::noted::{MOST_LINES, Noted, State};
+use crate::place::{Place, folder_of, no_memory, unless_absent};
 use pgb_outside::Found;
 use std::fs::Metadata;
 use std::os::unix::fs::MetadataExt;
@@ -64,23 +64,28 @@ impl Settled {
     }
 }
 
-/// The names below a folder lie in it, in the folders below it, and, where folders were made, in those that hold it.
+/// The names below a folder lie in it, in the folders below it, and, where folders were made, in those that hold it. What the note
+/// tells isn't synced again.
 pub fn settle(place: &Place, settled: &mut Settled, folder: &str) -> io::Result<()> {
     let mut folders = folders_above(place, settled, folder)?;
     let first = folders.len();
     add_folder(place, place.path_of(folder)?, &mut folders)?;
-    let mut next = add_folders_below(place, first, FEW, &mut folders)?;
+    let mut next = add_folders_below(place, first, MOST_LINES, &mut folders)?;
     if next < folders.len() && may_hold_file_systems(place) {
         next = add_folders_below(place, next, usize::MAX, &mut folders)?;
     }
-    let are_many = folders.len() > FEW || next < folders.len();
-    let is_synced = are_many
-        && lie_on_one_device(&folders)
-        && sync_file_system(place).unwrap_or(false);
-    if !is_synced {
+    let noted = &mut settled.noted;
+    let told = noted.told(place);
+    let are_many = next < folders.len() || untold(noted, &told, &folders) > FEW;
+    see_each(noted, &folders);
+    if are_many && lie_on_one_device(&folders) && sync_file_system(place).unwrap_or(false) {
+        note_each(place, noted, &folders);
+    } else {
         add_folders_below(place, next, usize::MAX, &mut folders)?;
-        sync_each(place, &folders)?;
+        see_each(noted, &folders);
+        sync_each(place, noted, &told, &folders)?;
     }
+    noted.write(place);
     settled.add(folders)
 }
 
@@ -88,8 +93,11 @@ pub fn settle(place: &Place, settled: &mut Settled, folder: &str) -> io::Result<
 pub fn settle_in(place: &Place, settled: &mut Settled, folder: &str) -> io::Result<()> {
     let mut folders = folders_above(place, settled, folder)?;
     add_folder(place, place.path_of(folder)?, &mut folders)?;
-    sync_unless_told(place, &mut settled.noted, &folders)?;
-    settled.noted.write(place);
+    let noted = &mut settled.noted;
+    let told = noted.told(place);
+    see_each(noted, &folders);
+    sync_each(place, noted, &told, &folders)?;
+    noted.write(place);
     settled.add(folders)
 }
 
@@ -115,20 +123,38 @@ fn is_on_file_system(place: &Place, folder: &str) -> io::Result<bool> {
     Ok(told.dev() == root.dev())
 }
 
-fn sync_each(place: &Place, folders: &[Folder]) -> io::Result<()> {
+// How many of the folders are to be synced.
+fn untold(noted: &Noted, told: &[State], folders: &[Folder]) -> usize {
+    folders
+        .iter()
+        .filter(|folder| !noted.is_durable(told, &folder.path, folder.state))
+        .count()
+}
+
+// Syncs each folder that isn't durable as it is.
+fn sync_each(
+    place: &Place,
+    noted: &mut Noted,
+    told: &[State],
+    folders: &[Folder],
+) -> io::Result<()> {
     for folder in folders {
-        sync_folder(&place.rt, &folder.path)?;
+        if !noted.is_durable(told, &folder.path, folder.state) {
+            noted.sync(place, &folder.path, folder.state)?;
+        }
     }
     Ok(())
 }
 
-fn sync_unless_told(place: &Place, noted: &mut Noted, folders: &[Folder]) -> io::Result<()> {
-    let told = noted.told(place);
-    see_each(noted, folders);
+// All of them were synced at once: those are noted that are as they were before.
+fn note_each(place: &Place, noted: &mut Noted, folders: &[Folder]) {
     for folder in folders {
-        noted.sync(place, &told, &folder.path, folder.state)?;
+        if let Ok(Some(told)) = folder_at(place, &folder.path) {
+            if State::of(&told) == folder.state {
+                noted.add(&folder.path, folder.state);
+            }
+        }
     }
-    Ok(())
 }
 
 fn see_each(noted: &mut Noted, folders: &[Folder]) {

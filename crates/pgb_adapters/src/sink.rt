@@ -40,8 +40,8 @@ impl Sink for RealSink {
     }
 }
 
-// Writes again where a signal came. An output that takes nothing of a piece that has bytes fails.
-fn write_some(rt: &HostRuntime, bytes: &[u8]) -> io::Result<usize>
+/// Writes again where a signal came. An output that takes nothing of a piece that has bytes fails.
+pub(crate) fn write_some(rt: &HostRuntime, bytes: &[u8]) -> io::Result<usize>
     ensures room { IfOk result (λ n. n ≤ length bytes.now) }
     ensures some { IfOk result (λ n. 0 < length bytes.now → 0 < n) }
 {

@@ -53,7 +53,12 @@ impl RealWire {
 }
 
 impl Wire for RealWire {
-    ghost state = { λ w. record { pending = None; sent = None; place = string_bytes w.place; faults = w.faults.count } };
+    ghost state = { λ w. record {
+      pending = None;
+      sent = None;
+      place = string_bytes w.place;
+      faults = w.faults.count;
+    } };
 
     fn open(&mut self, path: &str) -> Result<(), Stop> {
         let done = self.open_place(path);

@@ -38,7 +38,8 @@ pub fn save_pair<D: Disk, I: Info>(
     ensures whole { OnOk result
         (EndsBoth name.now (info_text (I.sections value.now)) (D.state d.old).view (D.state d.new).view) }
     ensures now_part { SavesNow name.now (info_text (I.sections value.now)) (D.state d.old).view (D.state d.new).view }
-    ensures now_whole { OnOk result (EndsNow name.now (info_text (I.sections value.now)) (D.state d.old).view (D.state d.new).view) }
+    ensures now_whole { OnOk result (EndsNow name.now (info_text (I.sections value.now)) (D.state d.old).view
+        (D.state d.new).view) }
     ensures only { ChangesOnly (IsOfPair name.now) (D.state d.old).view (D.state d.new).view }
     ensures frame { Frame (D.state d.old) (D.state d.new) }
     ensures cause { IsErrOf result SaveFault.Disk → Rises (D.state d.old).faults (D.state d.new).faults }

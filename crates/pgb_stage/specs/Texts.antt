@@ -3,12 +3,11 @@ use Rattle.std.specs.Prelude.{◌||◌, ◌==◌, ℕ, nat_lt, [], ◌++◌, map
 use Rattle.pgb_model.specs.Text.{Text}
 use Rattle.pgb_info.specs.declared.fault.MemberFault.{MemberFault}
 use Rattle.pgb_info.specs.declared.fault.MemberFault.TheVariants.{Absent, TooLong as LongMember, Syntax, Sum, Form}
-use Rattle.pgb_table.specs.Table.{verb_word}
 use Rattle.pgb_stanza.specs.declared.fault.Identity.{Identity}
 use Rattle.pgb_stage.specs.declared.object.Object.{Object}
 use Rattle.pgb_stage.specs.declared.object.Object.TheVariants.{Repo, Spool, DataFolder, Server, Others, Clock, Locks, Config, Output}
 use Rattle.pgb_stage.specs.declared.fault.Unbuilt.{Unbuilt}
-use Rattle.pgb_stage.specs.declared.fault.Unbuilt.TheVariants.{Command, Background, Bundles}
+use Rattle.pgb_stage.specs.declared.fault.Unbuilt.TheVariants.{Bundles}
 use Rattle.pgb_stage.specs.declared.fault.ControlFile.{ControlFile}
 use Rattle.pgb_stage.specs.declared.fault.ControlFile.TheVariants.{Control, Version}
 use Rattle.pgb_stage.specs.declared.fault.StageFault.{StageFault}
@@ -72,8 +71,6 @@ stage_status (StanzaMissing stanza) = 21
 stage_status (InfoDamaged name main copy) = 22
 
 abbrev pub part_name : Unbuilt → Text
-part_name (Command verb) = verb_word verb
-part_name Background = codes "archive-async"
 part_name Bundles = codes "repo1-bundle"
 
 abbrev pub file_text : ControlFile → Text

@@ -72,7 +72,8 @@ pub fn take_online<
 
     // In the log it is a backup of what the used links read, and, unless it is a full one, of what its prior has, behind
     // the turns that it waited.
-    ensures does { DoesOnline stanza.now order.entry.later.kind (take order.entry.later.take.workers (map L.link_state links.old.items))
+    ensures does { DoesOnline stanza.now order.entry.later.kind
+        (take order.entry.later.take.workers (map L.link_state links.old.items))
         (record {
           system = told.now.system;
           pending = (V.state server.old).pending;

@@ -271,7 +271,7 @@ fn a_backup_stays_whose_expiry_fails(rt: HostRuntime) {
 // these calls fail: how a restore ends.
 type Restore<'a> = (&'a str, Option<&'a str>, Option<&'a [u8]>, &'a [u64], u8);
 
-const RESTORES: [Restore; 12] = [
+const RESTORES: &[Restore] = &[
     ("", None, Some(b"16\n"), &[], 0),
     ("--set=20240102-030406F ", None, Some(b"16\n"), &[], 0),
     ("--process-max=3 ", None, Some(b"16\n"), &[], 0),
@@ -290,7 +290,7 @@ const RESTORES: [Restore; 12] = [
 #[test]
 fn restores_end_as_they_must(rt: HostRuntime) {
     let alloc = rt.alloc();
-    for (option, held, version, fail, status) in RESTORES {
+    for &(option, held, version, fail, status) in RESTORES {
         let mut words = well(&rt, String::from_str(alloc, option));
         well(&rt, words.push_str(RESTORE));
         let mut acts = well(&rt, calls(alloc, &[CREATE, BACKUP], 9, 0));

@@ -9,7 +9,8 @@ mod telling;
 
 use help::asked_for;
 use pgb_adapters::{
-    RealClock, RealDisk, RealFiles, RealInput, RealLocks, RealSink, RealSource, RealTree, RealWire,
+    RealClock, RealDisk, RealFiles, RealInput, RealLocks, RealReplies, RealSink, RealSource,
+    RealTree, RealWire,
 };
 use pgb_command::Outside;
 use pgb_others::Others;
@@ -55,7 +56,7 @@ fn is_worker(words: &[String]) -> bool {
 // Serves the parent that started it, over standard input and output.
 fn work(rt: HostRuntime) -> u8 {
     let mut input = RealInput::new(rt);
-    let mut out = RealSink::new(rt);
+    let mut out = RealReplies::new(rt);
     let mut tree = RealFiles::new(rt);
     let mut repo = RealFiles::new(rt);
     match serve(rt.alloc(), &mut input, &mut out, &mut tree, &mut repo) {
