@@ -18,8 +18,8 @@ use std::alloc::Global;
 // Takes the file away where it isn't kept, and tells whether it did, as 1 or 0.
 fn remove_one<D: Disk>(d: &mut D, name: &str, front: &str, kept: &Kept) -> Result<u64, ExpireFault>
     ensures takes { TakesAway (Forgets front.now kept.now) (D.state d.old) (D.state d.new) }
-    ensures gone { OnOk result ((stanza : Text) → front.now ≡ front_of stanza → IsForgotten stanza kept.now name.now
-        → IsAbsent (D.state d.new).view.now name.now) }
+    ensures gone { OnOk result ((stanza : Text) → front.now ≡ front_of stanza
+        → IsForgotten stanza kept.now name.now → IsAbsent (D.state d.new).view.now name.now) }
     ensures counts { IfOk result (λ k. IsThere (D.state d.old).view.now name.now
         → Counted (Forgets front.now kept.now) k (D.state d.old).view.now (D.state d.new).view.now) }
     ensures others { SameBut name.now (D.state d.old).view.now (D.state d.new).view.now }
@@ -40,8 +40,9 @@ fn remove_each<D: Disk>(
     kept: &Kept,
 ) -> Result<u64, ExpireFault>
     ensures takes { TakesAway (Forgets front.now kept.now) (D.state d.old) (D.state d.new) }
-    ensures gone { OnOk result ((stanza : Text) → front.now ≡ front_of stanza → (n : Name) → In n (names_of found.now)
-        → IsForgotten stanza kept.now n → IsAbsent (D.state d.new).view.now n) }
+    ensures gone { OnOk result ((stanza : Text) → front.now ≡ front_of stanza
+        → (n : Name) → In n (names_of found.now) → IsForgotten stanza kept.now n
+        → IsAbsent (D.state d.new).view.now n) }
     ensures counts { IfOk result (λ k. (place : Name) (f : Content) → (D.state d.old).view.now ≡ Some f
         → IsListing place f (map pair_of found.now)
         → Counted (Forgets front.now kept.now) k (D.state d.old).view.now (D.state d.new).view.now) }
@@ -84,8 +85,8 @@ pub(crate) fn remove_within<D: Disk>(
 ) -> Result<u64, ExpireFault>
     ensures takes { TakesAway (Forgets front.now kept.now) (D.state d.old) (D.state d.new) }
     ensures gone { OnOk result ((stanza : Text) → front.now ≡ front_of stanza → (n x : Name)
-        → In x (map string_bytes folders.now) → IsTrue (is_below (place.now ⫽ x) n) → IsForgotten stanza kept.now n
-        → IsAbsent (D.state d.new).view.now n) }
+        → In x (map string_bytes folders.now) → IsTrue (is_below (place.now ⫽ x) n)
+        → IsForgotten stanza kept.now n → IsAbsent (D.state d.new).view.now n) }
     ensures counts { IfOk result (λ k. IsSome (D.state d.old).view.now
         → Counted (Forgets front.now kept.now) k (D.state d.old).view.now (D.state d.new).view.now) }
     ensures cause { IfErr result (IsStop (Rises (D.state d.old).faults (D.state d.new).faults)) }

@@ -23,7 +23,8 @@ use std::alloc::Global;
 
 // Whether the member has these bytes.
 fn holds<D: Disk>(alloc: Global, d: &mut D, name: &str, text: &[u8]) -> Result<bool, SaveFault>
-    ensures held { IfOk result (λ b. b ≡ true → IfSome (D.state d.old).view.now (λ f. f name.now ≡ Some text.now)) }
+    ensures held { IfOk result
+        (λ b. b ≡ true → IfSome (D.state d.old).view.now (λ f. f name.now ≡ Some text.now)) }
     ensures looks { Looks (D.state d.old) (D.state d.new) }
     ensures cause { IsErrOf result SaveFault.Disk → Rises (D.state d.old).faults (D.state d.new).faults }
 {
@@ -46,12 +47,14 @@ fn mend<D: Disk>(
     requires lasting { ¬ IsTemporary name.now }
     ensures crash { is_loose (D.state d.old).view name.now ≡ false
         → Crash (SomeOf ((name.now, text.now) ∷ [])) (D.state d.old).view (D.state d.new).view }
-    ensures now_part { NowGoes (SomeOf ((name.now, text.now) ∷ [])) (D.state d.old).view.now (D.state d.new).view.now }
+    ensures now_part { NowGoes (SomeOf ((name.now, text.now) ∷ []))
+        (D.state d.old).view.now (D.state d.new).view.now }
     ensures mended { OnOk result (IfSome (D.state d.new).view.now (λ f. f name.now ≡ Some text.now)) }
     // No stop takes it away.
     ensures lasts { OnOk result (KeepsMember name.now (D.state d.old).view (D.state d.new).view) }
     ensures untold { (D.state d.old).view.now ≡ None → (D.state d.new).view.now ≡ None }
-    ensures only { ChangesOnly (λ n. (n ≡ temporary.now) ⊎ (n ≡ name.now)) (D.state d.old).view (D.state d.new).view }
+    ensures only { ChangesOnly (λ n. (n ≡ temporary.now) ⊎ (n ≡ name.now))
+        (D.state d.old).view (D.state d.new).view }
     ensures frame { Frame (D.state d.old) (D.state d.new) }
     ensures cause { IsErrOf result SaveFault.Disk → Rises (D.state d.old).faults (D.state d.new).faults }
 {

@@ -117,7 +117,8 @@ impl Core {
     /// The busy links. Where there are none, no job is with a link.
     pub fn busy(&self, alloc: Global) -> Result<Vec<u32>, AllocError>
         ensures all { IfOk result (λ v. (k l : ℕ) → slice_get v.items k ≡ Some l → IsBusy self.now l) }
-        ensures each { IfOk result (λ v. (l : ℕ) → IsBusy self.now l → (k : ℕ) × (slice_get v.items k ≡ Some l)) }
+        ensures each { IfOk result
+            (λ v. (l : ℕ) → IsBusy self.now l → (k : ℕ) × (slice_get v.items k ≡ Some l)) }
         ensures with { IfOk result (λ v. v.items ≡ [] → NoneIsWith self.now) }
     {
         busy_links(alloc, &self.holders)
@@ -168,7 +169,8 @@ fn idle(holders: &Vec<LinkPlace>, link: u32) -> bool
 fn job_of(holders: &Vec<LinkPlace>, link: u32) -> Option<u32>
     requires { link < length holders.now.items }
     ensures some { IfSome result (λ job. slice_get holders.now.items link ≡ Some (LinkPlace.Busy job)) }
-    ensures none { IfNone result ((job : ℕ) → slice_get holders.now.items link ≡ Some (LinkPlace.Busy job) → ⊥) }
+    ensures none { IfNone result
+        ((job : ℕ) → slice_get holders.now.items link ≡ Some (LinkPlace.Busy job) → ⊥) }
 {
     match holders[link as usize] {
         LinkPlace::Busy(job) => Some(job),
