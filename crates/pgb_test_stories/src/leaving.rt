@@ -15,6 +15,8 @@ const DRAIN: &str =
 const LEAVE: &str =
     "--stanza=demo --pg1-path=pg --repo1-path=repo --lock-path=lock --spool-path=spool --archive-async --archive-timeout=1 archive-push pg_wal/00000002.history";
 
+const SECOND: u64 = 1704164645;
+
 const STORED: &str = "archive/demo/16-1/00000002.history";
 
 // The data folder, with a file that is ready.
@@ -25,29 +27,18 @@ fn tree(alloc: Global) -> Result<MemTree, AllocError> {
     MemTree::new(alloc, nodes, Vec::new(alloc)).or(Err(AllocError))
 }
 
-// A call on it, with its stop.
-fn call(alloc: Global, words: &str, stop: Option<u64>) -> Result<Act, PlayFault> {
-    let halt = match stop {
-        Some(moment) => Some(stop_at(alloc, moment)),
-        None => None,
-    };
-    let mut done = act(alloc, words, 1704164645, halt)?;
-    done.tree = tree(alloc).or(Err(PlayFault::NoMemory))?;
-    Ok(done)
-}
-
 // A drain that is stopped at this moment, a push that finds no receipt, a drain, and two pushes.
 fn acts_of(alloc: Global, moment: u64) -> Result<Vec<Act>, PlayFault> {
+    let words = [CREATE, DRAIN, LEAVE, DRAIN, LEAVE, LEAVE];
     let mut acts = Vec::new(alloc);
-    let all = [
-        call(alloc, CREATE, None)?,
-        call(alloc, DRAIN, Some(moment))?,
-        call(alloc, LEAVE, None)?,
-        call(alloc, DRAIN, None)?,
-        call(alloc, LEAVE, None)?,
-        call(alloc, LEAVE, None)?,
-    ];
-    for done in all {
+    for at in 0..words.len() {
+        let halt = if at == 1 {
+            Some(stop_at(alloc, moment))
+        } else {
+            None
+        };
+        let mut done = act(alloc, words[at], SECOND, halt)?;
+        done.tree = tree(alloc).or(Err(PlayFault::NoMemory))?;
         acts.push(done).or(Err(PlayFault::NoMemory))?;
     }
     Ok(acts)
@@ -69,7 +60,7 @@ fn check(rt: &impl Abort, alloc: Global, moment: u64) {
 #[test]
 fn a_file_is_left_to_a_drain_that_stops(rt: HostRuntime) {
     let alloc = rt.alloc();
-    let made = well(&rt, call(alloc, CREATE, None));
+    let made = well(&rt, act(alloc, CREATE, SECOND, None));
     let mut acts = Vec::new(alloc);
     well(&rt, acts.push(made));
     let first = well(&rt, played(alloc, acts)).0.repo.moment();

@@ -37,6 +37,17 @@ const STOP_ROW: &[u8] =
 
 const LABEL_COLUMNS: &[u8] = b"\0\0\0\x1dSTART WAL LOCATION: 0/200028\n\0\0\0\0";
 
+const ANSWERS: &[&[u8]] = &[
+    SESSION,
+    SYSTEM_ROW,
+    END,
+    START_ROW,
+    END,
+    STOP_ROW,
+    LABEL_COLUMNS,
+    END,
+];
+
 const LABEL_FILE: &str = "backup/demo/20240102-030408F/pg_data/backup_label";
 
 // A segment of 1 MiB, with the front that PostgreSQL gives it.
@@ -91,16 +102,7 @@ fn tree(alloc: Global) -> Result<MemTree, AllocError> {
 
 fn server(alloc: Global) -> Result<MemWire, AllocError> {
     let mut bytes = Vec::new(alloc);
-    for part in [
-        SESSION,
-        SYSTEM_ROW,
-        END,
-        START_ROW,
-        END,
-        STOP_ROW,
-        LABEL_COLUMNS,
-        END,
-    ] {
+    for part in ANSWERS {
         bytes.extend_from_slice(part)?;
     }
     Ok(MemWire::new(alloc, bytes, Vec::new(alloc), Vec::new(alloc)))
@@ -132,14 +134,12 @@ fn begun(alloc: Global) -> Result<Vec<Act>, PlayFault> {
 // A backup that is stopped at this moment, another one, and a look at all of it.
 fn backups(alloc: Global, moment: u64) -> Result<Vec<Act>, PlayFault> {
     let mut acts = Vec::new(alloc);
-    let all = [
-        backup(alloc, 1704164647, Some(moment))?,
-        backup(alloc, 1704164648, None)?,
-        act(alloc, VERIFY, 1704164650, None)?,
-    ];
-    for done in all {
-        acts.push(done).or(Err(PlayFault::NoMemory))?;
-    }
+    acts.push(backup(alloc, 1704164647, Some(moment))?)
+        .or(Err(PlayFault::NoMemory))?;
+    acts.push(backup(alloc, 1704164648, None)?)
+        .or(Err(PlayFault::NoMemory))?;
+    acts.push(act(alloc, VERIFY, 1704164650, None)?)
+        .or(Err(PlayFault::NoMemory))?;
     Ok(acts)
 }
 

@@ -72,85 +72,11 @@ fn failing(
     Ok(acts)
 }
 
-// A stop within the first call, at each of its moments, and then a push, a fetch and another stanza.
-#[test]
-fn calls_go_on_behind_a_stop(rt: HostRuntime) {
-    let alloc = rt.alloc();
-    let words = [CREATE, CREATE, PUSH, GET, CREATE_OTHER, PUSH_OTHER];
-    for moment in 0..4 {
-        let acts = well(&rt, calls(alloc, &words, 0, moment));
-        let (disks, statuses) = well(&rt, played(alloc, acts));
-        same(&rt, statuses.as_slice(), &[0, 0, 0, 0, 0, 0]);
-        same(&rt, disks.repo.bytes(STORED), Some(b"hello".as_slice()));
-        same(
-            &rt,
-            disks.repo.bytes(STORED_OTHER),
-            Some(b"hello".as_slice()),
-        );
-    }
-}
-
-// A backup is stopped at each of its moments, and the next one is made and listed.
-#[test]
-fn backups_go_on_behind_a_stop(rt: HostRuntime) {
-    let alloc = rt.alloc();
-    let made = well(&rt, calls(alloc, &[CREATE], 9, 0));
-    let first = well(&rt, played(alloc, made)).0.repo.moment();
-    for number in 0..200u64 {
-        let moment = first.saturating_add(number);
-        let acts = well(&rt, calls(alloc, &[CREATE, BACKUP, BACKUP], 1, moment));
-        let (disks, statuses) = match played(alloc, acts) {
-            Ok(end) => end,
-            Err(fault) => {
-                same(&rt, (fault, 8 < number), (PlayFault::Moment, true));
-                return;
-            }
-        };
-        same(&rt, statuses.as_slice(), &[0, 0, 0]);
-        same(
-            &rt,
-            disks
-                .repo
-                .bytes("backup/demo/20240102-030407F/pg_data/PG_VERSION"),
-            Some(b"16\n".as_slice()),
-        );
-        let manifest = disks
-            .repo
-            .bytes("backup/demo/20240102-030407F/backup.manifest");
-        same(&rt, manifest.is_some(), true);
-    }
-    panic!(&rt; "a backup has no last moment");
-}
-
-// An incremental backup is stopped at each of its moments. The next one is made beside the full one, stores nothing that this
-// has, and nothing deviates.
-#[test]
-fn later_backups_go_on_behind_a_stop(rt: HostRuntime) {
-    let alloc = rt.alloc();
-    let words = [CREATE, BACKUP, INCR, INCR, VERIFY];
-    let made = well(&rt, calls(alloc, &[CREATE, BACKUP], 9, 0));
-    let first = well(&rt, played(alloc, made)).0.repo.moment();
-    for number in 0..200u64 {
-        let moment = first.saturating_add(number);
-        let acts = well(&rt, calls(alloc, &words, 2, moment));
-        let (disks, statuses) = match played(alloc, acts) {
-            Ok(end) => end,
-            Err(fault) => {
-                same(&rt, (fault, 8 < number), (PlayFault::Moment, true));
-                return;
-            }
-        };
-        same(&rt, statuses.as_slice(), &[0, 0, 0, 0, 0]);
-        let manifest = disks.repo.bytes(
-            "backup/demo/20240102-030406F_20240102-030408I/backup.manifest",
-        );
-        same(&rt, manifest.is_some(), true);
-        let again = disks.repo.bytes(
-            "backup/demo/20240102-030406F_20240102-030408I/pg_data/PG_VERSION",
-        );
-        same(&rt, again, None);
-    }
-    panic!(&rt; "an incremental backup has no last moment");
+// What the repository is to have at a path.
+enum Held<'a> {
+    Nothing,
+    Something,
+    Bytes(&'a [u8]),
 }
 
 // All of so many calls ended with 0.
@@ -161,28 +87,32 @@ fn all_well(rt: &impl Abort, statuses: &[u8], count: usize) {
     }
 }
 
-// The repository has these bytes at their paths.
-fn check_left(rt: &impl Abort, disks: &Disks, left: &[(&str, &[u8])]) {
-    for &(path, bytes) in left {
-        same(rt, disks.repo.bytes(path), Some(bytes));
+// The repository has what it is to have at these paths.
+fn check_held(rt: &impl Abort, disks: &Disks, wanted: &[(&str, Held)]) {
+    for (path, held) in wanted {
+        let found = disks.repo.bytes(path);
+        match held {
+            Held::Nothing => same(rt, found, None),
+            Held::Something => same(rt, found.is_some(), true),
+            Held::Bytes(bytes) => same(rt, found, Some(*bytes)),
+        }
     }
 }
 
-// Behind these calls the first of the further ones is stopped at each of its moments. All others end with 0, and the
-// repository then has nothing at this path, and these bytes at theirs.
+// Behind so many of these calls the next one is stopped at each of its moments. All others end with 0, and the repository
+// then has this.
 fn check_stops(
     rt: &impl Abort,
     alloc: Global,
-    before: &[&str],
     words: &[&str],
-    gone: &str,
-    left: &[(&str, &[u8])],
+    before: usize,
+    wanted: &[(&str, Held)],
 ) {
-    let made = well(rt, calls(alloc, before, 9, 0));
+    let made = well(rt, calls(alloc, &words[..before], before, 0));
     let first = well(rt, played(alloc, made)).0.repo.moment();
     for number in 0..200u64 {
         let moment = first.saturating_add(number);
-        let acts = well(rt, calls(alloc, words, before.len(), moment));
+        let acts = well(rt, calls(alloc, words, before, moment));
         let (disks, statuses) = match played(alloc, acts) {
             Ok(end) => end,
             Err(fault) => {
@@ -191,10 +121,67 @@ fn check_stops(
             }
         };
         all_well(rt, statuses.as_slice(), words.len());
-        same(rt, disks.repo.bytes(gone), None);
-        check_left(rt, &disks, left);
+        check_held(rt, &disks, wanted);
     }
     panic!(rt; "the call has no last moment");
+}
+
+// A stanza is begun, and then comes a push, a fetch and another stanza.
+#[test]
+fn calls_go_on_behind_a_stop(rt: HostRuntime) {
+    check_stops(
+        &rt,
+        rt.alloc(),
+        &[CREATE, CREATE, PUSH, GET, CREATE_OTHER, PUSH_OTHER],
+        0,
+        &[
+            (STORED, Held::Bytes(b"hello")),
+            (STORED_OTHER, Held::Bytes(b"hello")),
+        ],
+    );
+}
+
+// The backup that follows one that is stopped is made and listed.
+#[test]
+fn backups_go_on_behind_a_stop(rt: HostRuntime) {
+    check_stops(
+        &rt,
+        rt.alloc(),
+        &[CREATE, BACKUP, BACKUP],
+        1,
+        &[
+            (
+                "backup/demo/20240102-030407F/pg_data/PG_VERSION",
+                Held::Bytes(b"16\n"),
+            ),
+            (
+                "backup/demo/20240102-030407F/backup.manifest",
+                Held::Something,
+            ),
+        ],
+    );
+}
+
+// The incremental backup that follows one that is stopped is made beside the full one, stores nothing that this has, and
+// nothing deviates.
+#[test]
+fn later_backups_go_on_behind_a_stop(rt: HostRuntime) {
+    check_stops(
+        &rt,
+        rt.alloc(),
+        &[CREATE, BACKUP, INCR, INCR, VERIFY],
+        2,
+        &[
+            (
+                "backup/demo/20240102-030406F_20240102-030408I/backup.manifest",
+                Held::Something,
+            ),
+            (
+                "backup/demo/20240102-030406F_20240102-030408I/pg_data/PG_VERSION",
+                Held::Nothing,
+            ),
+        ],
+    );
 }
 
 // An expiry of the first of two backups. The next one removes the rest, and the backup that stays has its bytes.
@@ -203,15 +190,18 @@ fn expiries_go_on_behind_a_stop(rt: HostRuntime) {
     check_stops(
         &rt,
         rt.alloc(),
-        &[CREATE, PUSH, BACKUP, BACKUP],
         &[CREATE, PUSH, BACKUP, BACKUP, EXPIRE, EXPIRE, VERIFY],
-        "backup/demo/20240102-030407F/pg_data/PG_VERSION",
+        4,
         &[
             (
-                "backup/demo/20240102-030408F/pg_data/PG_VERSION",
-                b"16\n".as_slice(),
+                "backup/demo/20240102-030407F/pg_data/PG_VERSION",
+                Held::Nothing,
             ),
-            (STORED, b"hello".as_slice()),
+            (
+                "backup/demo/20240102-030408F/pg_data/PG_VERSION",
+                Held::Bytes(b"16\n"),
+            ),
+            (STORED, Held::Bytes(b"hello")),
         ],
     );
 }
@@ -222,13 +212,18 @@ fn expiries_behind_backups_go_on(rt: HostRuntime) {
     check_stops(
         &rt,
         rt.alloc(),
-        &[CREATE, BACKUP],
         &[CREATE, BACKUP, BACKUP_ALONE, BACKUP_ALONE, VERIFY],
-        "backup/demo/20240102-030406F/pg_data/PG_VERSION",
-        &[(
-            "backup/demo/20240102-030408F/pg_data/PG_VERSION",
-            b"16\n".as_slice(),
-        )],
+        2,
+        &[
+            (
+                "backup/demo/20240102-030406F/pg_data/PG_VERSION",
+                Held::Nothing,
+            ),
+            (
+                "backup/demo/20240102-030408F/pg_data/PG_VERSION",
+                Held::Bytes(b"16\n"),
+            ),
+        ],
     );
 }
 
@@ -306,14 +301,30 @@ fn restores_end_as_they_must(rt: HostRuntime) {
     same(&rt, statuses.as_slice(), &[0, 60]);
 }
 
+// These calls end so, and the repository then has this.
+fn check_ends(
+    rt: &impl Abort,
+    alloc: Global,
+    words: &[&str],
+    ends: &[u8],
+    wanted: &[(&str, Held)],
+) {
+    let acts = well(rt, calls(alloc, words, words.len(), 0));
+    let (disks, statuses) = well(rt, played(alloc, acts));
+    same(rt, statuses.as_slice(), ends);
+    check_held(rt, &disks, wanted);
+}
+
 // Nothing deviates in what the commands made.
 #[test]
 fn what_was_made_is_sound(rt: HostRuntime) {
-    let alloc = rt.alloc();
-    let words = [CREATE, PUSH, BACKUP, VERIFY];
-    let acts = well(&rt, calls(alloc, &words, 9, 0));
-    let (_, statuses) = well(&rt, played(alloc, acts));
-    same(&rt, statuses.as_slice(), &[0, 0, 0, 0]);
+    check_ends(
+        &rt,
+        rt.alloc(),
+        &[CREATE, PUSH, BACKUP, VERIFY],
+        &[0, 0, 0, 0],
+        &[],
+    );
 }
 
 // A call is stopped at one of its own moments.
@@ -330,9 +341,11 @@ fn a_stop_lies_within_its_call(rt: HostRuntime) {
 // Words that are refused do nothing.
 #[test]
 fn refused_words_do_nothing(rt: HostRuntime) {
-    let alloc = rt.alloc();
-    let acts = well(&rt, calls(alloc, &["--stanza=a/b info", CREATE], 9, 0));
-    let (disks, statuses) = well(&rt, played(alloc, acts));
-    same(&rt, statuses.as_slice(), &[6, 0]);
-    same(&rt, disks.repo.bytes(STORED), None);
+    check_ends(
+        &rt,
+        rt.alloc(),
+        &["--stanza=a/b info", CREATE],
+        &[6, 0],
+        &[(STORED, Held::Nothing)],
+    );
 }
