@@ -11,10 +11,15 @@ use std::os::unix::fs::FileExt;
 // A command has a file open for each of its workers.
 const MOST: usize = 64;
 
+// So many bytes are written before the disk is to begin with them: half a segment.
+const EARLY: u64 = 1 << 23;
+
 #[derive(Drop)]
 struct Kept {
     name: String,
     file: File,
+    // bytes, since it was opened
+    written: u64,
 }
 
 /// No byte waits in it: what was appended went to the system.
@@ -83,17 +88,24 @@ impl Handles {
         self.writing.push(kept).map_err(no_memory)
     }
 
-    /// Adds bytes at the end of a file that is there.
+    /// Adds bytes at the end of a file that is there. The disk begins to write them behind half a segment, so that a sync
+    /// waits for the rest alone.
     pub fn append(&mut self, place: &Place, name: &str, bytes: &[u8]) -> io::Result<()> {
-        self.reach_end(place, name)?.write_all(bytes)
+        let kept = self.reach_end(place, name)?;
+        kept.file.write_all(bytes)?;
+        kept.written = kept.written.saturating_add(bytes.len() as u64);
+        if kept.written >= EARLY {
+            self.close_written(place, name)?;
+        }
+        Ok(())
     }
 
     /// Makes the bytes durable of a file that is there.
     pub fn sync(&mut self, place: &Place, name: &str) -> io::Result<()> {
-        self.reach_end(place, name)?.sync_all()
+        self.reach_end(place, name)?.file.sync_all()
     }
 
-    fn reach_end(&mut self, place: &Place, name: &str) -> io::Result<&mut File> {
+    fn reach_end(&mut self, place: &Place, name: &str) -> io::Result<&mut Kept> {
         if !self.is_written(name) {
             let file = place.open_end(name)?;
             self.write_in(place, name, file)?;
@@ -103,7 +115,7 @@ impl Handles {
             .iter_mut()
             .find(|kept| kept.name.as_str() == name)
         {
-            Some(kept) => Ok(&mut kept.file),
+            Some(kept) => Ok(kept),
             None => Err(io::Error::from(ErrorKind::NotFound)),
         }
     }
@@ -112,8 +124,8 @@ impl Handles {
         self.writing.iter().any(|kept| kept.name.as_str() == name)
     }
 
-    // Closes a file that was written, so that the disk writes its bytes while they are read. It is opened anew before that,
-    // so that a fault of the writing is told by the sync.
+    // Closes a file that was written, so that the disk writes its bytes while they are read, or more come. It is opened anew
+    // before that, so that a fault of the writing is told by the sync.
     fn close_written(&mut self, place: &Place, name: &str) -> io::Result<()> {
         if self.is_written(name) {
             let file = place.open_end(name)?;
@@ -158,7 +170,11 @@ impl Handles {
 
 fn keep(place: &Place, name: &str, file: File) -> io::Result<Kept> {
     let name = String::from_str(place.rt.alloc(), name)?;
-    Ok(Kept { name, file })
+    Ok(Kept {
+        name,
+        file,
+        written: 0,
+    })
 }
 
 fn is_of(kept: &Option<Kept>, name: &str) -> bool
