@@ -78,6 +78,22 @@ pub(crate) fn answer<O: Sink>(
     alloc: Global,
     out: &mut O,
     unknown: &[String],
+    ended: Result<Outcome, Fault>,
+) -> u8
+    ensures told { (ending : Ending) × (result ≡ status ending)
+        × IsTold (O.state out.old).written (answer_of (map string_bytes unknown.now) ended)
+        (O.state out.new).written
+        (Rises (O.state out.old).faults (O.state out.new).faults) ending }
+    ensures later { (O.state out.old).faults ≤ (O.state out.new).faults }
+{
+    tell(alloc, out, unknown, &ended)
+}
+
+// Writes what is told of a command, and gives the status.
+fn tell<O: Sink>(
+    alloc: Global,
+    out: &mut O,
+    unknown: &[String],
     ended: &Result<Outcome, Fault>,
 ) -> u8
     ensures told { (ending : Ending) × (result ≡ status ending)

@@ -55,12 +55,12 @@ impl<
         let settings = match settings_of(command) {
             Ok(settings) => settings,
             Err(what) => {
-                let ended = Err(Fault::Stage(StageFault::NotBuilt { what }));
-                return answer(alloc, &mut self.out, &command.warnings, &ended);
+                let fault = Fault::Stage(StageFault::NotBuilt { what });
+                return answer(alloc, &mut self.out, &command.warnings, Err(fault));
             }
         };
         let ended = self.obey(alloc, &settings);
-        answer(alloc, &mut self.out, &command.warnings, &ended)
+        answer(alloc, &mut self.out, &command.warnings, ended)
     }
 
     /// Does what the words and their configuration ask for, writes the output, and answers the status that the program
@@ -122,8 +122,7 @@ impl<
             Ok(command) => command,
             Err(fault) => {
                 let unknown = Vec::new(alloc);
-                let ended = Err(fault);
-                return answer(alloc, &mut self.out, &unknown, &ended);
+                return answer(alloc, &mut self.out, &unknown, Err(fault));
             }
         };
         self.carry(alloc, &command)

@@ -5,7 +5,7 @@ use Rattle.pgb_command.specs.Answers.{refused, lines_of, error_line, ending_of, 
 use Rattle.pgb_command.specs.Output.{Whole, Cut, Starved, Wordless}
 use Rattle.pgb_command.proofs.Written.{more}
 use Rattle.pgb_command.proofs.Fronts.{front_whole, front_as}
-use Rattle.pgb_command.proofs.output.answer.Goals as goal
+use Rattle.pgb_command.proofs.output.tell.Goals as goal
 
 pub returns-in-Ok-write_all-clause-told : goal.returns-in-Ok-write_all-clause-told
 returns-in-Ok-write_all-clause-told g c = (
