@@ -108,6 +108,9 @@ fn check_stops(
     before: usize,
     wanted: &[(&str, Held)],
 ) {
+    if words.len() < before {
+        panic!(rt; "so many calls come before the one that is stopped");
+    }
     let made = well(rt, calls(alloc, &words[..before], before, 0));
     let first = well(rt, played(alloc, made)).0.repo.moment();
     for number in 0..200u64 {
