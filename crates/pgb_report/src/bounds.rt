@@ -53,10 +53,10 @@ fn greater(a: Segment, b: Segment) -> Segment
 
 // The bounds, with one segment more.
 fn widened(bounds: Option<Bounds>, segment: Segment) -> Bounds
-    ensures first { (names : List Text) → reduce_on lesser (Some (segment_text result.first)) names ≡ reduce_on lesser
-        (first_name bounds) (segment_text segment ∷ names) }
-    ensures last { (names : List Text) → reduce_on greater (Some (segment_text result.last)) names ≡ reduce_on greater
-        (last_name bounds) (segment_text segment ∷ names) }
+    ensures first { (names : List Text) → reduce_on lesser (Some (segment_text result.first)) names
+        ≡ reduce_on lesser (first_name bounds) (segment_text segment ∷ names) }
+    ensures last { (names : List Text) → reduce_on greater (Some (segment_text result.last)) names
+        ≡ reduce_on greater (last_name bounds) (segment_text segment ∷ names) }
 {
     match bounds {
         Some(bounds) => Bounds {

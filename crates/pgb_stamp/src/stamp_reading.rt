@@ -46,7 +46,8 @@ pub(crate) fn after(text: &[u8], byte: u8) -> Option<&[u8]>
 
 // A year in front, and what follows it.
 fn split_year(text: &[u8]) -> Option<(u16, &[u8])>
-    ensures value { IfSome result (λ p. (p.0 < 10000) × (text.now ≡ two (p.0 / 100) ++ two (p.0 % 100) ++ p.1.now)) }
+    ensures value { IfSome result
+        (λ p. (p.0 < 10000) × (text.now ≡ two (p.0 / 100) ++ two (p.0 % 100) ++ p.1.now)) }
     ensures none { IfNone result ((n : ℕ) (rest : List ℕ) → n < 10000
         → text.now ≢ two (n / 100) ++ two (n % 100) ++ rest) }
 {
@@ -68,7 +69,8 @@ fn civil_date(year: u16, month: u8, day: u8) -> Option<Date>
 
 // A date in front, and what follows it.
 fn split_date(text: &[u8]) -> Option<(Date, &[u8])>
-    ensures value { IfSome result (λ p. (pos 0 ≤ℤ p.0.year) × (text.now ≡ date_digits (parts_of p.0) ++ p.1.now)) }
+    ensures value { IfSome result
+        (λ p. (pos 0 ≤ℤ p.0.year) × (text.now ≡ date_digits (parts_of p.0) ++ p.1.now)) }
     ensures none { IfNone result ((d : Date) (rest : List ℕ) → pos 0 ≤ℤ d.year
         → text.now ≢ date_digits (parts_of d) ++ rest) }
 {

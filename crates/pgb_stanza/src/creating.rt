@@ -40,7 +40,8 @@ pub fn create<D: Disk>(
     control: &Control,
 ) -> Result<Created, StanzaFault>
     // After every answer, and after every stop, the stanza is as before or made, and at Ok it is made.
-    ensures part { (r : Repository) → IsSome (D.state d.old).view.now → NowStands stanza.now r (D.state d.old).view.now
+    ensures part { (r : Repository) → IsSome (D.state d.old).view.now
+        → NowStands stanza.now r (D.state d.old).view.now
         → NowStands stanza.now r (D.state d.new).view.now ⊎ NowStands stanza.now
         (step r (Create (first_cluster control.now))) (D.state d.new).view.now }
     ensures done { OnOk result ((r : Repository) → IsSome (D.state d.old).view.now
@@ -64,7 +65,8 @@ pub fn create<D: Disk>(
         (λ c. IfSame c (IfSome (D.state d.old).view.now (HasStanzaOf stanza.now control.now))) }
     ensures same { IfOk result
         (λ c. IfSame c ((r : Repository) → IsSome (D.state d.old).view.now
-        → NowStands stanza.now r (D.state d.old).view.now → (s : Stanza) × (r ≡ Some s) × IsStanzaOf control.now s)) }
+        → NowStands stanza.now r (D.state d.old).view.now
+        → (s : Stanza) × (r ≡ Some s) × IsStanzaOf control.now s)) }
     ensures agrees { OnOk result (IsSome (D.state d.old).view.now
         → IfSome (D.state d.new).view.now (PairsAgree stanza.now)) }
     ensures refused { IfErr result (λ e. OnContent e ((D.state d.new).view.now ≡ (D.state d.old).view.now)) }

@@ -54,7 +54,8 @@ fn read_number(text: &[u8]) -> Option<u32>
 
 fn read_id(text: &[u8]) -> Option<ArchiveId>
     ensures value { IfSome result (λ id. text.now ≡ id_text id) }
-    ensures none { IfNone result ((id : ArchiveId) → id.version < 2 ^ 32 → id.number < 2 ^ 32 → text.now ≢ id_text id) }
+    ensures none { IfNone result ((id : ArchiveId) → id.version < 2 ^ 32 → id.number < 2 ^ 32
+        → text.now ≢ id_text id) }
 {
     let (version, number) = split_at(text, b'-')?;
     let version = read_number(version)?;
@@ -91,7 +92,8 @@ fn read_file(file: &[u8]) -> Option<(ArchiveName, Option<Sum>)>
 
 // The folder below the id of a file with this last element, where there is one.
 fn folder_of<'a>(name: &ArchiveName, file: &'a [u8]) -> Option<&'a [u8]>
-    ensures { (sum : Text) → file.now ≡ file_text name.now sum → option_map (λ t. t.now) result ≡ folder_text name.now }
+    ensures { (sum : Text) → file.now ≡ file_text name.now sum
+        → option_map (λ t. t.now) result ≡ folder_text name.now }
 {
     match name {
         ArchiveName::History(_) => None,
