@@ -175,9 +175,9 @@ fn begin_in_folders(
     }
 }
 
-// Whether a file is synced alone, as one of the log is. Those of a backup are many, and synced together: the file system then
-// has one place for the bytes of many. A segment that is fetched ahead isn't synced at all, and mostly goes before it is
-// written.
+// Whether a file is synced alone, as one of the log is. Those of a backup are many, and synced together: the file
+// system then has one place for the bytes of many. A segment that is fetched ahead isn't synced at all, and mostly goes
+// before it is written.
 fn is_synced_alone(name: &str) -> bool {
     if name.starts_with("backup/") {
         return false;
@@ -221,8 +221,8 @@ fn remove_name(place: &Place, settled: &mut Settled, name: &str) -> io::Result<(
     Ok(())
 }
 
-// Takes away the folders of a backup that held the name alone, up to the stanza's. A folder isn't a name of the disk, so one
-// that stays is no failure. Below the log they stay: another process may just have made one to push into it.
+// Takes away the folders of a backup that held the name alone, up to the stanza's. A folder isn't a name of the disk,
+// so one that stays is no failure. Below the log they stay: another process may just have made one to push into it.
 fn remove_empty_folders(place: &Place, settled: &mut Settled, name: &str) {
     let mut below = name;
     for _ in 0..name.len() {

@@ -88,8 +88,8 @@ impl Handles {
         self.writing.push(kept).map_err(no_memory)
     }
 
-    /// Adds bytes at the end of a file that is there. The disk begins to write them behind half a segment, so that a sync
-    /// waits for the rest alone.
+    /// Adds bytes at the end of a file that is there. The disk begins to write them behind half a segment, so that a
+    /// sync waits for the rest alone.
     pub fn append(&mut self, place: &Place, name: &str, bytes: &[u8]) -> io::Result<()> {
         let kept = self.reach_end(place, name)?;
         kept.file.write_all(bytes)?;
@@ -124,8 +124,8 @@ impl Handles {
         self.writing.iter().any(|kept| kept.name.as_str() == name)
     }
 
-    // Closes a file that was written, so that the disk writes its bytes while they are read, or more come. It is opened anew
-    // before that, so that a fault of the writing is told by the sync.
+    // Closes a file that was written, so that the disk writes its bytes while they are read, or more come. It is opened
+    // anew before that, so that a fault of the writing is told by the sync.
     fn close_written(&mut self, place: &Place, name: &str) -> io::Result<()> {
         if self.is_written(name) {
             let file = place.open_end(name)?;
@@ -142,8 +142,8 @@ impl Handles {
         at > 0 && is_of(&self.reading, name)
     }
 
-    /// Bytes of a name from a place on: None where it is absent, 0 at its end. A file that was written is read from its start
-    /// once all is written.
+    /// Bytes of a name from a place on: None where it is absent, 0 at its end. A file that was written is read from its
+    /// start once all is written.
     pub fn read(
         &mut self,
         place: &Place,

@@ -2,9 +2,9 @@
 //!
 //! What is proved, by the contract of the function that is named:
 //!
-//! - `RealDisk`, `RealTree`, `RealFiles`, `RealSource`, `RealInput`, `RealSink`, `RealReplies`, `RealLocks`, `RealClock`
-//!   and `RealWire` meet their traits: that Failed comes only where the count of faults rose, which path a name means, and
-//!   the like.
+//! - `RealDisk`, `RealTree`, `RealFiles`, `RealSource`, `RealInput`, `RealSink`, `RealReplies`, `RealLocks`,
+//!   `RealClock` and `RealWire` meet their traits: that Failed comes only where the count of faults rose, which path a
+//!   name means, and the like.
 //! - Nothing is proved about content, nor about the note of settled folders.
 #![tactic(auto)]
 

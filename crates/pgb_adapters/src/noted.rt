@@ -1,6 +1,6 @@
-// The note in the root, of folders whose names are durable: it spares a command the sync of each. A node's time of change is set by the
-// system alone, from a clock that goes on, and each change of a name in a folder sets the folder's. So once the clock is past it, a
-// folder of the same time has the same names.
+// The note in the root, of folders whose names are durable: it spares a command the sync of each. A node's time of
+// change is set by the system alone, from a clock that goes on, and each change of a name in a folder sets the
+// folder's. So once the clock is past it, a folder of the same time has the same names.
 use crate::place::{FILE_MODE, Place, folder_of, no_memory, sync_folder};
 use std::alloc::Global;
 use std::fs::{File, Metadata, OpenOptions};
@@ -39,7 +39,8 @@ impl State {
         }
     }
 
-    /// Whether its file system tells more of a time than whole seconds. One that tells these, or makes times up, tells too little.
+    /// Whether its file system tells more of a time than whole seconds. One that tells these, or makes times up, tells
+    /// too little.
     pub fn is_fine(&self) -> bool {
         self.nanos != 0
     }
@@ -116,7 +117,8 @@ impl Noted {
         }
     }
 
-    /// Whether the names in a folder that was seen in this state are durable: these states were told, or this process made them so.
+    /// Whether the names in a folder that was seen in this state are durable: these states were told, or this process
+    /// made them so.
     pub fn is_durable(&self, told: &[State], path: &str, state: State) -> bool {
         let is_own = self.durable == Some(state) && self.has_changed(path);
         is_own || told.iter().any(|durable| *durable == state)
@@ -132,8 +134,9 @@ impl Noted {
         Ok(())
     }
 
-    /// The names in a folder are durable that was in this state before they were made so, and is after it. That is noted where the
-    /// clock was past the state before it, or where no other process changes names in the folder. Without memory it isn't.
+    /// The names in a folder are durable that was in this state before they were made so, and is after it. That is
+    /// noted where the clock was past the state before it, or where no other process changes names in the folder.
+    /// Without memory it isn't.
     pub fn add(&mut self, path: &str, state: State) {
         let is_past = self
             .latest
@@ -160,7 +163,8 @@ impl Noted {
             .is_some_and(|changed| changed.as_str() == path)
     }
 
-    /// Writes the note anew, where this process changes names and has something to add. It isn't needed, so a failure isn't told.
+    /// Writes the note anew, where this process changes names and has something to add. It isn't needed, so a failure
+    /// isn't told.
     pub fn write(&mut self, place: &Place) {
         let young = self.young.take();
         let has_more = young.is_some() || !self.synced.is_empty();
@@ -211,7 +215,8 @@ fn write_note(place: &Place, young: Option<State>, synced: &[State]) -> io::Resu
     file.set_len(text.len() as u64)
 }
 
-// Whether the clock of the note's file system is past the state by now. Newer systems tell it more finely once it was looked at.
+// Whether the clock of the note's file system is past the state by now. Newer systems tell it more finely once it was
+// looked at.
 fn is_past(file: &File, state: &State) -> io::Result<bool> {
     let first = touch(file)?;
     if state.is_before(&first) {

@@ -108,7 +108,8 @@ impl Place {
         how.open(&self.rt, path.as_str())
     }
 
-    /// Makes the name an empty file where nothing stands at it, and else answers None; the folder that holds it is there.
+    /// Makes the name an empty file where nothing stands at it, and else answers None; the folder that holds it is
+    /// there.
     pub fn create_new(&self, name: &str) -> io::Result<Option<File>> {
         let path = self.path_of(name)?;
         let mut how = OpenOptions::new();

@@ -11,8 +11,8 @@ use std::io::Write;
 // A frame of the largest part: its letter, its length, and so many bytes.
 const FULL: usize = 5 + (1 << 15);
 
-/// A part that isn't full is the last one of its file: it waits for the frame behind it, and both go to the system at once. It
-/// tells nothing of what was written.
+/// A part that isn't full is the last one of its file: it waits for the frame behind it, and both go to the system at
+/// once. It tells nothing of what was written.
 #[derive(Drop)]
 pub struct RealReplies {
     rt: HostRuntime,

@@ -19,8 +19,8 @@ struct Folder {
 }
 
 /// The folders that were synced since this process made one, each in its state of then: while it is in that state the
-/// folders in it have durable names. A sync is never undone, so a folder that goes takes nothing from the others: of the
-/// one that held it the names have changed, and at its own path another may come to stand.
+/// folders in it have durable names. A sync is never undone, so a folder that goes takes nothing from the others: of
+/// the one that held it the names have changed, and at its own path another may come to stand.
 #[derive(Drop)]
 pub struct Settled {
     folders: Vec<Folder>,
@@ -64,8 +64,8 @@ impl Settled {
     }
 }
 
-/// The names below a folder lie in it, in the folders below it, and, where folders were made, in those that hold it. What the note
-/// tells isn't synced again.
+/// The names below a folder lie in it, in the folders below it, and, where folders were made, in those that hold it.
+/// What the note tells isn't synced again.
 pub fn settle(place: &Place, settled: &mut Settled, folder: &str) -> io::Result<()> {
     let mut folders = folders_above(place, settled, folder)?;
     let first = folders.len();
@@ -89,7 +89,8 @@ pub fn settle(place: &Place, settled: &mut Settled, folder: &str) -> io::Result<
     settled.add(folders)
 }
 
-/// The names directly in a folder lie in it; the folder itself lies in those that hold it. What the note tells isn't synced again.
+/// The names directly in a folder lie in it; the folder itself lies in those that hold it. What the note tells isn't
+/// synced again.
 pub fn settle_in(place: &Place, settled: &mut Settled, folder: &str) -> io::Result<()> {
     let mut folders = folders_above(place, settled, folder)?;
     add_folder(place, place.path_of(folder)?, &mut folders)?;
@@ -208,8 +209,8 @@ fn folder_at(place: &Place, path: &str) -> io::Result<Option<Metadata>> {
     Ok(told.filter(|told| told.is_dir()))
 }
 
-// The links of a folder are its own name, the dot in it, and the two dots of each folder in it. Where a file system doesn't
-// count so, it tells one.
+// The links of a folder are its own name, the dot in it, and the two dots of each folder in it. Where a file system
+// doesn't count so, it tells one.
 fn push_folder(path: String, told: &Metadata, folders: &mut Vec<Folder>) -> io::Result<()> {
     let folder = Folder {
         path,
@@ -219,8 +220,8 @@ fn push_folder(path: String, told: &Metadata, folders: &mut Vec<Folder>) -> io::
     folders.push(folder).map_err(no_memory)
 }
 
-// Adds the folders below each folder from a place of the list on, until there are more than so many, and answers the place of
-// the next one to be looked at.
+// Adds the folders below each folder from a place of the list on, until there are more than so many, and answers the
+// place of the next one to be looked at.
 fn add_folders_below(
     place: &Place,
     first: usize,
@@ -269,8 +270,8 @@ fn lie_on_one_device(folders: &[Folder]) -> bool {
     }
 }
 
-// Whether another file system may lie below the root: only where the system tells all that are mounted, and none of them does,
-// it doesn't.
+// Whether another file system may lie below the root: only where the system tells all that are mounted, and none of
+// them does, it doesn't.
 fn may_hold_file_systems(place: &Place) -> bool {
     mounted_below(place).unwrap_or(true)
 }

@@ -157,8 +157,8 @@ fn size_of(place: &Place, handles: &Handles, size: u64, path: &str) -> io::Resul
     place.file_length(path)
 }
 
-// What isn't a file is no known file. All of one reading is as long as the file was when it began: what is added meanwhile isn't
-// read, and a file that becomes shorter is a fault.
+// What isn't a file is no known file. All of one reading is as long as the file was when it began: what is added
+// meanwhile isn't read, and a file that becomes shorter is a fault.
 fn read_known(
     place: &Place,
     handles: &mut Handles,

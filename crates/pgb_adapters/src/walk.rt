@@ -27,8 +27,8 @@ pub fn nodes_below(alloc: Global, place: &Place, folder: &str) -> io::Result<Vec
     Ok(seen)
 }
 
-/// The own names of the folders that stand directly in a folder; a link to one is none. What goes away in the meantime is
-/// left out. A name that isn't UTF-8 is an error.
+/// The own names of the folders that stand directly in a folder; a link to one is none. What goes away in the meantime
+/// is left out. A name that isn't UTF-8 is an error.
 pub fn folders_in(alloc: Global, place: &Place, folder: &str) -> io::Result<Vec<String>> {
     let mut told = Vec::new(alloc);
     let path = place.path_of(folder)?;

@@ -44,7 +44,8 @@ abbrev pub IsKept : Text → ArchiveId → Content → Fetch → Type 0
 IsKept stanza id f x = StoresBytes stanza id (Whole x.segment) f (sha1 x.bytes) x.bytes
 
 -- they follow the segment, and the repository has them
-pub record AreBehind (stanza : Text) (id : ArchiveId) (after : Segment) (size : ℕ) (repo : Option Content) (fetched : List Fetch) : Type 0 where
+pub record AreBehind (stanza : Text) (id : ArchiveId) (after : Segment) (size : ℕ) (repo : Option Content)
+    (fetched : List Fetch) : Type 0 where
   pub follow : Follow size after fetched
   pub kept : IfSome repo (λ f. AllByRecursion (IsKept stanza id f) fetched)
 
@@ -53,11 +54,13 @@ pub record AreBehind (stanza : Text) (id : ArchiveId) (after : Segment) (size : 
 -- the content with each of these segments at its name
 abbrev pub with_fetched : Text → List Fetch → Content → Content
 with_fetched stanza [] f = f
-with_fetched stanza (x ∷ xs) f = put (ahead_name stanza x.segment (sha1 x.bytes)) (Some x.bytes) (with_fetched stanza xs f)
+with_fetched stanza (x ∷ xs) f = put (ahead_name stanza x.segment (sha1 x.bytes)) (Some x.bytes)
+    (with_fetched stanza xs f)
 
 -- in the folder of fetched segments lie these and nothing else; the rest is as it was
 abbrev pub HoldsFetched : Text → List Fetch → Option Content → Option Content → Type 0
-HoldsFetched stanza fetched old new = new ≡ option_map (λ f. with_fetched stanza fetched (without (ahead_folder stanza) f)) old
+HoldsFetched stanza fetched old new =
+    new ≡ option_map (λ f. with_fetched stanza fetched (without (ahead_folder stanza) f)) old
 
 -- as many segments as a queue of so many bytes holds, and one at least (command reference, "archive-get-queue-max")
 abbrev pub most_ahead : ℕ → ℕ → ℕ
@@ -68,8 +71,10 @@ abbrev pub HasNoNext : Text → ArchiveId → ℕ → Option Content → Segment
 HasNoNext stanza id size repo last = IsLast size last
     ⊎ ((s : Segment) × IsNext size last s × IfSome repo (StoresNone stanza id (Whole s)))
 
--- So many segments behind this one were fetched: as many as the queue holds, or all up to the first that the repository hasn't.
-pub record IsFetched (stanza : Text) (id : ArchiveId) (after : Segment) (size most : ℕ) (repo spool new_spool : Option Content) (n : ℕ) : Type 0 where
+-- So many segments behind this one were fetched: as many as the queue holds, or all up to the first that the repository
+-- hasn't.
+pub record IsFetched (stanza : Text) (id : ArchiveId) (after : Segment) (size most : ℕ)
+    (repo spool new_spool : Option Content) (n : ℕ) : Type 0 where
   pub fetched : List Fetch
   pub behind : AreBehind stanza id after size repo fetched
   pub count : length fetched ≡ n
@@ -86,7 +91,8 @@ halt_of_spool (marks.TooLong name limit) = NoMemory
 halt_of_spool marks.NoMemory = NoMemory
 
 -- the segment that follows these isn't had
-pub record AheadCause (stanza : Text) (id : ArchiveId) (after : Segment) (size most : ℕ) (repo : Option Content) (fault : GetFault) : Type 0 where
+pub record AheadCause (stanza : Text) (id : ArchiveId) (after : Segment) (size most : ℕ) (repo : Option Content)
+    (fault : GetFault) : Type 0 where
   pub fetched : List Fetch
   pub behind : AreBehind stanza id after size repo fetched
   pub few : length fetched < most
@@ -98,22 +104,26 @@ pub record AheadCause (stanza : Text) (id : ArchiveId) (after : Segment) (size m
 
 -- what was copied to a name of the spool
 abbrev pub CopiedTo : Copied → Option Content → Text → Text → Option Content → Option Content → Type 0
-CopiedTo (copies.Whole sum) repo from name old new = (bytes : Text) × IfSome repo (λ f. f from ≡ Some bytes) × (sum.0 ≡ sha1 bytes) × (new ≡ option_map (put name (Some bytes)) old)
+CopiedTo (copies.Whole sum) repo from name old new = (bytes : Text) × IfSome repo (λ f. f from ≡ Some bytes)
+    × (sum.0 ≡ sha1 bytes) × (new ≡ option_map (put name (Some bytes)) old)
 CopiedTo copies.Long repo from name old new = IfSome repo (λ f. IsSomeAnd (f from) (λ all. 2 ^ 30 < length all))
 CopiedTo copies.Vanished repo from name old new = IfSome repo (λ f. f from ≡ None)
 
 -- a stored file was put at a name of the spool
 abbrev pub PutsAhead : Option Content → Text → Text → Text → Option Content → Option Content → Type 0
-PutsAhead repo from sum name old new = (bytes : Text) × IfSome repo (λ f. f from ≡ Some bytes) × (sha1 bytes ≡ sum) × (new ≡ option_map (put name (Some bytes)) old)
+PutsAhead repo from sum name old new = (bytes : Text) × IfSome repo (λ f. f from ≡ Some bytes) × (sha1 bytes ≡ sum)
+    × (new ≡ option_map (put name (Some bytes)) old)
 
 -- the repository stores the segment, and its bytes were put at its name
-pub record FetchesOne (stanza : Text) (id : ArchiveId) (segment : Segment) (repo old new : Option Content) : Type 0 where
+pub record FetchesOne (stanza : Text) (id : ArchiveId) (segment : Segment) (repo old new : Option Content) : Type
+    0 where
   pub bytes : Text
   pub kept : IfSome repo (λ f. StoresBytes stanza id (Whole segment) f (sha1 bytes) bytes)
   pub put_there : new ≡ option_map (put (ahead_name stanza segment (sha1 bytes)) (Some bytes)) old
 
 -- the segment that follows this one was fetched, or there is none
-abbrev pub FetchesNext : Text → ArchiveId → Segment → ℕ → Option Content → Option Content → Option Content → Option Segment → Type 0
+abbrev pub FetchesNext : Text → ArchiveId → Segment → ℕ → Option Content → Option Content → Option Content
+    → Option Segment → Type 0
 FetchesNext stanza id last size repo old new (Some s) = IsNext size last s × FetchesOne stanza id s repo old new
 FetchesNext stanza id last size repo old new None = HasNoNext stanza id size repo last × (new ≡ old)
 

@@ -18,11 +18,15 @@ use Rattle.pgb_ahead.specs.Names.{ahead_name}
 
 -- at the name lie no bytes with this sum that are as short as a segment
 abbrev pub LacksSum : Option Content → Text → Text → Type 0
-LacksSum spool name sum = IfSome spool (λ f. (bytes : Text) → f name ≡ Some bytes → length bytes ≤ 2 ^ 30 → ¬ (sha1 bytes ≡ sum))
+LacksSum spool name sum = IfSome spool
+    (λ f. (bytes : Text) → f name ≡ Some bytes → length bytes ≤ 2 ^ 30 → ¬ (sha1 bytes ≡ sum))
 
--- The bytes at a name, which have the sum, were put at the path; or the name hasn't such bytes, and the folder is as it was.
-abbrev pub TakesAt : Result Bool (Halt GetFault) → Option Content → Text → Text → Text → Option Nodes → Option Nodes → Type 0
-TakesAt (Ok true) spool name sum path old new = (bytes : Text) × AreStoredAt spool name sum bytes × IfSome new (IsPut path bytes)
+-- The bytes at a name, which have the sum, were put at the path; or the name hasn't such bytes, and the folder is as it
+-- was.
+abbrev pub TakesAt : Result Bool (Halt GetFault) → Option Content → Text → Text → Text → Option Nodes → Option Nodes
+    → Type 0
+TakesAt (Ok true) spool name sum path old new = (bytes : Text) × AreStoredAt spool name sum bytes
+    × IfSome new (IsPut path bytes)
 TakesAt (Ok false) spool name sum path old new = LacksSum spool name sum × (new ≡ old)
 TakesAt (Err halt) spool name sum path old new = Unit {0}
 

@@ -167,8 +167,9 @@ fn most_ahead(size: SegSize, queue: u64) -> u64
     (queue / u64::from(size.0)).max(1)
 }
 
-/// Fetches the segments that follow this one from the repository into the spool, as many as a queue of so many bytes holds,
-/// one at least, up to the first that isn't stored under this id; and tells how many. What was fetched before is taken away.
+/// Fetches the segments that follow this one from the repository into the spool, as many as a queue of so many bytes
+/// holds, one at least, up to the first that isn't stored under this id; and tells how many. What was fetched before is
+/// taken away.
 pub fn fetch_ahead<D: Disk, S: Disk>(
     alloc: Global,
     repo: &mut D,

@@ -118,8 +118,8 @@ fn clear<S: Disk>(
     }
 }
 
-/// Puts a fetched segment at a path of the data folder where the spool has it with this sum, and tells whether it has. Its
-/// names in the spool are taken away.
+/// Puts a fetched segment at a path of the data folder where the spool has it with this sum, and tells whether it has.
+/// Its names in the spool are taken away.
 pub fn take_ahead<S: Disk, T: Tree>(
     alloc: Global,
     spool: &mut S,

@@ -25,34 +25,43 @@ writes_of stanza id name bytes = (archive_path stanza id name (sha1 bytes), byte
 -- whatever stanza f has, g stands for it after a part of the push
 abbrev pub PushesPart : Text → ArchiveId → ArchiveName → Text → Content → Content → Type 0
 PushesPart stanza id name bytes f g = (s : Stanza) → HasStanza stanza f s
-    → (done : List Step) × IsPartOf done (map One (push_of s (archived_file id name bytes))) × Stands stanza g (after (Some s) done)
+    → (done : List Step) × IsPartOf done (map One (push_of s (archived_file id name bytes)))
+    × Stands stanza g (after (Some s) done)
 
 -- whatever stanza f has, g stands for it after all of the push
 abbrev pub PushesAll : Text → ArchiveId → ArchiveName → Text → Content → Content → Type 0
-PushesAll stanza id name bytes f g = (s : Stanza) → HasStanza stanza f s → Stands stanza g (Some (after_all s (push_of s (archived_file id name bytes))))
+PushesAll stanza id name bytes f g = (s : Stanza) → HasStanza stanza f s
+    → Stands stanza g (Some (after_all s (push_of s (archived_file id name bytes))))
 
--- After every answer what the disk holds comes by a part of the push from what it held; so does all that a stop leaves, at each moment.
-pub record LeavesPart (stanza : Text) (id : ArchiveId) (name : ArchiveName) (bytes : Text) (old new : View) : Type 0 where
+-- After every answer what the disk holds comes by a part of the push from what it held; so does all that a stop leaves,
+-- at each moment.
+pub record LeavesPart (stanza : Text) (id : ArchiveId) (name : ArchiveName) (bytes : Text) (old new : View) : Type
+    0 where
   pub now : NowGoes (PushesPart stanza id name bytes) old.now new.now
   pub walks : IsTight stanza old → IsSome old.now → Walks stanza (PushesPart stanza id name bytes) old new
 
 -- At Ok it comes by all of the push.
-pub record LeavesAll (stanza : Text) (id : ArchiveId) (name : ArchiveName) (bytes : Text) (old new : View) : Type 0 where
+pub record LeavesAll (stanza : Text) (id : ArchiveId) (name : ArchiveName) (bytes : Text) (old new : View) : Type
+    0 where
   pub now : NowGoes (PushesAll stanza id name bytes) old.now new.now
   pub ends : IsTight stanza old → IsSome old.now → Ends (PushesAll stanza id name bytes) old new
 
--- Of the bytes the one write is made or not: what the disk holds comes by it, and so does all that a stop leaves, at each moment.
+-- Of the bytes the one write is made or not: what the disk holds comes by it, and so does all that a stop leaves, at
+-- each moment.
 pub record Writes (stanza : Text) (id : ArchiveId) (name : ArchiveName) (bytes : Text) (old new : View) : Type 0 where
   pub now : NowGoes (FirstOf (writes_of stanza id name bytes)) old.now new.now
   pub crash : IsTight stanza old → IsSome old.now → Crash (FirstOf (writes_of stanza id name bytes)) old new
 
--- What a push leaves after every answer: of its file a part or all, where the bytes are known. Only the file's path and temporary names change, none outside the stanza's folder of the archive.
-pub record Leaves (stanza : Text) (id : ArchiveId) (name : ArchiveName) (known : Option Text) (old new : View) : Type 0 where
+-- What a push leaves after every answer: of its file a part or all, where the bytes are known. Only the file's path and
+-- temporary names change, none outside the stanza's folder of the archive.
+pub record Leaves (stanza : Text) (id : ArchiveId) (name : ArchiveName) (known : Option Text) (old new : View) : Type
+    0 where
   pub part : IfSome known (λ bytes. LeavesPart stanza id name bytes old new)
   pub writes : (bytes : Text) × IfSome known (λ b. b ≡ bytes) × Writes stanza id name bytes old new
   pub only : ChangesArchive stanza old new
 
 -- What it leaves at Ok: the file, and alike in all that a stop leaves.
-pub record LeavesFile (stanza : Text) (id : ArchiveId) (name : ArchiveName) (known : Option Text) (old new : View) : Type 0 where
+pub record LeavesFile (stanza : Text) (id : ArchiveId) (name : ArchiveName) (known : Option Text)
+    (old new : View) : Type 0 where
   pub all : IfSome known (λ bytes. LeavesAll stanza id name bytes old new)
   pub alike : IsTight stanza old → IsSome old.now → IsAlikeAt (IsPathOf stanza id name) new

@@ -109,10 +109,11 @@ fn compare<H, P: Pieces<H>>(
     }
 }
 
-/// Stores a file of the cluster with this system identifier, whose bytes are read in pieces behind the first ones: a whole or
-/// partial segment, whose header is checked, under the sum of its bytes; a history or backup history file as it is. Where
-/// the holder doesn't tell the bytes, each answer is that of some bytes that begin with the first ones and are as many.
-/// The names of the file's folder are settled before they are looked at, and no others. It tells the sum of the bytes.
+/// Stores a file of the cluster with this system identifier, whose bytes are read in pieces behind the first ones: a
+/// whole or partial segment, whose header is checked, under the sum of its bytes; a history or backup history file as
+/// it is. Where the holder doesn't tell the bytes, each answer is that of some bytes that begin with the first ones and
+/// are as many. The names of the file's folder are settled before they are looked at, and no others. It tells the sum
+/// of the bytes.
 pub fn push_from<D: Disk, H, P: Pieces<H>>(
     alloc: Global,
     d: &mut D,
@@ -175,8 +176,8 @@ fn front_of(bytes: &[u8]) -> Front<'_>
     }
 }
 
-/// Stores a file of the cluster with this system identifier: a whole or partial segment, whose header is checked, under the
-/// sum of its bytes; a history or backup history file as it is.
+/// Stores a file of the cluster with this system identifier: a whole or partial segment, whose header is checked, under
+/// the sum of its bytes; a history or backup history file as it is.
 pub fn push<D: Disk>(
     alloc: Global,
     d: &mut D,

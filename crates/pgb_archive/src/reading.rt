@@ -31,8 +31,8 @@ use std::alloc::Global;
 // A segment has at most 1 GiB.
 const SEGMENT_LIMIT: u64 = 1 << 30;
 
-// The bytes at a path, which have the sum that it tells. A file that was listed and isn't there any more is told as want of
-// memory: that it isn't archived would end a recovery.
+// The bytes at a path, which have the sum that it tells. A file that was listed and isn't there any more is told as
+// want of memory: that it isn't archived would end a recovery.
 fn read_kept<D: Disk>(alloc: Global, d: &mut D, kept: &Kept) -> Result<Vec<u8>, ArchiveFault>
     ensures whole { IfOk result (λ bytes. (sha1 bytes.items ≡ kept.now.sum.0) × IfSome (D.state d.old).view.now
         (λ f. f (string_bytes kept.now.path) ≡ Some bytes.items)) }
@@ -114,7 +114,8 @@ fn names_settled<D: Disk>(
     Ok(names)
 }
 
-/// The bytes of a stored file. Of a segment they have the sum that its name tells. The names of its folder are settled before.
+/// The bytes of a stored file. Of a segment they have the sum that its name tells. The names of its folder are settled
+/// before.
 pub fn get<D: Disk>(
     alloc: Global,
     d: &mut D,
@@ -161,8 +162,8 @@ fn stored_as(id: ArchiveId, name: ArchiveName, kept: Kept) -> Stored
     }
 }
 
-/// Where a file is stored; None where it isn't. Only its names are looked at, and the bytes of a history or backup history file.
-/// The names of its folder are settled before.
+/// Where a file is stored; None where it isn't. Only its names are looked at, and the bytes of a history or backup
+/// history file. The names of its folder are settled before.
 pub fn present<D: Disk>(
     alloc: Global,
     d: &mut D,

@@ -69,7 +69,15 @@ label_name d = file_name (stanza_of d) d.label label_path
 
 -- what it tells beside its files and folders, where the backup has stopped by then
 abbrev pub head_for : Draft → Option Online → ℕ → Head
-head_for d o stop = record { label = d.label; prior = d.prior; start = d.start; stop = stop; cluster = d.cluster; wal = part_in o; choices = d.choices }
+head_for d o stop = record {
+  label = d.label;
+  prior = d.prior;
+  start = d.start;
+  stop = stop;
+  cluster = d.cluster;
+  wal = part_in o;
+  choices = d.choices;
+}
 
 abbrev pub head_at : Draft → ℕ → Head
 head_at d stop = head_for d None stop
@@ -90,7 +98,8 @@ further_in d None stop = None
 further_in d (Some o) stop = Some (label_further d o stop)
 
 abbrev pub manifest_for : Draft → Option Online → List (List Ended) → ℕ → Manifest
-manifest_for d o ends stop = manifest_with (head_for d o stop) (with_further (entry_in (further_in d o stop)) (files_with d ends)) (folders_in d)
+manifest_for d o ends stop = manifest_with (head_for d o stop)
+    (with_further (entry_in (further_in d o stop)) (files_with d ends)) (folders_in d)
 
 -- of a stopped server
 abbrev pub manifest_at : Draft → List (List Ended) → ℕ → Manifest
@@ -107,7 +116,8 @@ pub record IsPlanOf (d : Draft) : Type 0 where
   pub singles : d.plan.singles ≡ length (layout settings (old_in d) (taken_in d) equal).singles
   pub jobs : jobs_in d ≡ jobs_of (layout settings (old_in d) (taken_in d) equal)
 
--- The files are within the limits, and are planned; its label, times and cluster fit the list; the prior backup's files are a manifest's.
+-- The files are within the limits, and are planned; its label, times and cluster fit the list; the prior backup's files
+-- are a manifest's.
 pub record IsDraft (d : Draft) : Type 0 where
   pub listing : IsListing (taken_in d) (folders_in d)
   pub control : HasFile control_path (taken_in d)

@@ -50,7 +50,8 @@ abbrev pub fault_of_save : SaveFault → MakeFault
 fault_of_save saves.Disk = faults.Disk
 fault_of_save saves.NoMemory = faults.NoMemory
 
--- A worker on one of these links couldn't read an item of this path, which is one of the jobs', and answered so. Its link alone is left.
+-- A worker on one of these links couldn't read an item of this path, which is one of the jobs', and answered so. Its
+-- link alone is left.
 pub record IsUnread (jobs : List Job) (links left : List LinkState) (path : Text) : Type 0 where
   pub now : LinkState
   pub is : left ≡ now ∷ []
@@ -65,8 +66,8 @@ pub record IsUnread (jobs : List Job) (links left : List LinkState) (path : Text
   pub path_is : item.path ≡ path
   pub unread : UnreadBy from.told item
 
--- Why the jobs over these links weren't stored: each link is lost, and its entry tells why; or the worker on the one link that is left
--- couldn't read a file; or the disk failed, which its count shows; or memory ran out.
+-- Why the jobs over these links weren't stored: each link is lost, and its entry tells why; or the worker on the one
+-- link that is left couldn't read a file; or the disk failed, which its count shows; or memory ran out.
 abbrev pub StoreFails : MakeFault → List Job → List LinkState → List LinkState → List Lost → List Lost → ℕ → ℕ → Type 0
 StoreFails faults.WorkersLost jobs links left before after old new = AllLost jobs (begun links before) after
 StoreFails (faults.Unread path) jobs links left before after old new = IsUnread jobs links left (string_bytes path)
@@ -155,7 +156,8 @@ WriteFails faults.Clock old new = ⊥
 WriteFails faults.Disk old new = Rises old new
 WriteFails faults.NoMemory old new = Unit {0}
 
--- Why the stop isn't taken of a running server's backup, between two counts of the disk's faults, and two of the clock's.
+-- Why the stop isn't taken of a running server's backup, between two counts of the disk's faults, and two of the
+-- clock's.
 abbrev pub CloseFails : MakeFault → ℕ → ℕ → ℕ → ℕ → Type 0
 CloseFails faults.WorkersLost old new told tells = ⊥
 CloseFails (faults.Unread path) old new told tells = ⊥
@@ -177,12 +179,18 @@ abbrev pub WhereDone : Draft → List LinkState → (List (List Ended) → Type 
 WhereDone d links P = (ends : List (List Ended)) × IsDone d links ends × P ends
 
 -- Why a backup isn't made: of what is told above, and of what ended.
-abbrev pub MakeFails : MakeFault → Draft → List LinkState → List LinkState → List Lost → List Lost → ℕ → ℕ → ℕ → ℕ → Type 0
-MakeFails faults.WorkersLost d links left before after old new told tells = AllLost (jobs_in d) (begun links before) after
-MakeFails (faults.Unread path) d links left before after old new told tells = IsUnread (jobs_in d) links left (string_bytes path)
-MakeFails (faults.ControlMissing path) d links left before after old new told tells = WhereDone d links (λ ends. IsMissing path.now (files_with d ends))
-MakeFails (faults.ManifestTooLong n) d links left before after old new told tells = WhereDone d links (λ ends. IsManifestTooLong d ends n)
-MakeFails (faults.ListTooLong n) d links left before after old new told tells = WhereDone d links (λ ends. IsListTooLong d ends n)
+abbrev pub MakeFails : MakeFault → Draft → List LinkState → List LinkState → List Lost → List Lost → ℕ → ℕ → ℕ → ℕ
+    → Type 0
+MakeFails faults.WorkersLost d links left before after old new told tells =
+    AllLost (jobs_in d) (begun links before) after
+MakeFails (faults.Unread path) d links left before after old new told tells =
+    IsUnread (jobs_in d) links left (string_bytes path)
+MakeFails (faults.ControlMissing path) d links left before after old new told tells =
+    WhereDone d links (λ ends. IsMissing path.now (files_with d ends))
+MakeFails (faults.ManifestTooLong n) d links left before after old new told tells =
+    WhereDone d links (λ ends. IsManifestTooLong d ends n)
+MakeFails (faults.ListTooLong n) d links left before after old new told tells =
+    WhereDone d links (λ ends. IsListTooLong d ends n)
 MakeFails faults.Clock d links left before after old new told tells = Rises told tells
 MakeFails faults.Disk d links left before after old new told tells = Rises old new
 MakeFails faults.NoMemory d links left before after old new told tells = Unit {0}

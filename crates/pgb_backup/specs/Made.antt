@@ -49,18 +49,24 @@ pub record IsTightAt (pair main : Name) (v : View) : Type 0 where
   pub info_copy : is_loose v (copy_of main) ≡ false
 
 -- the two pairs have these values, and each item lies at its place
-pub record HasBackup (own : Name → Bool) (pair main : Name) (m : Manifest) (v : BackupInfo) (names : List Name) (kept : List Kept) (f g : Content) : Type 0 where
+pub record HasBackup (own : Name → Bool) (pair main : Name) (m : Manifest) (v : BackupInfo) (names : List Name)
+    (kept : List Kept) (f g : Content) : Type 0 where
   pub info_is : g main ≡ Some (info_text (backup_sections v))
   pub manifest_is : g pair ≡ Some (manifest_text m)
   pub placed : IsPlaced names kept g
-  pub others : (n : Name) → own n ≡ false → ¬ IsTemporary n → n ≢ pair → n ≢ copy_of pair → n ≢ main → n ≢ copy_of main → g n ≡ f n
+  pub others : (n : Name) → own n ≡ false → ¬ IsTemporary n → n ≢ pair → n ≢ copy_of pair → n ≢ main → n ≢ copy_of main
+      → g n ≡ f n
 
 -- so it is of the draft's backup, with its label file where a server ran
-abbrev pub ListsIt : Draft → Option Online → Manifest → BackupInfo → List Name → List Kept → ℕ → Content → Content → Type 0
-ListsIt d o m v names kept stop f g = HasBackup (is_own_of d) (pair_of d) (main_of d) m v (with_name (further_in d o stop) names) (with_kept (further_in d o stop) kept) f g
+abbrev pub ListsIt : Draft → Option Online → Manifest → BackupInfo → List Name → List Kept → ℕ → Content → Content
+    → Type 0
+ListsIt d o m v names kept stop f g =
+    HasBackup (is_own_of d) (pair_of d) (main_of d) m v (with_name (further_in d o stop) names)
+    (with_kept (further_in d o stop) kept) f g
 
 -- The backup may be listed: by these values, of what the links read, and of what a server told where one ran.
-pub record MakesOf (d : Draft) (o : Option Online) (links : List LinkState) (whole : Bool) (old new : View) : Type 0 where
+pub record MakesOf (d : Draft) (o : Option Online) (links : List LinkState) (whole : Bool) (old new : View) : Type
+    0 where
   pub names : List Name
   pub names_are : AreNames d names
   pub ends : List (List Ended)
@@ -79,13 +85,19 @@ pub record MakesOf (d : Draft) (o : Option Online) (links : List LinkState) (who
   pub listed : IsListWith (list_in d) manifest list
   pub list_valid : IsBackupText list (info_text (backup_sections list))
   -- what the disk holds is as before, or the backup is listed
-  pub now : NowGoes (λ f g. IsBeside (is_own_of d) (pair_of d) f g ⊎ ListsIt d o manifest list names kept stop f g) old.now new.now
+  pub now : NowGoes (λ f g. IsBeside (is_own_of d) (pair_of d) f g ⊎ ListsIt d o manifest list names kept stop f g)
+      old.now new.now
   pub whole_now : whole ≡ true → NowGoes (ListsIt d o manifest list names kept stop) old.now new.now
   -- and where no member was loose, so is what a stop leaves
-  pub tight : IsTightAt (pair_of d) (main_of d) old → IsSome old.now → (j i : ℕ) (n : Name) (k : Kept) (x : Done) → slice_get (with_name (further_in d o stop) names) j ≡ Some n → slice_get (with_kept (further_in d o stop) kept) j ≡ Some k
+  pub tight : IsTightAt (pair_of d) (main_of d) old → IsSome old.now → (j i : ℕ) (n : Name) (k : Kept) (x : Done)
+      → slice_get (with_name (further_in d o stop) names) j ≡ Some n
+      → slice_get (with_kept (further_in d o stop) kept) j ≡ Some k
       → slice_get k.done i ≡ Some x → 0 < x.held.count → is_loose new n ≡ false
-  pub way : IsTightAt (pair_of d) (main_of d) old → Way (MayLoosen (is_own_of d)) (λ f g. IsBeside (is_own_of d) (pair_of d) f g ⊎ ListsIt d o manifest list names kept stop f g) old new
-  pub whole_way : IsTightAt (pair_of d) (main_of d) old → whole ≡ true → Ends (ListsIt d o manifest list names kept stop) old new
+  pub way : IsTightAt (pair_of d) (main_of d) old
+      → Way (MayLoosen (is_own_of d)) (λ f g. IsBeside (is_own_of d) (pair_of d) f g
+      ⊎ ListsIt d o manifest list names kept stop f g) old new
+  pub whole_way : IsTightAt (pair_of d) (main_of d) old → whole ≡ true
+      → Ends (ListsIt d o manifest list names kept stop) old new
 
 -- of a stopped server
 abbrev pub Makes : Draft → List LinkState → Bool → View → View → Type 0
@@ -94,7 +106,8 @@ Makes d links whole old new = MakesOf d None links whole old new
 -- The stanza's list stays: in what the disk holds, and in what a stop leaves where no member was loose.
 pub record LeavesList (d : Draft) (old new : View) : Type 0 where
   pub now : NowGoes (IsBeside (is_own_of d) (pair_of d)) old.now new.now
-  pub way : IsTightAt (pair_of d) (main_of d) old → Way (MayLoosen (is_own_of d)) (IsBeside (is_own_of d) (pair_of d)) old new
+  pub way : IsTightAt (pair_of d) (main_of d) old
+      → Way (MayLoosen (is_own_of d)) (IsBeside (is_own_of d) (pair_of d)) old new
 
 -- after such a fault the backup may be listed: the list's saving may have come to it
 abbrev pub MayBeListed : MakeFault → Type 0

@@ -1,4 +1,5 @@
--- What a backup of a running server has beside what its workers read (PostgreSQL manual, "Making a Base Backup Using the Low Level API").
+-- What a backup of a running server has beside what its workers read (PostgreSQL manual, "Making a Base Backup Using
+-- the Low Level API").
 use Rattle.std.specs.Prelude.{◌<◌, ◌^◌, ℕ, length, codes, Option, None, option_map, string_bytes}
 use Rattle.sha1.specs.Sha1.{sha1}
 use Rattle.pgb_model.specs.declared.wal.WalPart.{WalPart}
@@ -29,4 +30,11 @@ label_path = codes "backup_label"
 
 -- the file in the manifest, where the backup stopped in this second
 abbrev pub label_entry : Text → ℕ → FileEntry
-label_entry text stop = record { path = label_path; size = length text; time = stop; sum = sha1 text; reference = None; bundle = None }
+label_entry text stop = record {
+  path = label_path;
+  size = length text;
+  time = stop;
+  sum = sha1 text;
+  reference = None;
+  bundle = None;
+}

@@ -12,7 +12,8 @@ use Rattle.pgb_backup.specs.Draft.{list_in, manifest_for}
 use Rattle.pgb_backup.specs.Online.{Online}
 
 -- The manifest is that of a draft whose jobs ended so, and the text is that of the stanza's list with its backup.
-pub record Prepares (d : Draft) (o : Option Online) (ends : List (List Ended)) (m : Manifest) (text : Text) : Type 0 where
+pub record Prepares (d : Draft) (o : Option Online) (ends : List (List Ended)) (m : Manifest) (text : Text) : Type
+    0 where
   pub stop : ℕ
   pub manifest_is : m ≡ manifest_for d o ends stop
   pub rules : IsManifest m

@@ -56,8 +56,10 @@ pub record IsClosedOf (f : Fetched) (o : Option Online) (c : Closed) : Type 0 wh
 abbrev pub HasLabel : Draft → Option Content → Online → Type 0
 HasLabel d now o = IsSome now → Holds now (label_name d) (Some o.label_file)
 
--- All that links of these read for the draft lies in its label's folder, to last, and so does the label file, where a server ran.
-pub record IsStaged (d : Draft) (o : Option Online) (links : List LinkState) (ends : List (List Ended)) (v : View) : Type 0 where
+-- All that links of these read for the draft lies in its label's folder, to last, and so does the label file, where a
+-- server ran.
+pub record IsStaged (d : Draft) (o : Option Online) (links : List LinkState) (ends : List (List Ended))
+    (v : View) : Type 0 where
   pub sealed : IsSealed (is_own_of d) v
   pub stored : Stored d links ends v.now
   pub label : IfSome o (HasLabel d v.now)

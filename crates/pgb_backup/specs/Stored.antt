@@ -22,7 +22,8 @@ HasOwn d now g = (n : Name) → is_own_of d n ≡ true → ¬ IsTemporary n → 
 abbrev pub AreNames : Draft → List Name → Type 0
 AreNames d names = (l : Layout) → IsPlanned d.plan l → names ≡ names_in (folder_of d) l
 
--- Links of these did the jobs, of which each item ended so. What came of it is kept, and lies at its place in each content that has what the disk has.
+-- Links of these did the jobs, of which each item ended so. What came of it is kept, and lies at its place in each
+-- content that has what the disk has.
 pub record Stored (d : Draft) (links : List LinkState) (ends : List (List Ended)) (now : Option Content) : Type 0 where
   pub names : List Name
   pub names_are : AreNames d names
@@ -34,4 +35,5 @@ pub record Stored (d : Draft) (links : List LinkState) (ends : List (List Ended)
   pub come : JobsCome (jobs_in d) ends
   pub got : IsSome now → AreReceived kept
   pub placed : IsSome now → (g : Content) → HasOwn d now g → IsPlaced names kept g
-  pub filled : IsSome now → (j i : ℕ) (n : Name) (k : Kept) (x : Done) → slice_get names j ≡ Some n → slice_get kept j ≡ Some k → slice_get k.done i ≡ Some x → 0 < x.held.count → HasBytes now n
+  pub filled : IsSome now → (j i : ℕ) (n : Name) (k : Kept) (x : Done) → slice_get names j ≡ Some n
+      → slice_get kept j ≡ Some k → slice_get k.done i ≡ Some x → 0 < x.held.count → HasBytes now n

@@ -99,7 +99,8 @@ fn add_told(sections: &mut Vec<Section>, told: &str) -> Result<(), AllocError> {
     }
 }
 
-/// What the files said so far: short names of texts, states and long texts, and the lines that begin and end each case of a file.
+/// What the files said so far: short names of texts, states and long texts, and the lines that begin and end each case
+/// of a file.
 #[derive(Drop)]
 pub(crate) struct Book {
     alloc: Global,

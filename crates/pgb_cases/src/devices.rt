@@ -38,9 +38,9 @@ pub(crate) struct Push {
     pub bytes: Vec<u8>,
 }
 
-/// What a command finds beside the repository and the data folder: the configuration, the bytes that the server sends, the sizes
-/// of their pieces, what other processes push in their turns, the seconds of the clock, whether there is a worker, the locks that
-/// others hold, and the calls that are to fail.
+/// What a command finds beside the repository and the data folder: the configuration, the bytes that the server sends,
+/// the sizes of their pieces, what other processes push in their turns, the seconds of the clock, whether there is a
+/// worker, the locks that others hold, and the calls that are to fail.
 #[derive(Drop)]
 pub(crate) struct Around {
     pub config: Option<Vec<u8>>,
@@ -227,8 +227,8 @@ pub(crate) fn workers_of(
     Ok(links)
 }
 
-/// What a command finds, ready for it: the locks' device is made of the names and numbers only as it runs, so that it is seen
-/// there that none is taken.
+/// What a command finds, ready for it: the locks' device is made of the names and numbers only as it runs, so that it
+/// is seen there that none is taken.
 #[derive(Drop)]
 pub(crate) struct Ready {
     server: MemWire,

@@ -19,7 +19,8 @@ enum Image {
 
 const IMAGES: &[Image] = &[Image::First, Image::Last, Image::Torn];
 
-/// What is wrong where the command is stopped at each of its moments, or at a quarter, a half and three quarters of them.
+/// What is wrong where the command is stopped at each of its moments, or at a quarter, a half and three quarters of
+/// them.
 pub(crate) fn play_stops(
     alloc: Global,
     book: &Book,
@@ -193,7 +194,8 @@ fn add_torn(
 }
 
 impl World {
-    /// Checks that a stop can leave nothing but what the repository holds: at no name any bytes, and one value at each of these.
+    /// Checks that a stop can leave nothing but what the repository holds: at no name any bytes, and one value at each
+    /// of these.
     pub(crate) fn settled(&mut self, words: &[Word]) -> Result<(), AllocError> {
         let mut wrong = String::new(self.alloc);
         if let Some(repo) = &self.repo {

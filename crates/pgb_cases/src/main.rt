@@ -1,5 +1,6 @@
-//! The cases of the program: data files that say what the devices in memory hold, which words the program is given, and what
-//! it is to answer and to leave. Each case is one line of the output: `ok NAME`, or `wrong NAME: ..`. `data/README` has the form.
+//! The cases of the program: data files that say what the devices in memory hold, which words the program is given, and
+//! what it is to answer and to leave. Each case is one line of the output: `ok NAME`, or `wrong NAME: ..`.
+//! `data/README` has the form.
 #![tactic(auto)]
 
 mod book;

@@ -90,7 +90,8 @@ fn node_of(alloc: Global, book: &Book, words: &[Word], told: &str) -> Result<Nod
     }
 }
 
-/// The bytes that words stand for, and behind them the text. `*N` has the last byte stand N times, and `@NAME` is a text.
+/// The bytes that words stand for, and behind them the text. `*N` has the last byte stand N times, and `@NAME` is a
+/// text.
 pub(crate) fn bytes_of(
     alloc: Global,
     book: &Book,

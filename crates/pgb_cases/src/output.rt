@@ -4,8 +4,8 @@ ghost use Rattle.std.specs.Prelude.{None};
 use pgb_outside::{Sink, Stop};
 use std::alloc::Global;
 
-/// Keeps what was written. It takes all bytes of a write that isn't to fail; with a width it takes a byte at a time, and none once
-/// it has so many.
+/// Keeps what was written. It takes all bytes of a write that isn't to fail; with a width it takes a byte at a time,
+/// and none once it has so many.
 #[derive(Drop)]
 pub(crate) struct Output {
     pub text: Vec<u8>,

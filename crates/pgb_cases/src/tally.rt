@@ -9,8 +9,8 @@ pub(crate) struct Tally {
 }
 
 impl Tally {
-    /// Whether the turns are as the line says: `calls N` is how many there were, `noted A B ..` are the numbers in their order,
-    /// each once where it stands several times in a row, and `sum N` is their sum.
+    /// Whether the turns are as the line says: `calls N` is how many there were, `noted A B ..` are the numbers in
+    /// their order, each once where it stands several times in a row, and `sum N` is their sum.
     pub(crate) fn fits(
         &self,
         alloc: Global,

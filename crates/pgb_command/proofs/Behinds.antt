@@ -45,7 +45,8 @@ use Rattle.pgb_command.specs.declared.fault.Fault.{Fault}
 use Rattle.pgb_command.specs.declared.fault.Fault.TheVariants.{Usage, Stage, Command as OfCommand, Behind, Failed as ObjectFailed, NoMemory}
 use Rattle.pgb_command.specs.Answers.{reached_of, ending_of, is_early}
 use Rattle.pgb_command.specs.Asked.{Request, create, push, leave, drain, get, get_through, fetch_ahead, backup, backup_running, restore, report, examine, expire, rehearse, BackupHow, RunningHow, Asked, behind_backup, alone}
-use Rattle.pgb_command.specs.Tables.{Known, known, plan_of, manner_of, ByOrder, OnCluster, TurnsTold, TellsLabel, IsRunningOf, heard_by, AsksBackup, WithExpiry, FolderGoes, OthersGo, CommandCause, OnBackup}
+use Rattle.pgb_command.specs.Tables.{Known, known, manner_of, ByOrder, OnCluster, TurnsTold, TellsLabel, IsRunningOf, heard_by, AsksBackup, WithExpiry, FolderGoes, OthersGo, CommandCause}
+use Rattle.pgb_command.specs.Uses.{plan_of, OnBackup}
 use Rattle.pgb_command.specs.Did.{SamePlaces, Closes, OwnCause, Spares, Ran, Followed}
 use Rattle.pgb_command.proofs.Expiries.{earlier_moment, told_moment}
 use Rattle.pgb_command.proofs.Dids.{later_on}

@@ -34,7 +34,8 @@ use Rattle.pgb_leave.specs.Pushing.{IsWaitOf}
 use Rattle.pgb_sample_folder.specs.Having.{IsEmpty}
 use Rattle.pgb_rehearse.specs.Commands.{rehearsed, keeps_one}
 use Rattle.pgb_command.specs.Told.{size_by}
-use Rattle.pgb_command.specs.Tables.{Known, known, IsSomeDrain, WithExpiry, plan_of, spool_of, uses_spool, manner_of, OnReader, OnCreate, OnExpire, OnOther, FolderGoes, FolderStays, Unless, OthersGo, is_on_repository, TellsLabel}
+use Rattle.pgb_command.specs.Tables.{Known, known, IsSomeDrain, WithExpiry, manner_of, FolderGoes, OthersGo, TellsLabel}
+use Rattle.pgb_command.specs.Uses.{plan_of, spool_of, uses_spool, OnReader, OnCreate, OnExpire, OnOther, FolderStays, Unless, is_on_repository}
 
 -- no turn was taken, and the server told no label file
 pub running_idle : (stanza : Text) (how : RunningHow) (old new : Known) → new.others ≡ old.others → (account : Option Account) → new.others.account ≡ account → (P : Command → Type 0) → P (MakeBackup [] no_files None) → (told : Account → Type 0) → IsSomeAnd account told →

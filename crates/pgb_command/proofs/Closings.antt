@@ -53,7 +53,8 @@ use Rattle.pgb_command.specs.Asked.{Request, create, push, leave, drain, get, ge
 use Rattle.pgb_command.specs.Causes.{IsAnswered, Carries, Answers, ClosesTalk}
 use Rattle.pgb_command.specs.Configuring.{ConfigCause}
 use Rattle.pgb_command.specs.Did.{IsIdle, IsTaken, Cause, Closes}
-use Rattle.pgb_command.specs.Tables.{Known, known, CommandCause, OnOther, plan_of}
+use Rattle.pgb_command.specs.Tables.{Known, known, CommandCause}
+use Rattle.pgb_command.specs.Uses.{OnOther, plan_of}
 use Rattle.pgb_command.proofs.Follows.{told_as}
 
 -- ---- which refusals have such a status

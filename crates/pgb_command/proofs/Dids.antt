@@ -46,7 +46,8 @@ use Rattle.pgb_command.specs.declared.fault.Fault.TheVariants.{Usage, Stage, Com
 use Rattle.pgb_command.specs.Answers.{status, reached_of, ending_of, is_early}
 use Rattle.pgb_command.specs.Asked.{Request, create, push, leave, drain, get, get_through, fetch_ahead, backup, backup_running, restore, report, examine, expire, rehearse, Asked}
 use Rattle.pgb_command.specs.Faults.{of_stage}
-use Rattle.pgb_command.specs.Tables.{Known, known, plan_of, spool_of, manner_of, CommandCause, Promise, Lasts, OnReader, OnCreate, OnExpire, Expires, uses_workers, uses_clock}
+use Rattle.pgb_command.specs.Tables.{Known, known, manner_of, CommandCause, Promise, Lasts, Expires}
+use Rattle.pgb_command.specs.Uses.{plan_of, spool_of, OnReader, OnCreate, OnExpire, uses_workers, uses_clock}
 use Rattle.pgb_command.specs.Did.{Ran, EndsBehind, StaysHealed, OnReady, Cause, HealsPairs, Did, OwnCause, Spares, Closes, WordsCause, Brackets, SamePlaces, OpensPlaces, ArePlacesOpened, OpensNamed, IsOpenedNamed, OpensIf, IsOpenedIf, TakesAll, OnlyLocked}
 use Rattle.pgb_command.proofs.Ends.{all_later, expiry_as, only_rose}
 use Rattle.pgb_command.proofs.Expiries.{expires_still, expires_behind}

@@ -24,7 +24,8 @@ use Rattle.pgb_command.specs.Did.{Acknowledges, IsIdle, Did, OpensIf, OpensNamed
 use Rattle.pgb_command.specs.Output.{IsTold, Whole, Cut, Starved, Wordless}
 use Rattle.pgb_disk.proofs.Changes.{only_rests}
 use Rattle.pgb_stanza.specs.Owned.{IsOfPairs}
-use Rattle.pgb_command.specs.Tables.{known, plan_of, spool_of, manner_of, OnCreate, FolderGoes, FolderStays, uses_workers, uses_clock}
+use Rattle.pgb_command.specs.Tables.{known, manner_of, FolderGoes}
+use Rattle.pgb_command.specs.Uses.{plan_of, spool_of, OnCreate, FolderStays, uses_workers, uses_clock}
 use Rattle.pgb_command.proofs.AskedOnce.{one_asked}
 use Rattle.pgb_command.proofs.ByRequest.{idle, any_reader, any_create, any_expire, any_other, any_unless, any_stays, folder_stays, others_stay}
 use Rattle.pgb_command.proofs.Dids.{stage_reached}

@@ -45,7 +45,8 @@ use Rattle.pgb_command.specs.declared.order.Course.TheVariants.{Staged, Left}
 use Rattle.pgb_command.specs.Answers.{ending_of, reached_of}
 use Rattle.pgb_command.specs.Asked.{Request, create, push, leave, drain, get, get_through, fetch_ahead, backup, backup_running, restore, report, examine, expire, rehearse, LeaveHow, Asked, drain_words}
 use Rattle.pgb_command.specs.Faults.{of_leave, lift}
-use Rattle.pgb_command.specs.Tables.{known, heard_for, plan_of, uses_spool}
+use Rattle.pgb_command.specs.Tables.{known, heard_for}
+use Rattle.pgb_command.specs.Uses.{plan_of, uses_spool}
 use Rattle.pgb_command.specs.Did.{Acknowledges, ArePlacesOpened, Brackets, Cause, Closes, Did, HealsPairs, IsLeftStored, LastsAfter, OnLeft, OpensPlaces, SamePlaces, TakesAll}
 use Rattle.pgb_command.specs.Told.{IsCourse, IsLeft, IsOrder, leaving_of}
 use Rattle.pgb_archive.specs.Still.{IsStill}

@@ -65,7 +65,8 @@ use Rattle.pgb_command.specs.declared.fault.CommandFault.TheVariants.{Create, Pu
 use Rattle.pgb_command.specs.Answers.{status, reached_of, ending_of, is_early}
 use Rattle.pgb_command.specs.Asked.{Request, create, push, leave, drain, get, get_through, fetch_ahead, backup, backup_running, restore, report, examine, expire, rehearse, Asked, alone}
 use Rattle.pgb_command.specs.Faults.{of_halt, of_create, of_push, of_drain, of_get, of_take, lift}
-use Rattle.pgb_command.specs.Tables.{known, IsSomeDrain, TurnsTold, found_by, Promise, Lasts, plan_of, manner_of, IsCreateOf, OnReader, OnCreate, OnExpire, Expires, OnOther, FolderGoes, FolderStays, Unless, OthersGo, uses_workers, uses_clock}
+use Rattle.pgb_command.specs.Tables.{known, IsSomeDrain, TurnsTold, found_by, Promise, Lasts, manner_of, IsCreateOf, Expires, FolderGoes, OthersGo}
+use Rattle.pgb_command.specs.Uses.{plan_of, OnReader, OnCreate, OnExpire, OnOther, FolderStays, Unless, uses_workers, uses_clock}
 use Rattle.pgb_command.specs.Did.{SamePlaces, Closes, OwnCause, StaysHealed, Ran}
 use Rattle.pgb_command.proofs.Ends.{reached_same, lift_ok, lift_on, lift_err}
 use Rattle.pgb_command.proofs.OneCluster.{cluster_is}

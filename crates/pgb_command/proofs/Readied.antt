@@ -14,7 +14,8 @@ use Rattle.pgb_create.specs.declared.server.Server as code
 use Rattle.pgb_create.specs.Server.{server_view, socket_path}
 use Rattle.pgb_online.specs.Telling.{starting, stopping}
 use Rattle.pgb_command.specs.Asked.{Request, create, drain, get_through, fetch_ahead, backup, backup_running, BackupHow, FetchHow, RunningHow}
-use Rattle.pgb_command.specs.Tables.{plan_of, AsksBackup}
+use Rattle.pgb_command.specs.Tables.{AsksBackup}
+use Rattle.pgb_command.specs.Uses.{plan_of}
 
 -- a backup has its lock
 pub backup_held : (q : Request) (how : BackupHow) (stanza : Text) (taken : List Text) → q ≡ backup how → AreHeld (plan_of q) stanza taken → IsHeld (backup_lock stanza) taken

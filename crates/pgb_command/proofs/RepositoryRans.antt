@@ -38,7 +38,8 @@ use Rattle.pgb_command.specs.declared.fault.CommandFault.TheVariants.{Examine, P
 use Rattle.pgb_command.specs.Answers.{is_early, ending_of, status}
 use Rattle.pgb_command.specs.Asked.{Request, report, examine, expire, Asked}
 use Rattle.pgb_command.specs.Faults.{of_halt, of_stage, of_examine, of_prune, lift}
-use Rattle.pgb_command.specs.Tables.{known, plan_of, manner_of, Lasts, Promise, Unless, uses_clock, uses_workers}
+use Rattle.pgb_command.specs.Tables.{known, manner_of, Lasts, Promise}
+use Rattle.pgb_command.specs.Uses.{plan_of, Unless, uses_clock, uses_workers}
 use Rattle.pgb_command.specs.Did.{SamePlaces, Closes, OwnCause, StaysHealed, Ran}
 use Rattle.pgb_command.proofs.Rans.{with_request, as_ran, any_ok, on_all, all_none, never_closes, any_some, spool_kept, reading_runs, ran_of}
 

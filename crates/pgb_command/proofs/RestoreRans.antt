@@ -39,7 +39,8 @@ use Rattle.pgb_command.specs.declared.fault.CommandFault.TheVariants.{Recover}
 use Rattle.pgb_command.specs.Answers.{status, ending_of}
 use Rattle.pgb_command.specs.Asked.{restore, RestoreHow, Asked}
 use Rattle.pgb_command.specs.Faults.{of_recover, lift}
-use Rattle.pgb_command.specs.Tables.{Known, known, found_for, FolderStays}
+use Rattle.pgb_command.specs.Tables.{Known, known, found_for}
+use Rattle.pgb_command.specs.Uses.{FolderStays}
 use Rattle.pgb_command.specs.Did.{SamePlaces, Closes, StaysHealed, Ran}
 use Rattle.pgb_command.proofs.Rans.{with_request, as_ran, any_ok, on_all, both_as, never_closes, any_some, spool_kept, reading_runs, ran_of}
 

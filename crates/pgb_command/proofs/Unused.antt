@@ -9,7 +9,7 @@ use Rattle.pgb_options.specs.Commands.{IsCommand}
 use Rattle.pgb_options.specs.Settings.{Settled}
 use Rattle.pgb_stage.specs.declared.fault.Unbuilt.{Unbuilt}
 use Rattle.pgb_command.specs.Asked.{Request, Asked, expires_by, wanted_in, WordsSettle, IsAsked, MayAsk, Asks, path_in, requested, server_asked}
-use Rattle.pgb_command.specs.Tables.{uses_spool}
+use Rattle.pgb_command.specs.Uses.{uses_spool}
 use Rattle.pgb_command.proofs.AskedOnce.{ok_same, one_settling}
 
 -- what settled words ask for

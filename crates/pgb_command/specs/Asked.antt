@@ -29,7 +29,8 @@ use Rattle.pgb_stage.specs.declared.fault.Unbuilt.TheVariants.{Bundles}
 abbrev pub config_limit : ℕ
 config_limit = 2 ^ 20
 
--- The bytes of the configuration that is named, as far as the files are told: none where there is none to read, or where the usual file isn't there.
+-- The bytes of the configuration that is named, as far as the files are told: none where there is none to read, or
+-- where the usual file isn't there.
 abbrev pub MayHave : Option Content → Path → Text → Type 0
 MayHave files nowhere bytes = bytes ≡ []
 MayHave files (usual path) bytes = IfSome files (λ f. or_else [] (f path) ≡ bytes)
@@ -46,13 +47,15 @@ pub record WordsSettle (words : List Text) (files : Option Content) (read : Resu
 
 -- ---- what is asked
 
--- how a server is backed up: with how many workers, as which kind (option `type`), and whether a file is told from the prior backup's by its digest (option `delta`)
+-- how a server is backed up: with how many workers, as which kind (option `type`), and whether a file is told from the
+-- prior backup's by its digest (option `delta`)
 pub record BackupHow : Type 0 where
   pub workers : ℕ
   pub kind : Kind
   pub delta : Bool
 
--- how a running server is backed up: as a stopped one is, whether it makes its checkpoint at once (option `start-fast`), and how many turns of others are waited for at most (option `archive-timeout`)
+-- how a running server is backed up: as a stopped one is, whether it makes its checkpoint at once (option
+-- `start-fast`), and how many turns of others are waited for at most (option `archive-timeout`)
 pub record RunningHow : Type 0 where
   pub taken : BackupHow
   pub fast : Bool
@@ -64,12 +67,14 @@ pub record RestoreHow : Type 0 where
   pub delta : Bool
   pub recovery : RecoveryType
 
--- how a file is left to a drain: by which spool (option `spool-path`), and how many turns of others are waited for at most (option `archive-timeout`)
+-- how a file is left to a drain: by which spool (option `spool-path`), and how many turns of others are waited for at
+-- most (option `archive-timeout`)
 pub record LeaveHow : Type 0 where
   pub spool : Text
   pub turns : ℕ
 
--- how segments are fetched ahead: into which spool (option `spool-path`), and as many as how many bytes hold (option `archive-get-queue-max`)
+-- how segments are fetched ahead: into which spool (option `spool-path`), and as many as how many bytes hold (option
+-- `archive-get-queue-max`)
 pub record FetchHow : Type 0 where
   pub spool : Text
   pub queue : ℕ
@@ -79,7 +84,11 @@ pub record RehearseHow : Type 0 where
   pub workers : ℕ
   pub number : ℕ
 
--- which command, the file that archive-push is to store, the one that it is to leave to a drain and how, the spool of archive-push:async, the file that archive-get is to serve and where, the one that it is to serve through the spool and how others are fetched ahead, the segment behind which archive-get:async fetches and how, how a stopped server is backed up, how a running one is, the label of the backup to restore and how, the form of info's report, the rules of an expiry, and how a rehearsal is made; verify has nothing more to be told
+-- which command, the file that archive-push is to store, the one that it is to leave to a drain and how, the spool of
+-- archive-push:async, the file that archive-get is to serve and where, the one that it is to serve through the spool
+-- and how others are fetched ahead, the segment behind which archive-get:async fetches and how, how a stopped server is
+-- backed up, how a running one is, the label of the backup to restore and how, the form of info's report, the rules of
+-- an expiry, and how a rehearsal is made; verify has nothing more to be told
 pub data Request : Type 0 where
   create : Request
   push : (path : Text) → Request
@@ -142,7 +151,8 @@ how_by m = record { workers = m.workers; kind = kind_by m.kind; delta = m.delta 
 
 -- of a running server or of a stopped one
 abbrev pub taken_by : Wanted → Request
-taken_by m = if m.online then backup_running (record { taken = how_by m; fast = m.fast; turns = m.turns }) else backup (how_by m)
+taken_by m = if m.online then backup_running (record { taken = how_by m; fast = m.fast; turns = m.turns }) else backup
+    (how_by m)
 
 -- a backup with nothing more; or what of it isn't built
 abbrev pub backup_by : Wanted → Result Request Unbuilt
@@ -154,7 +164,8 @@ recovery_for Default config = ToTheEnd config
 recovery_for Plain config = Without
 
 abbrev pub restore_by : Wanted → Request
-restore_by m = restore m.set (record { workers = m.workers; delta = m.delta; recovery = recovery_for m.recovery m.config })
+restore_by m = restore m.set (record
+    { workers = m.workers; delta = m.delta; recovery = recovery_for m.recovery m.config })
 
 -- what a verb asks for, in this manner and with its parameters; or what isn't built
 abbrev pub request_by : Verb → Wanted → List Text → Result Request Unbuilt
@@ -211,7 +222,12 @@ requested s = request_by s.source.verb (wanted_in s.source) s.parameters
 
 -- the server of the source
 abbrev pub server_in : Source → Server
-server_in source = record { folder = path_in source Pg1SocketPath; port = or_else 0 (number_in (value source Pg1Port)); user = path_in source Pg1User; database = path_in source Pg1Database }
+server_in source = record {
+  folder = path_in source Pg1SocketPath;
+  port = or_else 0 (number_in (value source Pg1Port));
+  user = path_in source Pg1User;
+  database = path_in source Pg1Database;
+}
 
 -- stanza-create and backup ask it, where they are online
 abbrev pub server_by : Verb → Bool → Server → Option Server
@@ -232,7 +248,8 @@ behind_backup request rules = None
 abbrev pub expires_by : Request → Wanted → Option Rules
 expires_by request m = behind_backup request (if m.expires then Some m.rules else None)
 
--- what a command is told: the stanza, the data folder, the repository's folder and that of the locks, the server that it asks, what it is to do, and the rules of the expiry that follows, where one does
+-- what a command is told: the stanza, the data folder, the repository's folder and that of the locks, the server that
+-- it asks, what it is to do, and the rules of the expiry that follows, where one does
 pub record Asked : Type 0 where
   pub stanza : Text
   pub data_folder : Text
@@ -242,15 +259,20 @@ pub record Asked : Type 0 where
   pub request : Request
   pub expires : Option Rules
 
--- The words with which a drain is started: archive-push:async of the same stanza at the same places, whatever a configuration says.
+-- The words with which a drain is started: archive-push:async of the same stanza at the same places, whatever a
+-- configuration says.
 abbrev pub drain_words : Asked → Text → List Text
-drain_words a spool = codes "--no-config" ∷ (codes "--stanza=" ++ a.stanza) ∷ (codes "--pg1-path=" ++ a.data_folder) ∷ (codes "--repo1-path=" ++ a.repository)
+drain_words a spool = codes "--no-config" ∷ (codes "--stanza=" ++ a.stanza) ∷ (codes "--pg1-path=" ++ a.data_folder)
+    ∷ (codes "--repo1-path=" ++ a.repository)
     ∷ (codes "--lock-path=" ++ a.lock_folder) ∷ (codes "--spool-path=" ++ spool) ∷ codes "archive-push:async" ∷ []
 
--- The words with which a fetch is started: archive-get:async of the segment of this name, of the same stanza at the same places, whatever a configuration says. It takes no lock, so none is named.
+-- The words with which a fetch is started: archive-get:async of the segment of this name, of the same stanza at the
+-- same places, whatever a configuration says. It takes no lock, so none is named.
 abbrev pub fetch_words : Asked → Text → FetchHow → List Text
-fetch_words a name how = codes "--no-config" ∷ (codes "--stanza=" ++ a.stanza) ∷ (codes "--pg1-path=" ++ a.data_folder) ∷ (codes "--repo1-path=" ++ a.repository)
-    ∷ (codes "--spool-path=" ++ how.spool) ∷ (codes "--archive-get-queue-max=" ++ decimal how.queue) ∷ codes "archive-get:async" ∷ name ∷ []
+fetch_words a name how = codes "--no-config" ∷ (codes "--stanza=" ++ a.stanza) ∷ (codes "--pg1-path=" ++ a.data_folder)
+    ∷ (codes "--repo1-path=" ++ a.repository)
+    ∷ (codes "--spool-path=" ++ how.spool) ∷ (codes "--archive-get-queue-max=" ++ decimal how.queue)
+    ∷ codes "archive-get:async" ∷ name ∷ []
 
 -- the command's own part, without the expiry that follows
 abbrev pub alone : Asked → Asked

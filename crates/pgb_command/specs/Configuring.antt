@@ -22,7 +22,8 @@ IsPathOf (named text) path = path ≡ text
 -- a file at this path is too long, or its source failed
 abbrev pub SourceCause : Text → ℕ → Option Content → Type 0 → Fault → Type 0
 SourceCause path limit files rose (Usage usage) = ⊥
-SourceCause path limit files rose (Stage (ConfigLong name most)) = (string_bytes name ≡ path) × (most ≡ limit) × IfSome files (λ f. IsSomeAnd (f path) (λ b. limit < length b))
+SourceCause path limit files rose (Stage (ConfigLong name most)) = (string_bytes name ≡ path) × (most ≡ limit)
+    × IfSome files (λ f. IsSomeAnd (f path) (λ b. limit < length b))
 SourceCause path limit files rose (Stage other) = ⊥
 SourceCause path limit files rose (Command fault) = ⊥
 SourceCause path limit files rose (Behind lines fault) = ⊥
@@ -31,13 +32,17 @@ SourceCause path limit files rose NoMemory = Unit {0}
 
 -- a configuration that is named isn't there, or one that is read is too long
 abbrev pub FileCause : List Text → Option Content → StageFault → Type 0
-FileCause words files (ConfigMissing path) = (path_of_words words ≡ Ok (named (string_bytes path))) × IfSome files (λ f. f (string_bytes path) ≡ None)
-FileCause words files (ConfigLong path most) = (p : Path) × (path_of_words words ≡ Ok p) × IsPathOf p (string_bytes path) × (most ≡ config_limit) × IfSome files (λ f. IsSomeAnd (f (string_bytes path)) (λ b. config_limit < length b))
+FileCause words files (ConfigMissing path) = (path_of_words words ≡ Ok (named (string_bytes path)))
+    × IfSome files (λ f. f (string_bytes path) ≡ None)
+FileCause words files (ConfigLong path most) = (p : Path) × (path_of_words words ≡ Ok p)
+    × IsPathOf p (string_bytes path) × (most ≡ config_limit)
+    × IfSome files (λ f. IsSomeAnd (f (string_bytes path)) (λ b. config_limit < length b))
 FileCause words files other = ⊥
 
 -- what the words say of the configuration is refused, or what the two settle is, or the configuration can't be had
 abbrev pub ConfigCause : List Text → Option Content → Type 0 → Fault → Type 0
-ConfigCause words files rose (Usage usage) = Fails usage (path_of_words words) ⊎ ((read : Result Settled Refusal) × WordsSettle words files read × Fails usage read)
+ConfigCause words files rose (Usage usage) = Fails usage (path_of_words words)
+    ⊎ ((read : Result Settled Refusal) × WordsSettle words files read × Fails usage read)
 ConfigCause words files rose (Stage fault) = FileCause words files fault
 ConfigCause words files rose (Command fault) = ⊥
 ConfigCause words files rose (Behind lines fault) = ⊥

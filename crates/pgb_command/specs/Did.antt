@@ -42,7 +42,8 @@ use Rattle.pgb_command.specs.declared.fault.Fault.{Fault}
 use Rattle.pgb_command.specs.declared.fault.Fault.TheVariants.{Usage, Stage, Command, Behind, Failed as ObjectFailed, NoMemory}
 use Rattle.pgb_command.specs.Answers.{status, reached_of, ending_of}
 use Rattle.pgb_command.specs.Asked.{Request, leave, Asked}
-use Rattle.pgb_command.specs.Tables.{Known, known, plan_of, spool_of, manner_of, WordsFit, CommandCause, IsBackedUp, Promise, Lasts, OnReader, OnCreate, OnExpire, Expires, OnOther, FolderGoes, FolderStays, Unless, TurnsTold, OthersGo, uses_workers, uses_clock}
+use Rattle.pgb_command.specs.Tables.{Known, known, manner_of, WordsFit, CommandCause, IsBackedUp, Promise, Lasts, Expires, FolderGoes, TurnsTold, OthersGo}
+use Rattle.pgb_command.specs.Uses.{plan_of, spool_of, OnReader, OnCreate, OnExpire, OnOther, FolderStays, Unless, uses_workers, uses_clock}
 
 -- ---- what stays
 
@@ -51,13 +52,21 @@ abbrev pub IsTaken : OnlineTakeFault → Type 0
 IsTaken (TakeFault fault) = Unit {0}
 IsTaken other = ⊥
 
--- a talk that was ended by the server's answer, or by another refusal of a running server's backup, was ended with the last message too, unless the connection failed
+-- a talk that was ended by the server's answer, or by another refusal of a running server's backup, was ended with the
+-- last message too, unless the connection failed
 abbrev pub Closes : Seen → Seen → Fault → Type 0
-Closes before after (Command (Create fault)) = CreateCloses (Failed before after Server) after.server.sent (Refused fault)
-Closes before after (Command (TakeOnline fault)) = (IsTaken fault × (after.server ≡ before.server)) ⊎ (Ended after.server.sent ⊎ Failed before after Server)
+Closes before after (Command (Create fault)) =
+    CreateCloses (Failed before after Server) after.server.sent (Refused fault)
+Closes before after (Command (TakeOnline fault)) = (IsTaken fault × (after.server ≡ before.server))
+    ⊎ (Ended after.server.sent ⊎ Failed before after Server)
 Closes before after other = Unit {0}
 
--- What a command leaves as it was: of the repository all where it only reads, of the data folder all but a file that is served, the server where it asks none, other processes where it waits for none of their turns, but that one is started at most where a segment is served through the spool, and the workers and the clock where it doesn't use them. Refused before its first step it has changed no file of the data folder, unless it is a restore that has started workers, and stanza-create none of the repository. Whatever it is, it keeps to its stanza, where what others did meanwhile is told, stanza-create to the members of its two pairs, and expire to what it may change.
+-- What a command leaves as it was: of the repository all where it only reads, of the data folder all but a file that is
+-- served, the server where it asks none, other processes where it waits for none of their turns, but that one is
+-- started at most where a segment is served through the spool, and the workers and the clock where it doesn't use them.
+-- Refused before its first step it has changed no file of the data folder, unless it is a restore that has started
+-- workers, and stanza-create none of the repository. Whatever it is, it keeps to its stanza, where what others did
+-- meanwhile is told, stanza-create to the members of its two pairs, and expire to what it may change.
 pub record Spares (a : Asked) (before after : Seen) (result : Result Outcome Fault) : Type 0 where
   pub beside : TurnsTold a a.request (known after) → StaysBeside a.stanza before.repo.view after.repo.view
   pub spool : TurnsTold a a.request (known after) → StaysBeside a.stanza before.spool.view after.spool.view
@@ -65,7 +74,8 @@ pub record Spares (a : Asked) (before after : Seen) (result : Result Outcome Fau
   pub expires : OnExpire a.request (λ rules. Expires a.stanza rules before.clock.least before.repo.view after.repo.view)
   pub reads : OnReader a.request (IsStill before.repo.view after.repo.view)
   pub folder : FolderGoes a a.request (known before) after.tree.nodes
-  pub nodes : OnNone (reached_of (ending_of result)) (FolderStays a.request (status (ending_of result)) (after.tree.nodes ≡ before.tree.nodes))
+  pub nodes : OnNone (reached_of (ending_of result))
+      (FolderStays a.request (status (ending_of result)) (after.tree.nodes ≡ before.tree.nodes))
   pub unmade : OnCreate a.request (OnNone (reached_of (ending_of result)) (after.repo.view.now ≡ before.repo.view.now))
   pub quiet : a.server ≡ None → after.server ≡ before.server
   pub others : OnOther a.request (after.server ≡ before.server)
@@ -97,26 +107,34 @@ pub record SamePlaces (before after : Seen) : Type 0 where
 
 -- A backup was made, with its lines, and the expiry that follows it ended for this.
 abbrev pub EndsBehind : Asked → Known → Known → Type 0 → Type 0 → String Global → BehindFault → Type 0
-EndsBehind a old new repo_rose clock_rose lines fault = (repo : Option Content) × IsBackedUp a a.request old new repo (Finished lines) × BehindCause a.stanza repo repo_rose clock_rose fault
+EndsBehind a old new repo_rose clock_rose lines fault = (repo : Option Content)
+    × IsBackedUp a a.request old new repo (Finished lines) × BehindCause a.stanza repo repo_rose clock_rose fault
 
 -- why it ends without its result
 abbrev pub OwnCause : Asked → Seen → Seen → Fault → Type 0
 OwnCause a before after (Usage usage) = ⊥
 OwnCause a before after (Stage fault) = ⊥
 OwnCause a before after (Command fault) = CommandCause a a.request (known before) (known after) fault
-OwnCause a before after (Behind lines fault) = EndsBehind a (known before) (known after) (Failed before after Repo) (Failed before after TheClock) lines fault
+OwnCause a before after (Behind lines fault) =
+    EndsBehind a (known before) (known after) (Failed before after Repo) (Failed before after TheClock) lines fault
 OwnCause a before after (ObjectFailed object) = Failed before after object
 OwnCause a before after NoMemory = Unit {0}
 
 -- the pairs that the command heals agree still, and no stop takes a member of them away
 pub record StaysHealed (a : Asked) (before after : Seen) : Type 0 where
-  pub agree : IsSome before.repo.view.now → IfSome before.repo.view.now (AreHealed (plan_of a.request).pairs a.stanza) → IfSome after.repo.view.now (AreHealed (plan_of a.request).pairs a.stanza)
-  pub lasts : IsTight a.stanza before.repo.view → IsSome before.repo.view.now → HealsToLast (plan_of a.request).pairs a.stanza before.repo.view → HealsToLast (plan_of a.request).pairs a.stanza after.repo.view
+  pub agree : IsSome before.repo.view.now → IfSome before.repo.view.now (AreHealed (plan_of a.request).pairs a.stanza)
+      → IfSome after.repo.view.now (AreHealed (plan_of a.request).pairs a.stanza)
+  pub lasts : IsTight a.stanza before.repo.view → IsSome before.repo.view.now
+      → HealsToLast (plan_of a.request).pairs a.stanza before.repo.view
+      → HealsToLast (plan_of a.request).pairs a.stanza after.repo.view
 
 pub record Ran (a : Asked) (before after : Seen) (result : Result Outcome Fault) : Type 0 where
-  pub steps : On (manner_of a a.request (known before) (known after)) (λ command. Runs (plan_of a.request).settling a.stanza command (reached_of (ending_of result)) before.repo.view before.spool.view after.repo.view after.spool.view)
+  pub steps : On (manner_of a a.request (known before) (known after))
+      (λ command. Runs (plan_of a.request).settling a.stanza command (reached_of (ending_of result)) before.repo.view
+      before.spool.view after.repo.view after.spool.view)
   pub promise : IfOk result (Promise a a.request (known before) (known after))
-  pub lasts : IfOk result (λ outcome. IsLookedAt a.stanza before.repo.view → Lasts a a.request before.tree.nodes after.repo.view after.tree.nodes outcome)
+  pub lasts : IfOk result (λ outcome. IsLookedAt a.stanza before.repo.view
+      → Lasts a a.request before.tree.nodes after.repo.view after.tree.nodes outcome)
   pub cause : IfErr result (OwnCause a before after)
   pub healed : OnOk result (StaysHealed a before after)
   pub spares : Spares a before after result
@@ -131,14 +149,17 @@ IsBehind lines P (Behind told fault) = (string_bytes told ≡ lines) × P fault
 IsBehind lines P other = ⊥
 
 -- What an expiry did behind a backup that ended with these lines.
-pub record Followed (stanza : Text) (rules : Rules) (before after : Seen) (lines : Text) (result : Result Outcome Fault) : Type 0 where
+pub record Followed (stanza : Text) (rules : Rules) (before after : Seen) (lines : Text)
+    (result : Result Outcome Fault) : Type 0 where
   pub moment : ℕ
   pub may_be : IsMoment rules.full before.clock.least moment
   pub part : DoesPart Whole stanza (Expire (retention rules moment)) before.repo.view after.repo.view
   pub whole : OnOk result (DoesWhole Whole stanza (Expire (retention rules moment)) before.repo.view after.repo.view)
   pub told : OnOk result (WasTold rules.full after.clock moment)
-  pub adds : IfOk result (λ outcome. OnFinished outcome (AddsLines stanza rules moment before.repo.view.now after.repo.view.now lines))
-  pub cause : IfErr result (IsBehind lines (BehindCause stanza before.repo.view.now (Failed before after Repo) (Failed before after TheClock)))
+  pub adds : IfOk result (λ outcome. OnFinished outcome
+      (AddsLines stanza rules moment before.repo.view.now after.repo.view.now lines))
+  pub cause : IfErr result (IsBehind lines
+      (BehindCause stanza before.repo.view.now (Failed before after Repo) (Failed before after TheClock)))
   pub beside : StaysBeside stanza before.repo.view after.repo.view
   pub places : SamePlaces before after
   pub later : AreLater before after
@@ -161,15 +182,18 @@ WordsCause a other = ⊥
 
 -- a refusal is of the command's words, and nothing was done, not even a place opened; or it comes behind words that fit
 abbrev pub ComesBehind : Asked → Seen → Seen → Result Outcome Fault → Type 0
-ComesBehind a before after result = IfErr result (λ fault. (WordsCause a fault × IsIdle before after) ⊎ WordsFit a a.request)
+ComesBehind a before after result = IfErr result
+    (λ fault. (WordsCause a fault × IsIdle before after) ⊎ WordsFit a a.request)
 
 -- ---- a file that is left to a drain
 
--- A file of the log is stored that has these bytes: a drain has stored a file of its name with their sum, before the command or in one of the turns that it waited, and what a turn stored is in all that a crash leaves.
+-- A file of the log is stored that has these bytes: a drain has stored a file of its name with their sum, before the
+-- command or in one of the turns that it waited, and what a turn stored is in all that a crash leaves.
 pub record IsLeftStored (a : Asked) (path : Text) (before after : Seen) : Type 0 where
   pub name : ArchiveName
   pub named : IsWalPath a.data_folder path name
-  pub stored : IfSome (told_file before.tree.nodes (wal_path (wal_text name))) (λ bytes. IfSome after.others.account (λ k. k.stanza ≡ a.stanza
+  pub stored : IfSome (told_file before.tree.nodes (wal_path (wal_text name)))
+      (λ bytes. IfSome after.others.account (λ k. k.stanza ≡ a.stanza
       → IsAcknowledged name (sha1 bytes) before.others.account k before.repo.view after.repo.view before.spool.view))
 
 -- this holds of a command that left a file to a drain
@@ -183,16 +207,21 @@ Acknowledges a before after = OnLeft a.request (λ path. IsLeftStored a path bef
 
 -- ---- all of it
 
--- this holds of what the objects held as the command's own part began: of the repository what it holds now, but that the archive pair was healed where the command heals it
+-- this holds of what the objects held as the command's own part began: of the repository what it holds now, but that
+-- the archive pair was healed where the command heals it
 abbrev pub OnReady : Asked → Known → (Known → Type 0) → Type 0
-OnReady a old P = (repo : Option Content) × Heals (plan_of a.request).pairs a.stanza old.repo repo × P (record old { repo = repo })
+OnReady a old P = (repo : Option Content) × Heals (plan_of a.request).pairs a.stanza old.repo repo
+    × P (record old { repo = repo })
 
 -- why it ends without its result
 abbrev pub Cause : Asked → Seen → Seen → Fault → Type 0
 Cause a before after (Usage usage) = ⊥
 Cause a before after (Stage fault) = StageCause (plan_of a.request) a.stanza before after fault
-Cause a before after (Command fault) = WordsCause a (Command fault) ⊎ OnReady a (known before) (λ old. CommandCause a a.request old (known after) fault)
-Cause a before after (Behind lines fault) = OnReady a (known before) (λ old. EndsBehind a old (known after) (Failed before after Repo) (Failed before after TheClock) lines fault)
+Cause a before after (Command fault) = WordsCause a (Command fault)
+    ⊎ OnReady a (known before) (λ old. CommandCause a a.request old (known after) fault)
+Cause a before after (Behind lines fault) =
+    OnReady a (known before) (λ old. EndsBehind a old (known after) (Failed before after Repo)
+    (Failed before after TheClock) lines fault)
 Cause a before after (ObjectFailed object) = Failed before after object
 Cause a before after NoMemory = Unit {0}
 
@@ -233,19 +262,25 @@ TakesAll a before after = TakesLocks (plan_of a.request) a.lock_folder a.stanza 
 -- Without its locks nothing is done: all were taken, or at most the first one was, and the disk is as before.
 abbrev pub OnlyLocked : Asked → Seen → Seen → Type 0
 OnlyLocked a before after = TakesAll a before after
-    ⊎ (MayTake (plan_of a.request) a.lock_folder a.stanza before.locks.took after.locks.took × IsStill before.repo.view after.repo.view)
+    ⊎ (MayTake (plan_of a.request) a.lock_folder a.stanza before.locks.took after.locks.took
+    × IsStill before.repo.view after.repo.view)
 
 -- where a log is kept, the answer holds of all that a crash leaves
 abbrev pub LastsAfter : Asked → Seen → Seen → Outcome → Type 0
-LastsAfter a before after outcome = (q : Repository) (log : List Done) → IsSome before.repo.view.now → KeepsRepository a.stanza q log before.repo.view → Lasts a a.request before.tree.nodes after.repo.view after.tree.nodes outcome
+LastsAfter a before after outcome = (q : Repository) (log : List Done) → IsSome before.repo.view.now
+    → KeepsRepository a.stanza q log before.repo.view
+    → Lasts a a.request before.tree.nodes after.repo.view after.tree.nodes outcome
 
 -- the pairs that the command heals agree, and where a log is kept no stop takes a member of them away
 pub record HealsPairs (a : Asked) (before after : Seen) : Type 0 where
   pub agree : IsSome before.repo.view.now → IfSome after.repo.view.now (AreHealed (plan_of a.request).pairs a.stanza)
-  pub lasts : (q : Repository) (log : List Done) → IsSome before.repo.view.now → KeepsRepository a.stanza q log before.repo.view → HealsToLast (plan_of a.request).pairs a.stanza after.repo.view
+  pub lasts : (q : Repository) (log : List Done) → IsSome before.repo.view.now
+      → KeepsRepository a.stanza q log before.repo.view → HealsToLast (plan_of a.request).pairs a.stanza after.repo.view
 
 pub record Did (a : Asked) (before after : Seen) (result : Result Outcome Fault) : Type 0 where
-  pub steps : On (manner_of a a.request (known before) (known after)) (λ command. Takes (plan_of a.request).settling a.stanza command (reached_of (ending_of result)) before.repo.view before.spool.view after.repo.view after.spool.view)
+  pub steps : On (manner_of a a.request (known before) (known after))
+      (λ command. Takes (plan_of a.request).settling a.stanza command (reached_of (ending_of result)) before.repo.view
+      before.spool.view after.repo.view after.spool.view)
   pub promise : IfOk result (λ outcome. OnReady a (known before) (λ old. Promise a a.request old (known after) outcome))
   pub lasts : IfOk result (LastsAfter a before after)
   pub cause : IfErr result (Cause a before after)

@@ -6,6 +6,7 @@ pub mod Output
 pub mod Serving
 pub mod Kept
 pub mod Told
+pub mod Uses
 pub mod Tables
 pub mod Did
 pub mod Causes

@@ -10,9 +10,12 @@ pub record IsFrontWritten (old : Option Text) (bytes : Text) (new : Option Text)
   pub count : ℕ
   pub is : new ≡ option_map (λ (text : Text). text ++ take count bytes) old
 
--- How an answer may end where it is told: as it does, with its own lines; or the sink failed behind a first part of these, or memory did; or there was no memory for the lines.
+-- How an answer may end where it is told: as it does, with its own lines; or the sink failed behind a first part of
+-- these, or memory did; or there was no memory for the lines.
 pub data IsTold (old : Option Text) (answer : Answer) (new : Option Text) (rose : Type 0) : Ending → Type 0 where
-  Whole : (ending : Ending) → ending ≡ answer.ending → new ≡ option_map (λ (text : Text). text ++ lines_of answer) old → IsTold old answer new rose ending
+  Whole : (ending : Ending) → ending ≡ answer.ending → new ≡ option_map (λ (text : Text). text ++ lines_of answer) old
+      → IsTold old answer new rose ending
   Cut : rose → IsFrontWritten old (lines_of answer) new → IsTold old answer new rose (refused (Failed Output))
-  Starved : (lines : Text) → (lines ≡ lines_of answer) ⊎ (lines ≡ error_line NoMemory) → IsFrontWritten old lines new → IsTold old answer new rose (refused NoMemory)
+  Starved : (lines : Text) → (lines ≡ lines_of answer) ⊎ (lines ≡ error_line NoMemory) → IsFrontWritten old lines new
+      → IsTold old answer new rose (refused NoMemory)
   Wordless : rose → IsFrontWritten old (error_line NoMemory) new → IsTold old answer new rose (refused (Failed Output))

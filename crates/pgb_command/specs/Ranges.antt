@@ -16,7 +16,7 @@ use Rattle.pgb_prepare.specs.Taking.{HoldsOnly}
 use Rattle.pgb_command.specs.declared.order.Order.{Order}
 use Rattle.pgb_command.specs.declared.settings.Settings.{Settings}
 use Rattle.pgb_command.specs.Asked.{Request, Asked, Asks, MayAsk, requested}
-use Rattle.pgb_command.specs.Tables.{OnBackup, plan_of, uses_spool, uses_workers, is_on_repository}
+use Rattle.pgb_command.specs.Uses.{OnBackup, plan_of, uses_spool, uses_workers, is_on_repository}
 use Rattle.pgb_command.specs.Told.{request_of, asked_of, IsOrder}
 
 -- ---- what a request has no use for
@@ -49,12 +49,14 @@ OnSettled told P command old new result = (s : Settled) → IsCommand command s 
 
 -- where it asks for something of this kind, this holds
 abbrev pub WhereSettled : Command → (Request → Type 0) → Type 0 → Type 0
-WhereSettled command P Q = (s : Settled) → IsCommand command s → (request : Request) → requested s ≡ Ok request → P request → Q
+WhereSettled command P Q = (s : Settled) → IsCommand command s → (request : Request) → requested s ≡ Ok request
+    → P request → Q
 
 -- ---- the commands that the words ask for
 
 -- the words have this, between what the objects told before and what they tell behind it
-abbrev pub OnWords : {W : Type 0} → (W → Seen) → (List Text → Seen → Seen → ℕ → Type 0) → List (String Global) → W → W → ℕ → Type 0
+abbrev pub OnWords : {W : Type 0} → (W → Seen) → (List Text → Seen → Seen → ℕ → Type 0) → List (String Global) → W → W
+    → ℕ → Type 0
 OnWords told P words old new result = P (map string_bytes words) (told old) (told new) result
 
 -- each that they ask for has this
@@ -92,7 +94,8 @@ abbrev pub OnAsked : {W R : Type 0} → (W → Seen) → (Asked → Seen → See
 OnAsked told P s old new result = P (asked_of s) (told old) (told new) result
 
 -- of what they ask, where the result is Ok
-abbrev pub AtOk : {W R E : Type 0} → (W → Seen) → (Asked → Seen → Seen → Type 0) → Settings → W → W → Result R E → Type 0
+abbrev pub AtOk : {W R E : Type 0} → (W → Seen) → (Asked → Seen → Seen → Type 0) → Settings → W → W → Result R E
+    → Type 0
 AtOk told P s old new result = OnOk result (P (asked_of s) (told old) (told new))
 
 -- the locks are held that the settings' request needs

@@ -1,5 +1,5 @@
 -- The tables of the commands: a line for each in each.
-use Rattle.std.specs.Prelude.{◌≡◌, ◌≢◌, ◌⊎◌, ◌++◌, ℕ, take, Bool, true, false, List, [], Option, None, Some, String, option_map, string_bytes, IfSome, IsSome, IsSomeAnd}
+use Rattle.std.specs.Prelude.{◌≡◌, ◌⊎◌, ◌++◌, ℕ, take, Bool, List, [], Option, None, Some, String, option_map, string_bytes, IfSome, IsSome, IsSomeAnd}
 use Rattle.std.specs.declared.alloc.Global.{Global}
 use Rattle.pgb_outside.specs.Content.{Content}
 use Rattle.pgb_outside.specs.Crash.{Leaves}
@@ -17,9 +17,6 @@ use Rattle.pgb_model.specs.Repository.{Backup, Stanza}
 use Rattle.pgb_model.specs.Steps.{Command, StanzaCreate, Reading}
 use Rattle.pgb_model.specs.Now.{NowStands}
 use Rattle.pgb_stanza.specs.declared.control.Control.{Control}
-use Rattle.pgb_stage.specs.declared.plan.Plan.{Plan}
-use Rattle.pgb_stage.specs.declared.plan.Settling.TheVariants.{Whole, Looked}
-use Rattle.pgb_stage.specs.declared.plan.Pairs.TheVariants.{Unread, ReadArchive, HealArchive, ReadBoth}
 use Rattle.pgb_stage.specs.declared.outcome.Outcome.{Outcome}
 use Rattle.pgb_stage.specs.declared.outcome.Outcome.TheVariants.{Finished}
 use Rattle.pgb_stage.specs.Cluster.{FolderTells, IsClusterOf}
@@ -78,7 +75,7 @@ use Rattle.pgb_sample_folder.specs.Having.{IsEmpty}
 use Rattle.pgb_rehearse.specs.Causes.{RehearseCause}
 use Rattle.pgb_rehearse.specs.Commands.{IsRehearsal}
 use Rattle.pgb_rehearse.specs.Rehearsing.{IsRehearsed}
-use Rattle.pgb_prune.specs.Pruning.{counts_days, IsMoment, TellsMoment, IsExpiryBy, IsPruned}
+use Rattle.pgb_prune.specs.Pruning.{IsMoment, TellsMoment, IsExpiryBy, IsPruned}
 use Rattle.pgb_command.specs.declared.fault.CommandFault.{CommandFault}
 use Rattle.pgb_command.specs.declared.fault.CommandFault.TheVariants.{Create, Push, Leave, Drain, Get, Take, TakeOnline, Recover, Examine, Prune, Rehearse}
 use Rattle.pgb_command.specs.Asked.{Request, create, push, leave, drain, get, get_through, fetch_ahead, backup, backup_running, restore, report, examine, expire, rehearse, BackupHow, RunningHow, RestoreHow, LeaveHow, FetchHow, Asked, drain_words, fetch_words}
@@ -95,32 +92,15 @@ pub record Known : Type 0 where
   pub links : List LinkState
 
 abbrev pub known : Seen → Known
-known s = record { repo = s.repo.view.now; spool = s.spool.view.now; nodes = s.tree.nodes; server = s.server; others = s.others; clock = s.clock; links = s.links }
-
--- what a command needs of the stages: names settled, places, locks, the control file, and the pairs
-abbrev pub plan_of : Request → Plan
-plan_of create = record { settling = Whole; folder = true; backup_lock = true; archive_lock = true; control = true; pairs = Unread }
-plan_of (push path) = record { settling = Looked; folder = true; backup_lock = false; archive_lock = true; control = true; pairs = HealArchive }
-plan_of (leave path how) = record { settling = Looked; folder = true; backup_lock = false; archive_lock = false; control = false; pairs = Unread }
-plan_of (drain place) = record { settling = Whole; folder = true; backup_lock = false; archive_lock = true; control = true; pairs = HealArchive }
-plan_of (get name path) = record { settling = Looked; folder = true; backup_lock = false; archive_lock = false; control = true; pairs = ReadArchive }
-plan_of (get_through name path how) = record { settling = Looked; folder = true; backup_lock = false; archive_lock = false; control = true; pairs = ReadArchive }
-plan_of (fetch_ahead name how) = record { settling = Looked; folder = true; backup_lock = false; archive_lock = false; control = true; pairs = ReadArchive }
-plan_of (backup how) = record { settling = Whole; folder = true; backup_lock = true; archive_lock = false; control = true; pairs = ReadBoth }
-plan_of (backup_running how) = record { settling = Whole; folder = true; backup_lock = true; archive_lock = false; control = true; pairs = ReadBoth }
-plan_of (restore set how) = record { settling = Whole; folder = true; backup_lock = false; archive_lock = false; control = false; pairs = ReadBoth }
-plan_of (report form) = record { settling = Whole; folder = false; backup_lock = false; archive_lock = false; control = false; pairs = ReadBoth }
-plan_of examine = record { settling = Whole; folder = false; backup_lock = false; archive_lock = false; control = false; pairs = ReadBoth }
-plan_of (expire rules) = record { settling = Whole; folder = false; backup_lock = true; archive_lock = false; control = false; pairs = ReadBoth }
-plan_of (rehearse how) = record { settling = Whole; folder = true; backup_lock = true; archive_lock = true; control = false; pairs = Unread }
-
--- the spool that is opened, where one is
-abbrev pub spool_of : Request → Option Text
-spool_of (leave path how) = Some how.spool
-spool_of (drain place) = Some place
-spool_of (get_through name path how) = Some how.spool
-spool_of (fetch_ahead name how) = Some how.spool
-spool_of request = None
+known s = record {
+  repo = s.repo.view.now;
+  spool = s.spool.view.now;
+  nodes = s.tree.nodes;
+  server = s.server;
+  others = s.others;
+  clock = s.clock;
+  links = s.links;
+}
 
 -- stanza-create of the cluster that the folder tells, where it tells one
 abbrev pub IsCreateOf : Nodes → Command → Type 0
@@ -138,14 +118,19 @@ TurnsTold a request new = Unit {0}
 
 -- the server of the folder's cluster told this label file
 abbrev pub TellsLabel : Known → Known → Text → Type 0
-TellsLabel old new text = OnCluster old.nodes (λ told. IsLabelTold told.system old.server.pending new.server.pending (Some text))
+TellsLabel old new text = OnCluster old.nodes
+    (λ told. IsLabelTold told.system old.server.pending new.server.pending (Some text))
 
--- Others took these turns, and the command is the backup of this kind of what the links read, behind these turns, with the label file that the server told.
+-- Others took these turns, and the command is the backup of this kind of what the links read, behind these turns, with
+-- the label file that the server told.
 abbrev pub IsRunningOf : Asked → RunningHow → Known → Known → Command → Type 0
-IsRunningOf a how old new command = IsSomeAnd new.others.account (λ k. (turned : List Turned) × TakesTurns turned old.others.account k
-    × (label : Option Text) × IfSome label (TellsLabel old new) × IsOnlineBy how.taken.kind (take how.taken.workers old.links) (turns_of turned) label a.stanza old.repo command)
+IsRunningOf a how old new command = IsSomeAnd new.others.account
+    (λ k. (turned : List Turned) × TakesTurns turned old.others.account k
+    × (label : Option Text) × IfSome label (TellsLabel old new)
+    × IsOnlineBy how.taken.kind (take how.taken.workers old.links) (turns_of turned) label a.stanza old.repo command)
 
--- a command of this kind, with the expiry behind it by these rules, where one follows; least is the least second that the clock may tell as the backup begins
+-- a command of this kind, with the expiry behind it by these rules, where one follows; least is the least second that
+-- the clock may tell as the backup begins
 abbrev pub WithExpiry : Option Rules → ℕ → (Command → Type 0) → Command → Type 0
 WithExpiry rules least Is command = (made : Command) × Is made × IsFollowed rules least made command
 
@@ -162,12 +147,15 @@ abbrev pub manner_of : Asked → Request → Known → Known → Manner
 manner_of a create old new = each (λ command. IsSomeAnd old.nodes (λ f. IsCreateOf f command))
 manner_of a (push path) old new = each (λ command. IsSomeAnd old.nodes (λ f. IsPushOf f a.data_folder path command))
 manner_of a (leave path how) old new = provided (TurnsTold a (leave path how) new) (IsWait old new)
-manner_of a (drain place) old new = provided (IsSome old.nodes) (λ command. IsSomeAnd old.nodes (λ f. IsSomeDrain f command))
+manner_of a (drain place) old new = provided (IsSome old.nodes)
+    (λ command. IsSomeAnd old.nodes (λ f. IsSomeDrain f command))
 manner_of a (get name path) old new = each (λ command. command ≡ Reading)
 manner_of a (get_through name path how) old new = each (λ command. command ≡ Reading)
 manner_of a (fetch_ahead name how) old new = each (λ command. command ≡ Reading)
-manner_of a (backup how) old new = one (WithExpiry a.expires old.clock.least (IsBackupBy how.kind (take how.workers old.links) a.stanza old.repo))
-manner_of a (backup_running how) old new = provided (TurnsTold a (backup_running how) new) (WithExpiry a.expires old.clock.least (IsRunningOf a how old new))
+manner_of a (backup how) old new = one
+    (WithExpiry a.expires old.clock.least (IsBackupBy how.kind (take how.workers old.links) a.stanza old.repo))
+manner_of a (backup_running how) old new =
+    provided (TurnsTold a (backup_running how) new) (WithExpiry a.expires old.clock.least (IsRunningOf a how old new))
 manner_of a (restore set how) old new = each (λ command. command ≡ Reading)
 manner_of a (report form) old new = each (λ command. command ≡ Reading)
 manner_of a examine old new = each (λ command. command ≡ Reading)
@@ -193,7 +181,14 @@ WordsFit a (rehearse how) = Unit {0}
 
 -- what a backup finds as its own part begins
 abbrev pub found_by : Asked → ℕ → Known → Control → Before
-found_by a workers old told = record { stanza = a.stanza; told = told; repo = old.repo; nodes = old.nodes; least = old.clock.least; used = take workers old.links }
+found_by a workers old told = record {
+  stanza = a.stanza;
+  told = told;
+  repo = old.repo;
+  nodes = old.nodes;
+  least = old.clock.least;
+  used = take workers old.links;
+}
 
 -- by an order of this it is so
 abbrev pub ByOrder : BackupHow → (LaterOrder → Type 0) → Type 0
@@ -205,7 +200,15 @@ heard_by old new told = record { system = told.system; pending = old.server.pend
 
 -- what a running server's backup finds, and what it comes to
 abbrev pub asked_by : Asked → RunningHow → Known → Known → Control → AskedOnline
-asked_by a how old new told = record { before = found_by a how.taken.workers old told; kind = how.taken.kind; heard = heard_by old new told; most = how.turns; turns = old.others.turns; turned = new.others.turns; now = new.repo }
+asked_by a how old new told = record {
+  before = found_by a how.taken.workers old told;
+  kind = how.taken.kind;
+  heard = heard_by old new told;
+  most = how.turns;
+  turns = old.others.turns;
+  turned = new.others.turns;
+  now = new.repo;
+}
 
 -- the server was asked at its socket, told to start a backup and to stop it, and the talk was ended
 abbrev pub AsksBackup : Option Server → Bool → Text → Option (List ℕ) → Option (List ℕ) → Type 0
@@ -215,37 +218,60 @@ AsksBackup (Some s) fast place old new = (place ≡ socket_path s)
 
 -- what a restore finds
 abbrev pub found_for : Asked → Option Label → RestoreHow → Known → BeforeRestore
-found_for a set how old = record { stanza = a.stanza; set = set; repo = old.repo; nodes = old.nodes; used = take how.workers old.links; options = options_by a.stanza how.delta how.recovery }
+found_for a set how old = record {
+  stanza = a.stanza;
+  set = set;
+  repo = old.repo;
+  nodes = old.nodes;
+  used = take how.workers old.links;
+  options = options_by a.stanza how.delta how.recovery;
+}
 
 -- the word names no label, or a backup isn't restored for this
 abbrev pub RestoreCause : Asked → Option Text → RestoreHow → Known → RecoverFault → Type 0
-RestoreCause a set how old fault = SetCause set fault ⊎ ((label : Option Label) × TellsSet set label × RecoverCause (found_for a label how old) fault)
+RestoreCause a set how old fault = SetCause set fault
+    ⊎ ((label : Option Label) × TellsSet set label × RecoverCause (found_for a label how old) fault)
 
 -- what a call finds and hears that leaves a file of this name and sum
 abbrev pub heard_for : Asked → LeaveHow → ArchiveName → Text → Known → Known → WaitHeard
-heard_for a how name sum old new = record { stanza = a.stanza; name = name; sum = sum; words = drain_words a how.spool; most = how.turns; others = old.others; new_others = new.others; spool = old.spool }
+heard_for a how name sum old new = record {
+  stanza = a.stanza;
+  name = name;
+  sum = sum;
+  words = drain_words a how.spool;
+  most = how.turns;
+  others = old.others;
+  new_others = new.others;
+  spool = old.spool;
+}
 
--- A file of the log isn't acknowledged that has this name: the data folder hasn't it, or with the sum of its bytes it was refused, or isn't stored yet.
-pub record WaitCause (a : Asked) (path : Text) (how : LeaveHow) (old new : Known) (word : Text) (fault : LeaveFault) : Type 0 where
+-- A file of the log isn't acknowledged that has this name: the data folder hasn't it, or with the sum of its bytes it
+-- was refused, or isn't stored yet.
+pub record WaitCause (a : Asked) (path : Text) (how : LeaveHow) (old new : Known) (word : Text)
+    (fault : LeaveFault) : Type 0 where
   pub name : ArchiveName
   pub named : IsWalPath a.data_folder path name
   pub is : word ≡ wal_text name
   pub why : MissCause path (wal_text name) (limit_of name) old.nodes fault
-      ⊎ ((sum : Text) × IfSome (told_file old.nodes (wal_path (wal_text name))) (λ bytes. sum ≡ sha1 bytes) × HeardCause (heard_for a how name sum old new) fault)
+      ⊎ ((sum : Text) × IfSome (told_file old.nodes (wal_path (wal_text name))) (λ bytes. sum ≡ sha1 bytes)
+      × HeardCause (heard_for a how name sum old new) fault)
 
 -- The words name no file that can be served there; or they name one, and neither the spool nor the repository gives it.
 abbrev pub ThroughCause : Asked → Text → Text → Known → GetFault → Type 0
 ThroughCause a name path old fault = GetWords a.data_folder name path fault
-    ⊎ ((file : ArchiveName) × (told : Control) × IsWanted a.data_folder name path old.nodes file told × GetAheadCause a.stanza a.data_folder name path told file old.repo old.nodes old.spool fault)
+    ⊎ ((file : ArchiveName) × (told : Control) × IsWanted a.data_folder name path old.nodes file told
+    × GetAheadCause a.stanza a.data_folder name path told file old.repo old.nodes old.spool fault)
 
 -- The word names no segment; or it names one, and that can't be found, or one behind it isn't had.
 abbrev pub FetchingCause : Asked → Text → FetchHow → Known → GetFault → Type 0
 FetchingCause a name how old fault = NameCause name fault
-    ⊎ ((segment : Segment) × IsSegmentName name segment × OnCluster old.nodes (λ told. BehindCause a.stanza told segment how.queue old.repo fault))
+    ⊎ ((segment : Segment) × IsSegmentName name segment
+    × OnCluster old.nodes (λ told. BehindCause a.stanza told segment how.queue old.repo fault))
 
 -- why a command is refused, from what the objects hold as its own part begins and what they hold then
 abbrev pub CommandCause : Asked → Request → Known → Known → CommandFault → Type 0
-CommandCause a create old new (Create fault) = OnCluster old.nodes (λ told. CreateCause a.stanza told a.server old.repo old.server.pending fault)
+CommandCause a create old new (Create fault) =
+    OnCluster old.nodes (λ told. CreateCause a.stanza told a.server old.repo old.server.pending fault)
 CommandCause a (push path) old new (Push fault) = PushCause a.stanza a.data_folder path old.repo old.nodes fault
 CommandCause a (leave path how) old new (Push fault) = WordCause a.data_folder path fault
 CommandCause a (leave path how) old new (Leave name fault) = WaitCause a path how old new (string_bytes name) fault
@@ -253,15 +279,19 @@ CommandCause a (drain place) old new (Drain fault) = DrainCause a.stanza old.rep
 CommandCause a (get name path) old new (Get fault) = GetCause a.stanza a.data_folder name path old.repo old.nodes fault
 CommandCause a (get_through name path how) old new (Get fault) = ThroughCause a name path old fault
 CommandCause a (fetch_ahead name how) old new (Get fault) = FetchingCause a name how old fault
-CommandCause a (backup how) old new (Take fault) = ByOrder how (λ o. OnCluster old.nodes (λ told. LaterCause (found_by a how.workers old told) o fault))
-CommandCause a (backup_running how) old new (TakeOnline fault) = OnCluster old.nodes (λ told. OnlineCause (asked_by a how old new told) fault)
+CommandCause a (backup how) old new (Take fault) =
+    ByOrder how (λ o. OnCluster old.nodes (λ told. LaterCause (found_by a how.workers old told) o fault))
+CommandCause a (backup_running how) old new (TakeOnline fault) =
+    OnCluster old.nodes (λ told. OnlineCause (asked_by a how old new told) fault)
 CommandCause a (restore set how) old new (Recover fault) = RestoreCause a set how old fault
 CommandCause a examine old new (Examine fault) = ExamineCause a.stanza old.repo fault
 CommandCause a (expire rules) old new (Prune fault) = PruneCause a.stanza old.repo fault
-CommandCause a (rehearse how) old new (Rehearse fault) = RehearseCause a.stanza (size_by how.number) old.repo old.nodes fault
+CommandCause a (rehearse how) old new (Rehearse fault) =
+    RehearseCause a.stanza (size_by how.number) old.repo old.nodes fault
 CommandCause a request old new fault = ⊥
 
--- Ok of stanza-create: the stanza is made, or was there; and where a server is asked it was asked at its socket and is of the folder's system
+-- Ok of stanza-create: the stanza is made, or was there; and where a server is asked it was asked at its socket and is
+-- of the folder's system
 pub record Creates (a : Asked) (old new : Known) (outcome : Outcome) : Type 0 where
   pub told : Control
   pub tells : IfSome old.nodes (λ f. FolderTells f told)
@@ -274,29 +304,41 @@ abbrev pub OnStanza : Asked → Option Content → (Stanza → Type 0) → Type 
 OnStanza a repo P = (s : Stanza) → IsSome repo → NowStands a.stanza (Some s) repo → P s
 
 -- Ok of restore: the backup that was asked for, or the last one, is in the folder
-pub record Restores (a : Asked) (set : Option Text) (how : RestoreHow) (old new : Known) (outcome : Outcome) : Type 0 where
+pub record Restores (a : Asked) (set : Option Text) (how : RestoreHow) (old new : Known) (outcome : Outcome) : Type
+    0 where
   pub label : Option Label
   pub is : TellsSet set label
   pub recovers : OnFinished outcome (Recovers (found_for a label how old) new.nodes)
-  pub gives : (s : Stanza) (f : Content) → old.repo ≡ Some f → NowStands a.stanza (Some s) old.repo → OnFinished outcome (GivesBackup s (found_for a label how old) f new.nodes)
+  pub gives : (s : Stanza) (f : Content) → old.repo ≡ Some f → NowStands a.stanza (Some s) old.repo
+      → OnFinished outcome (GivesBackup s (found_for a label how old) f new.nodes)
 
 -- Ok of expire: all is gone that the rules let go at the moment that the clock told, and the lines tell it
 abbrev pub Removes : Text → Rules → Known → Known → Outcome → Type 0
-Removes stanza rules old new outcome = (moment : ℕ) × TellsMoment rules.full old.clock new.clock moment × OnFinished outcome (IsPruned stanza rules moment old.repo new.repo)
+Removes stanza rules old new outcome = (moment : ℕ) × TellsMoment rules.full old.clock new.clock moment
+    × OnFinished outcome (IsPruned stanza rules moment old.repo new.repo)
 
--- Ok of rehearse: three backups were made, of which one is left, and the lines tell what each step came to, and what a verification found
+-- Ok of rehearse: three backups were made, of which one is left, and the lines tell what each step came to, and what a
+-- verification found
 abbrev pub Rehearses : Text → ℕ → Known → Known → Outcome → Type 0
-Rehearses stanza number old new outcome = (b : Backup) × (c : Backup) × (d : Backup) × IsRehearsed stanza number b c d old.repo new.repo new.nodes outcome
+Rehearses stanza number old new outcome = (b : Backup) × (c : Backup) × (d : Backup)
+    × IsRehearsed stanza number b c d old.repo new.repo new.nodes outcome
 
 -- Ok of a backup: what it promises of what the disk held as it ended, before an expiry
 abbrev pub IsBackedUp : Asked → Request → Known → Known → Option Content → Outcome → Type 0
-IsBackedUp a (backup how) old new repo outcome = ByOrder how (λ o. OnCluster old.nodes (λ told. OnFinished outcome (IsTaken a.stanza told o old.nodes (take how.workers old.links) old.repo repo)))
-IsBackedUp a (backup_running how) old new repo outcome = ByOrder how.taken (λ o. OnCluster old.nodes (λ told. OnFinished outcome (TakesOnline a.stanza told o old.nodes (heard_by old new told) (take how.taken.workers old.links) old.others.account new.others.account old.repo repo)))
+IsBackedUp a (backup how) old new repo outcome =
+    ByOrder how (λ o. OnCluster old.nodes
+    (λ told. OnFinished outcome (IsTaken a.stanza told o old.nodes (take how.workers old.links) old.repo repo)))
+IsBackedUp a (backup_running how) old new repo outcome =
+    ByOrder how.taken (λ o. OnCluster old.nodes
+    (λ told. OnFinished outcome (TakesOnline a.stanza told o old.nodes (heard_by old new told)
+    (take how.taken.workers old.links) old.others.account new.others.account old.repo repo)))
     × AsksBackup a.server how.fast new.server.place old.server.sent new.server.sent
 IsBackedUp a request old new repo outcome = ⊥
 
--- what the disk held, and how the command had ended, as an expiry began behind it that tells by its lines what went; least is the least second that the clock might tell as the command began
-pub record BeforeExpiry (stanza : Text) (rules : Rules) (least : ℕ) (Was : Option Content → Outcome → Type 0) (new : Known) (outcome : Outcome) : Type 0 where
+-- what the disk held, and how the command had ended, as an expiry began behind it that tells by its lines what went;
+-- least is the least second that the clock might tell as the command began
+pub record BeforeExpiry (stanza : Text) (rules : Rules) (least : ℕ) (Was : Option Content → Outcome → Type 0)
+    (new : Known) (outcome : Outcome) : Type 0 where
   pub repo : Option Content
   pub lines : String Global
   pub was : Was repo (Finished lines)
@@ -316,11 +358,13 @@ Drains a old new outcome = OnCluster old.nodes (λ told. OnFinished outcome (λ 
     IsDrained a.stanza f told old.repo old.spool new.spool lines)))
 
 -- Ok of archive-get through the spool: the file was served, or nothing was found
-pub record GetsThrough (a : Asked) (name path : Text) (how : FetchHow) (old new : Known) (outcome : Outcome) : Type 0 where
+pub record GetsThrough (a : Asked) (name path : Text) (how : FetchHow) (old new : Known) (outcome : Outcome) : Type
+    0 where
   -- by the sum that the repository's name tells
   pub got : GotAhead a.stanza a.data_folder name path old.repo old.nodes new.nodes outcome
   -- what is served is archived, where no two contents share a SHA-1
-  pub given : (s : Stanza) → IsSome old.repo → IsSome old.spool → NowStands a.stanza (Some s) old.repo → NoTwins old.repo old.spool → GivenBy s a.data_folder name path old.nodes new.nodes outcome
+  pub given : (s : Stanza) → IsSome old.repo → IsSome old.spool → NowStands a.stanza (Some s) old.repo
+      → NoTwins old.repo old.spool → GivenBy s a.data_folder name path old.nodes new.nodes outcome
   -- and what follows it is fetched ahead
   pub file : ArchiveName
   pub told : Control
@@ -335,15 +379,18 @@ FetchesAhead a name how old new outcome = (segment : Segment) × IsSegmentName n
 -- what a command promises where it ends well
 abbrev pub Promise : Asked → Request → Known → Known → Outcome → Type 0
 Promise a create old new outcome = Creates a old new outcome
-Promise a (push path) old new outcome = OnFinished outcome (IsStored a.stanza a.data_folder path old.nodes old.repo new.repo)
+Promise a (push path) old new outcome =
+    OnFinished outcome (IsStored a.stanza a.data_folder path old.nodes old.repo new.repo)
 Promise a (leave path how) old new outcome = OnFinished outcome (λ lines. lines ≡ [])
 Promise a (drain place) old new outcome = Drains a old new outcome
 Promise a (get name path) old new outcome = GotBy a.stanza a.data_folder name path old.repo old.nodes new.nodes outcome
     × OnStanza a old.repo (λ s. GivenBy s a.data_folder name path old.nodes new.nodes outcome)
 Promise a (get_through name path how) old new outcome = GetsThrough a name path how old new outcome
 Promise a (fetch_ahead name how) old new outcome = FetchesAhead a name how old new outcome
-Promise a (backup how) old new outcome = BehindIt a.expires a.stanza old.clock.least (IsBackedUp a (backup how) old new) new outcome
-Promise a (backup_running how) old new outcome = BehindIt a.expires a.stanza old.clock.least (IsBackedUp a (backup_running how) old new) new outcome
+Promise a (backup how) old new outcome =
+    BehindIt a.expires a.stanza old.clock.least (IsBackedUp a (backup how) old new) new outcome
+Promise a (backup_running how) old new outcome =
+    BehindIt a.expires a.stanza old.clock.least (IsBackedUp a (backup_running how) old new) new outcome
 Promise a (restore set how) old new outcome = Restores a set how old new outcome
 Promise a (report form) old new outcome = OnFinished outcome (IsReported a.stanza form old.repo)
     × OnStanza a old.repo (λ s. OnFinished outcome (ReportsStanza form a.stanza s))
@@ -351,119 +398,52 @@ Promise a examine old new outcome = IsExamined a.stanza old.repo outcome × Ends
 Promise a (expire rules) old new outcome = Removes a.stanza rules old new outcome
 Promise a (rehearse how) old new outcome = Rehearses a.stanza (size_by how.number) old new outcome
 
--- what a command that settles what it looks at alone promises of all that a crash leaves: a pushed file is alike in it, and what archive-get answers holds of it
+-- what a command that settles what it looks at alone promises of all that a crash leaves: a pushed file is alike in it,
+-- and what archive-get answers holds of it
 abbrev pub Lasts : Asked → Request → Option Nodes → View → Option Nodes → Outcome → Type 0
-Lasts a (push path) nodes repo now_nodes outcome = OnFinished outcome (λ lines. IsLasting a.stanza a.data_folder path repo)
-Lasts a (get name path) nodes repo now_nodes outcome = (f : Content) → Leaves repo repo.moment f → GotBy a.stanza a.data_folder name path (Some f) nodes now_nodes outcome
-Lasts a (get_through name path how) nodes repo now_nodes outcome = (f : Content) → Leaves repo repo.moment f → GotAhead a.stanza a.data_folder name path (Some f) nodes now_nodes outcome
+Lasts a (push path) nodes repo now_nodes outcome =
+    OnFinished outcome (λ lines. IsLasting a.stanza a.data_folder path repo)
+Lasts a (get name path) nodes repo now_nodes outcome = (f : Content) → Leaves repo repo.moment f
+    → GotBy a.stanza a.data_folder name path (Some f) nodes now_nodes outcome
+Lasts a (get_through name path how) nodes repo now_nodes outcome = (f : Content) → Leaves repo repo.moment f
+    → GotAhead a.stanza a.data_folder name path (Some f) nodes now_nodes outcome
 Lasts a request nodes repo now_nodes outcome = Unit {0}
 
 -- ---- what stays
 
--- this holds of a command that changes nothing in the repository
-abbrev pub OnReader : Request → Type 0 → Type 0
-OnReader create P = Unit {0}
-OnReader (push path) P = Unit {0}
-OnReader (leave path how) P = Unit {0}
-OnReader (drain place) P = Unit {0}
-OnReader (get name path) P = P
-OnReader (get_through name path how) P = P
-OnReader (fetch_ahead name how) P = P
-OnReader (backup how) P = Unit {0}
-OnReader (backup_running how) P = Unit {0}
-OnReader (restore set how) P = P
-OnReader (report form) P = P
-OnReader examine P = P
-OnReader (expire rules) P = Unit {0}
-OnReader (rehearse how) P = Unit {0}
-
--- this holds of stanza-create
-abbrev pub OnCreate : Request → Type 0 → Type 0
-OnCreate create P = P
-OnCreate other P = Unit {0}
-
--- this holds of a backup
-abbrev pub OnBackup : Request → Type 0 → Type 0
-OnBackup (backup how) P = P
-OnBackup (backup_running how) P = P
-OnBackup other P = Unit {0}
-
--- this holds of expire
-abbrev pub OnExpire : Request → (Rules → Type 0) → Type 0
-OnExpire (expire rules) P = P rules
-OnExpire other P = Unit {0}
-
 -- What expire may change, after every answer and at each moment.
 pub record Expires (stanza : Text) (rules : Rules) (least : ℕ) (old new : View) : Type 0 where
-  -- whatever the disk holds: the backup pair, folders of labels, and files of the archive that aren't histories of timelines
+  -- whatever the disk holds: the backup pair, folders of labels, and files of the archive that aren't histories of
+  -- timelines
   pub only : ChangesOnly (MayExpire stanza) old new
-  -- of a stanza, by the rules at some moment: of these no folder of a label that is listed in the end, and no file that is needed then
+  -- of a stanza, by the rules at some moment: of these no folder of a label that is listed in the end, and no file that
+  -- is needed then
   pub moment : ℕ
   pub may_be : IsMoment rules.full least moment
-  pub touches : (s : Stanza) → IsSome old.now → NowStands stanza (Some s) old.now → ChangesOnly (IsTouched stanza rules moment s) old new
+  pub touches : (s : Stanza) → IsSome old.now → NowStands stanza (Some s) old.now
+      → ChangesOnly (IsTouched stanza rules moment s) old new
 
--- this holds of a command other than stanza-create
-abbrev pub OnOther : Request → Type 0 → Type 0
-OnOther create P = Unit {0}
-OnOther (backup_running how) P = Unit {0}
-OnOther other P = P
-
--- Only archive-get, restore and rehearse change the data folder. The one puts there what is served; of the other it holds a whole backup, or has no control file, so that no server starts from half of one. A rehearsal works in a folder that is empty.
+-- Only archive-get, restore and rehearse change the data folder. The one puts there what is served; of the other it
+-- holds a whole backup, or has no control file, so that no server starts from half of one. A rehearsal works in a
+-- folder that is empty.
 abbrev pub FolderGoes : Asked → Request → Known → Option Nodes → Type 0
-FolderGoes a (get name path) old new = ChangesPath (served_path a.data_folder path) (IsServed a.stanza a.data_folder name path old.repo old.nodes) old.nodes new
-FolderGoes a (get_through name path how) old new = ChangesPath (served_path a.data_folder path) (IsServedBySum a.stanza a.data_folder name path old.repo old.nodes) old.nodes new
-FolderGoes a (restore set how) old new = (new ≡ old.nodes) ⊎ (HasNone control_path new ⊎ ((m : Manifest) × IfSome new (IsFinished a.stanza (take how.workers old.links) (options_by a.stanza how.delta how.recovery) m old.nodes)))
+FolderGoes a (get name path) old new =
+    ChangesPath (served_path a.data_folder path) (IsServed a.stanza a.data_folder name path old.repo old.nodes)
+    old.nodes new
+FolderGoes a (get_through name path how) old new =
+    ChangesPath (served_path a.data_folder path) (IsServedBySum a.stanza a.data_folder name path old.repo old.nodes)
+    old.nodes new
+FolderGoes a (restore set how) old new = (new ≡ old.nodes)
+    ⊎ (HasNone control_path new ⊎ ((m : Manifest)
+    × IfSome new (IsFinished a.stanza (take how.workers old.links) (options_by a.stanza how.delta how.recovery) m
+    old.nodes)))
 FolderGoes a (rehearse how) old new = (new ≡ old.nodes) ⊎ IfSome old.nodes IsEmpty
 FolderGoes a request old new = new ≡ old.nodes
 
--- only a backup, a restore and a rehearsal use workers, a backup and a rehearsal the clock, and that of a running server waits for turns of others, as does who leaves a file to a drain; expire uses the clock where the rules count days
-abbrev pub uses_workers : Request → Bool
-uses_workers (backup how) = true
-uses_workers (backup_running how) = true
-uses_workers (restore set how) = true
-uses_workers (rehearse how) = true
-uses_workers request = false
-
-abbrev pub uses_clock : Request → Bool
-uses_clock (backup how) = true
-uses_clock (backup_running how) = true
-uses_clock (expire rules) = counts_days rules.full
-uses_clock (rehearse how) = true
-uses_clock request = false
-
--- only archive-push and archive-get in the background, archive-push:async and archive-get:async use the spool, and a running server's backup hands it to others
-abbrev pub uses_spool : Request → Bool
-uses_spool (leave path how) = true
-uses_spool (drain place) = true
-uses_spool (get_through name path how) = true
-uses_spool (fetch_ahead name how) = true
-uses_spool (backup_running how) = true
-uses_spool request = false
-
-abbrev pub uses_turns : Request → Bool
-uses_turns (leave path how) = true
-uses_turns (backup_running how) = true
-uses_turns request = false
-
--- Only who leaves a file to a drain and a running server's backup may change what other processes are at. Who serves a segment through the spool starts one of them at most, and none has a turn.
+-- Only who leaves a file to a drain and a running server's backup may change what other processes are at. Who serves a
+-- segment through the spool starts one of them at most, and none has a turn.
 abbrev pub OthersGo : Asked → Request → OthersState → OthersState → Type 0
 OthersGo a (leave path how) old new = Unit {0}
 OthersGo a (backup_running how) old new = Unit {0}
 OthersGo a (get_through name path how) old new = QuietOthers (fetch_words a name how) old new
 OthersGo a request old new = new ≡ old
-
--- only info and verify use nothing but the repository: no data folder, and no lock
-abbrev pub is_on_repository : Request → Bool
-is_on_repository (report form) = true
-is_on_repository examine = true
-is_on_repository request = false
-
--- a refusal with this status has left the data folder as it was; a restore may have changed it once its workers are started
-abbrev pub FolderStays : Request → ℕ → Type 0 → Type 0
-FolderStays (restore set how) status P = status ≢ 55 → status ≢ 56 → status ≢ 63 → P
-FolderStays request status P = P
-
--- this holds of a command that doesn't use it
-abbrev pub Unless : Bool → Type 0 → Type 0
-Unless true P = Unit {0}
-Unless false P = P

@@ -35,11 +35,19 @@ request_of (ArchivePush path) = push path.now
 request_of (ArchivePushLeft path spool turns) = leave path.now (record { spool = spool.now; turns = turns })
 request_of (ArchivePushAsync place) = drain place.now
 request_of (ArchiveGet name path) = get name.now path.now
-request_of (ArchiveGetThrough name path spool queue) = get_through name.now path.now (record { spool = spool.now; queue = queue })
+request_of (ArchiveGetThrough name path spool queue) =
+    get_through name.now path.now (record { spool = spool.now; queue = queue })
 request_of (ArchiveGetAsync name spool queue) = fetch_ahead name.now (record { spool = spool.now; queue = queue })
 request_of (Backup workers kind delta) = backup (record { workers = workers; kind = kind; delta = delta })
-request_of (BackupRunning workers kind delta fast turns) = backup_running (record { taken = record { workers = workers; kind = kind; delta = delta }; fast = fast; turns = turns })
-request_of (Restore set workers delta recovery) = restore (option_map (λ w. w.now) set) (record { workers = workers; delta = delta; recovery = recovery_type recovery })
+request_of (BackupRunning workers kind delta fast turns) =
+    backup_running (record {
+      taken = record { workers = workers; kind = kind; delta = delta };
+      fast = fast;
+      turns = turns;
+    })
+request_of (Restore set workers delta recovery) =
+    restore (option_map (λ w. w.now) set)
+    (record { workers = workers; delta = delta; recovery = recovery_type recovery })
 request_of (Info form) = report form
 request_of Verify = examine
 request_of (Expire rules) = expire rules
@@ -68,7 +76,15 @@ wanted_told o = record {
 }
 
 abbrev pub asked_of : Settings → Asked
-asked_of s = record { stanza = s.stanza.now; data_folder = s.pg1_path.now; repository = s.repo1_path.now; lock_folder = s.lock_path.now; server = option_map server_view s.server; request = request_of s.request; expires = s.expires }
+asked_of s = record {
+  stanza = s.stanza.now;
+  data_folder = s.pg1_path.now;
+  repository = s.repo1_path.now;
+  lock_folder = s.lock_path.now;
+  server = option_map server_view s.server;
+  request = request_of s.request;
+  expires = s.expires;
+}
 
 -- how a server is backed up by the order
 abbrev pub taking_of : LaterOrder → BackupHow
@@ -100,16 +116,22 @@ IsOrder create folder order.StanzaCreate = Unit {0}
 IsOrder (push path) folder (order.ArchivePush o) = (o.folder.now ≡ folder) × (o.path.now ≡ path)
 IsOrder (drain place) folder order.ArchivePushAsync = Unit {0}
 IsOrder (leave path how) folder order = ⊥
-IsOrder (get name path) folder (order.ArchiveGet o) = (o.folder.now ≡ folder) × (o.word.now ≡ name) × (o.path.now ≡ path)
-IsOrder (get_through name path how) folder (order.ArchiveGetThrough o) = (o.get.folder.now ≡ folder) × (o.get.word.now ≡ name) × (o.get.path.now ≡ path) × (fetching_of o ≡ how)
-IsOrder (fetch_ahead name how) folder (order.ArchiveGetAsync o) = (o.fetch.word.now ≡ name) × (o.queue ≡ how.queue) × IsSegment o.fetch.segment
+IsOrder (get name path) folder (order.ArchiveGet o) = (o.folder.now ≡ folder) × (o.word.now ≡ name)
+    × (o.path.now ≡ path)
+IsOrder (get_through name path how) folder (order.ArchiveGetThrough o) = (o.get.folder.now ≡ folder)
+    × (o.get.word.now ≡ name) × (o.get.path.now ≡ path) × (fetching_of o ≡ how)
+IsOrder (fetch_ahead name how) folder (order.ArchiveGetAsync o) = (o.fetch.word.now ≡ name) × (o.queue ≡ how.queue)
+    × IsSegment o.fetch.segment
 IsOrder (backup how) folder (order.Backup o) = (o.take.data_folder.now ≡ folder) × (taking_of o ≡ how)
-IsOrder (backup_running how) folder (order.BackupRunning o) = (o.later.take.data_folder.now ≡ folder) × (running_of o ≡ how)
-IsOrder (restore set how) folder (order.Restore o) = (o.data_folder.now ≡ folder) × (how_of o ≡ how) × TellsSet set o.set
+IsOrder (backup_running how) folder (order.BackupRunning o) = (o.later.take.data_folder.now ≡ folder)
+    × (running_of o ≡ how)
+IsOrder (restore set how) folder (order.Restore o) = (o.data_folder.now ≡ folder) × (how_of o ≡ how)
+    × TellsSet set o.set
 IsOrder (report form) folder (order.Info asked) = asked ≡ form
 IsOrder examine folder order.Verify = Unit {0}
 IsOrder (expire rules) folder (order.Expire asked) = asked ≡ rules
-IsOrder (rehearse how) folder (order.Rehearse o) = (o.take.data_folder.now ≡ folder) × (o.take.workers ≡ how.workers) × (o.number ≡ size_by how.number)
+IsOrder (rehearse how) folder (order.Rehearse o) = (o.take.data_folder.now ≡ folder) × (o.take.workers ≡ how.workers)
+    × (o.number ≡ size_by how.number)
 IsOrder request folder other = ⊥
 
 -- a file is left to a drain, as was asked for

@@ -6,7 +6,7 @@ ghost use Rattle.pgb_table.specs.Values.{is_stanza};
 ghost use Rattle.pgb_options.specs.Settings.{Settled};
 ghost use Rattle.pgb_command.specs.Asked.{request_by, backup_by, push_by, get_by, fetch_ahead, fetching_by, expires_by, restore_by, recovery_for, first_of, second_of, requested, IsAsked};
 ghost use Rattle.pgb_recover.specs.Fetching.{recovery_type};
-ghost use Rattle.pgb_command.specs.Tables.{plan_of, spool_of};
+ghost use Rattle.pgb_command.specs.Uses.{plan_of, spool_of};
 ghost use Rattle.pgb_command.specs.Told.{request_of, asked_of, wanted_told};
 
 use crate::server::server_of;

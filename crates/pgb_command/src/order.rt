@@ -35,8 +35,8 @@ pub struct LeaveOrder<'a> {
     pub turns: u64,
 }
 
-/// A file that is served through the spool: the file, the spool, and as many segments that follow it are fetched ahead as so
-/// many bytes hold.
+/// A file that is served through the spool: the file, the spool, and as many segments that follow it are fetched ahead
+/// as so many bytes hold.
 #[derive(Drop)]
 pub struct ThroughOrder<'a> {
     pub get: GetOrder<'a>,

@@ -86,7 +86,9 @@ pub(crate) fn answer<O: Sink>(
         (Rises (O.state out.old).faults (O.state out.new).faults) ending }
     ensures later { (O.state out.old).faults ≤ (O.state out.new).faults }
 {
-    tell(alloc, out, unknown, &ended)
+    let status = tell(alloc, out, unknown, &ended);
+    drop(ended);
+    status
 }
 
 // Writes what is told of a command, and gives the status.

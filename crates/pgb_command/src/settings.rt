@@ -17,8 +17,8 @@ pub enum Request<'a> {
     ArchivePush {
         path: &'a str,
     },
-    /// The file that is to be left to a drain, as the server names it; the spool, and how many turns of other processes are
-    /// waited for at most.
+    /// The file that is to be left to a drain, as the server names it; the spool, and how many turns of other processes
+    /// are waited for at most.
     ArchivePushLeft {
         path: &'a str,
         spool: &'a str,
@@ -33,8 +33,8 @@ pub enum Request<'a> {
         name: &'a str,
         path: &'a str,
     },
-    /// The archived file that is to be served through the spool, and where; and as many segments that follow it are fetched
-    /// ahead as so many bytes hold.
+    /// The archived file that is to be served through the spool, and where; and as many segments that follow it are
+    /// fetched ahead as so many bytes hold.
     ArchiveGetThrough {
         name: &'a str,
         path: &'a str,

@@ -9,7 +9,7 @@ ghost use Rattle.pgb_command.specs.Did.{Acknowledges, Ran, Did, ComesBehind, Bra
 ghost use Rattle.pgb_command.specs.Kept.{KeepsFolder, KeepsInAndOut, KeepsLocked, KeepsSpool, KeepsWorkers};
 ghost use Rattle.pgb_command.specs.Ranges.{AtOk, Between, HoldsAtMost, HoldsLocks, IsOnRepository, IsOrderFor, IsReadyFor, LeastGrows, OnAsked, OnTold, OpensNoFolder, UsesNoSpool, UsesNoWorkers, WhereNoLock};
 ghost use Rattle.pgb_command.specs.Told.{request_of, asked_of, AreWorkers, IsCourse};
-ghost use Rattle.pgb_command.specs.Tables.{plan_of, spool_of};
+ghost use Rattle.pgb_command.specs.Uses.{plan_of, spool_of};
 
 use crate::asking::{plan_of, spool_of};
 use crate::fault::Fault;

@@ -7,8 +7,8 @@ use crate::order::ThroughOrder;
 use crate::settings::Settings;
 use std::alloc::{AllocError, Global};
 
-/// The words with which a drain is started that stores what this spool is asked for: they name all its places, so that it
-/// needs no configuration.
+/// The words with which a drain is started that stores what this spool is asked for: they name all its places, so that
+/// it needs no configuration.
 pub(crate) fn drain_words(
     alloc: Global,
     settings: &Settings<'_>,
@@ -31,8 +31,8 @@ pub(crate) fn drain_words(
     Ok(words)
 }
 
-/// The words with which a fetch is started of what follows the segment that is served: they name all its places, so that it
-/// needs no configuration.
+/// The words with which a fetch is started of what follows the segment that is served: they name all its places, so
+/// that it needs no configuration.
 pub(crate) fn fetch_words(
     alloc: Global,
     settings: &Settings<'_>,

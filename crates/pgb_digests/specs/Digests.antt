@@ -40,7 +40,8 @@ IsEndBy links item Vanished = IsAbsentBy links item
 -- each of these digest jobs ended so
 pub record AreEnds (links : List LinkState) (jobs : List Job) (ends : List (Option ItemEnd)) : Type 0 where
   pub count : length ends ≡ length jobs
-  pub each : (k : ℕ) (item : Item) → slice_get jobs k ≡ Some (digest_of item) → IsSomeAnd (slice_get ends k) (λ end. IsSomeAnd end (IsEndBy links item))
+  pub each : (k : ℕ) (item : Item) → slice_get jobs k ≡ Some (digest_of item)
+      → IsSomeAnd (slice_get ends k) (λ end. IsSomeAnd end (IsEndBy links item))
 
 -- how the first item of a job ended
 abbrev pub first_end : List Done → Option ItemEnd

@@ -18,7 +18,8 @@ pub record IsOneOf (links : List LinkState) (s : LinkState) : Type 0 where
 abbrev pub HasSame : List LinkState → LinkState → Type 0
 HasSame now s = (k : ℕ) × (t : LinkState) × (slice_get now k ≡ Some t) × IsSame s.told t.told
 
--- Each link that is left is one of those, and ready for further jobs. Each of the others has an entry, and no steady worker is one of them.
+-- Each link that is left is one of those, and ready for further jobs. Each of the others has an entry, and no steady
+-- worker is one of them.
 pub record IsLeft (links now : List LinkState) (before after : List Lost) : Type 0 where
   pub entries : List Lost
   pub is : after ≡ before ++ entries

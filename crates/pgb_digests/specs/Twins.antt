@@ -8,4 +8,5 @@ use Rattle.pgb_model.specs.Text.{Text}
 
 -- no file of these has the number and the digest of the backup's file of its path, and other bytes
 abbrev pub HasNoTwin : Backup → Content → Type 0
-HasNoTwin b tree = (path bytes : Text) (x : File) → get b.files path ≡ Some x → tree path ≡ Some bytes → length bytes ≡ length x.bytes → sha1 bytes ≡ sha1 x.bytes → bytes ≡ x.bytes
+HasNoTwin b tree = (path bytes : Text) (x : File) → get b.files path ≡ Some x → tree path ≡ Some bytes
+    → length bytes ≡ length x.bytes → sha1 bytes ≡ sha1 x.bytes → bytes ≡ x.bytes

@@ -8,7 +8,8 @@ use Rattle.pgb_outside.specs.Crash.{IsTemporary}
 abbrev pub LiesIn : Name → Name → Type 0
 LiesIn folder name = (rest : Name) × (name ≡ folder ++ 47 ∷ rest)
 
--- At each other name the disk holds the same and a crash leaves no more than before, and of these only temporary ones become loose.
+-- At each other name the disk holds the same and a crash leaves no more than before, and of these only temporary ones
+-- become loose.
 pub record ChangesOnly (these : Name → Type 0) (old new : View) : Type 0 where
   pub now : (n : Name) → ¬ these n → at n new.now ≡ at n old.now
   pub time : Goes (λ n _. these n) (λ n. these n × IsTemporary n) old new

@@ -14,8 +14,8 @@ use crate::fault::StoreFault;
 use pgb_outside::Disk;
 use std::alloc::Global;
 
-/// Settles the stanza's folders, so that a crash leaves what each name there holds, unless it is loose. Where the disk keeps a
-/// log, all that a crash then leaves stands for what the disk stands for.
+/// Settles the stanza's folders, so that a crash leaves what each name there holds, unless it is loose. Where the disk
+/// keeps a log, all that a crash then leaves stands for what the disk stands for.
 pub fn begin<D: Disk>(alloc: Global, d: &mut D, stanza: &str) -> Result<(), StoreFault>
     ensures begun { OnOk result ((q : Repository) (log : List Done)
         → KeepsRepository stanza.now q log (D.state d.old).view → IsSome (D.state d.old).view.now

@@ -67,7 +67,8 @@ pub fn start_stage<D: Disk>(alloc: Global, d: &mut D, name: &str) -> Result<Stag
     })
 }
 
-/// Adds bytes at the end of what was put there. After a refusal the name may hold a part of them, so the `Staging` is given up.
+/// Adds bytes at the end of what was put there. After a refusal the name may hold a part of them, so the `Staging` is
+/// given up.
 pub fn add_stage<D: Disk>(d: &mut D, staging: &mut Staging, bytes: &[u8]) -> Result<(), StoreFault>
     requires holds { HasLength (D.state d.old).view.now (staging_name staging.old) (staging_length staging.old) }
     requires room { staging_length staging.old + length bytes.now < 2 ^ 64 }

@@ -21,8 +21,10 @@ KeepRules files = (folders : List Text) × ((e : FileEntry) → In e files → I
 abbrev pub prior_in : DraftOrder → Cluster → rust_info.BackupInfo → Option Entry
 prior_in order cluster before = prior_for order.kind cluster.id (backup_info_of before).backups
 
--- It is of these files and folders, is named by this second, and is based on the backup that the order asks for: a file that is as that has it is left.
-pub record IsOrdered (stanza : Text) (second : ℕ) (cluster : Cluster) (order : DraftOrder) (equal : List Bool) (listing : Listing) (before : rust_info.BackupInfo) (d : Draft) : Type 0 where
+-- It is of these files and folders, is named by this second, and is based on the backup that the order asks for: a file
+-- that is as that has it is left.
+pub record IsOrdered (stanza : Text) (second : ℕ) (cluster : Cluster) (order : DraftOrder) (equal : List Bool)
+    (listing : Listing) (before : rust_info.BackupInfo) (d : Draft) : Type 0 where
   pub stanza_is : d.stanza.now ≡ stanza
   pub label : d.label ≡ made_label order.kind (prior_in order cluster before) second
   pub prior : d.prior ≡ option_map (λ e. e.label) (prior_in order cluster before)

@@ -7,7 +7,8 @@ use Rattle.pgb_plan.specs.declared.values.Listing.{Listing}
 use Rattle.pgb_backup.specs.declared.draft.Draft.{Draft}
 
 -- It is of these files and folders, is named by this second, and refers to no other backup.
-pub record IsFullOf (stanza : Text) (second : ℕ) (cluster : Cluster) (listing : Listing) (before : rust_info.BackupInfo) (d : Draft) : Type 0 where
+pub record IsFullOf (stanza : Text) (second : ℕ) (cluster : Cluster) (listing : Listing) (before : rust_info.BackupInfo)
+    (d : Draft) : Type 0 where
   pub stanza_is : d.stanza.now ≡ stanza
   pub label : (d.label.full ≡ second) × (d.label.later ≡ None)
   pub prior : d.prior ≡ None

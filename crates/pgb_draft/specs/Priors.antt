@@ -1,4 +1,5 @@
--- Which backup a further one is based on, and its label (pgBackRest user guide, "Backup"; command reference, "Backup", option type).
+-- Which backup a further one is based on, and its label (pgBackRest user guide, "Backup"; command reference, "Backup",
+-- option type).
 use Rattle.std.specs.Prelude.{ℕ, max, Bool, true, false, ◌==◌, ◌&&◌, List, [], ◌∷◌, Option, Some, None, if◌then◌else◌, codes}
 use Rattle.std.specs.Option.{option_or}
 use Rattle.pgb_model.specs.declared.labels.Kind.{Kind}
@@ -19,7 +20,8 @@ bases Diff Full = true
 bases Diff kind = false
 bases Incr kind = true
 
--- A backup of the kind may be based on it: it is of this cluster, and belongs to the latest full backup, so that the new label comes last.
+-- A backup of the kind may be based on it: it is of this cluster, and belongs to the latest full backup, so that the
+-- new label comes last.
 abbrev pub may_base : Kind → ℕ → ℕ → Entry → Bool
 may_base kind cluster full e = bases kind e.kind && (e.db == cluster) && (e.label.full == full)
 
@@ -28,7 +30,8 @@ abbrev pub last_of : {X : Type 0} → (X → Bool) → List X → Option X
 last_of test [] = None
 last_of test (x ∷ xs) = option_or (last_of test xs) (if test x then Some x else None)
 
--- the backup that one of this kind is based on, among those of a list: the last that may be, of the cluster of this number
+-- the backup that one of this kind is based on, among those of a list: the last that may be, of the cluster of this
+-- number
 abbrev pub prior_for : Kind → ℕ → List Entry → Option Entry
 prior_for kind cluster es = last_of (may_base kind cluster (latest_full es)) es
 

@@ -23,15 +23,18 @@ use Rattle.pgb_drain.specs.Storing.{GoesByStores}
 abbrev pub AreOf : Nodes → List ArchiveName → List Named → Type 0
 AreOf f [] files = files ≡ []
 AreOf f (name ∷ names) files = AreOf f names files
-    ⊎ ((bytes : Text) × (rest : List Named) × (files ≡ named name bytes ∷ rest) × (file_bytes (f (wal_path (wal_text name))) ≡ Some bytes) × AreOf f names rest)
+    ⊎ ((bytes : Text) × (rest : List Named) × (files ≡ named name bytes ∷ rest)
+    × (file_bytes (f (wal_path (wal_text name))) ≡ Some bytes) × AreOf f names rest)
 
 -- what a drain that ended well counted
 abbrev pub end_of : Result Drained (Halt PushFault) → Option Drained
 end_of (Ok drained) = Some drained
 end_of (Err halt) = None
 
--- This became of files, and each is marked once that is so, in what the spool held then. Where the drain ends well these are all of the names; else a part of some more files may be stored, which aren't marked.
-pub record DrainsFrom (stanza : Text) (id : ArchiveId) (system : ℕ) (f : Nodes) (names : List ArchiveName) (end : Option Drained) (held : Option Content) (repo new_repo spool new_spool : View) : Type 0 where
+-- This became of files, and each is marked once that is so, in what the spool held then. Where the drain ends well
+-- these are all of the names; else a part of some more files may be stored, which aren't marked.
+pub record DrainsFrom (stanza : Text) (id : ArchiveId) (system : ℕ) (f : Nodes) (names : List ArchiveName)
+    (end : Option Drained) (held : Option Content) (repo new_repo spool new_spool : View) : Type 0 where
   pub entries : List Entry
   pub more : List Named
   pub of_names : AreOf f names (kept_files entries ++ more)
@@ -44,5 +47,7 @@ pub record DrainsFrom (stanza : Text) (id : ArchiveId) (system : ℕ) (f : Nodes
   pub whole : IsSome end → NowGoes (AllOf (all_marks stanza entries)) held new_spool.now
 
 -- from what the spool holds as they begin
-abbrev pub Drains : Text → ArchiveId → ℕ → Nodes → List ArchiveName → Option Drained → View → View → View → View → Type 0
-Drains stanza id system f names end repo new_repo spool new_spool = DrainsFrom stanza id system f names end spool.now repo new_repo spool new_spool
+abbrev pub Drains : Text → ArchiveId → ℕ → Nodes → List ArchiveName → Option Drained → View → View → View → View
+    → Type 0
+Drains stanza id system f names end repo new_repo spool new_spool =
+    DrainsFrom stanza id system f names end spool.now repo new_repo spool new_spool

@@ -21,13 +21,16 @@ use Rattle.pgb_drain.specs.declared.marking.Drained.{Drained}
 
 -- the data folder's file lies at this path and has more bytes than the limit
 abbrev pub IsLongFile : Option Nodes → ArchiveName → Text → ℕ → Type 0
-IsLongFile nodes name path limit = (path ≡ wal_path (wal_text name)) × IfSome nodes (λ f. IsSomeAnd (file_bytes (f path)) (λ b. limit < length b))
+IsLongFile nodes name path limit = (path ≡ wal_path (wal_text name))
+    × IfSome nodes (λ f. IsSomeAnd (file_bytes (f path)) (λ b. limit < length b))
 
 -- the file of this name ends the drain so: it is too long, or it is stored twice
 abbrev pub EndCause : Text → ArchiveId → Option Nodes → Option Content → ArchiveName → PushFault → Type 0
 EndCause stanza id nodes now name (TooLong path limit) = (limit ≡ limit_of name)
-    × (IsLongFile nodes name (string_bytes path) limit ⊎ IfSome now (λ f. StoresLong stanza id name f (string_bytes path) limit))
-EndCause stanza id nodes now name (Ambiguous first second) = IfSome now (λ f. StoresTwo stanza id name f (string_bytes first) (string_bytes second))
+    × (IsLongFile nodes name (string_bytes path) limit
+    ⊎ IfSome now (λ f. StoresLong stanza id name f (string_bytes path) limit))
+EndCause stanza id nodes now name (Ambiguous first second) =
+    IfSome now (λ f. StoresTwo stanza id name f (string_bytes first) (string_bytes second))
 EndCause stanza id nodes now name (SegmentName word) = ⊥
 EndCause stanza id nodes now name (PathOutside word) = ⊥
 EndCause stanza id nodes now name (StanzaMismatch kept found) = ⊥
@@ -39,7 +42,8 @@ EndCause stanza id nodes now name (Duplicate kept found) = ⊥
 
 -- one of these files ends it so
 abbrev pub EndCauseOf : Text → ArchiveId → Option Nodes → Option Content → List ArchiveName → PushFault → Type 0
-EndCauseOf stanza id nodes now names fault = (name : ArchiveName) × In name names × EndCause stanza id nodes now name fault
+EndCauseOf stanza id nodes now names fault = (name : ArchiveName) × In name names
+    × EndCause stanza id nodes now name fault
 
 -- the counts of the repository, of the spool and of the data folder that rose
 abbrev pub three : Type 0 → Type 0 → Type 0 → Rose

@@ -20,7 +20,8 @@ use Rattle.pgb_spool.specs.Marks.{named, receipt_text, refusal_text}
 use Rattle.pgb_drain.specs.declared.marking.Drained.{Drained}
 use Rattle.pgb_drain.specs.Storing.{stored}
 
--- what became of a file: the data folder hasn't it, it was stored with these bytes, or it was refused with this status and line
+-- what became of a file: the data folder hasn't it, it was stored with these bytes, or it was refused with this status
+-- and line
 pub data Fate : Type 0 where
   absent : Fate
   saved : Text → Fate
@@ -91,12 +92,14 @@ pub record HasOther (s : Stanza) (id : ArchiveId) (name : ArchiveName) (sum : Te
   pub of_name : file.name ≡ name
   pub of_sum : sha1 file.bytes ≡ sum
 
--- the bytes are refused so as a file of this name: they aren't one of the cluster with this system identifier, or the stanza has other bytes
+-- the bytes are refused so as a file of this name: they aren't one of the cluster with this system identifier, or the
+-- stanza has other bytes
 abbrev pub IsContentOf : Stanza → ArchiveId → ℕ → ArchiveName → Text → PushFault → Type 0
 IsContentOf s id system name bytes (HeaderForm info) = HeaderCause name bytes system (FormOf info)
 IsContentOf s id system name bytes (SegmentSize told found) = HeaderCause name bytes system (SizeOf told found)
 IsContentOf s id system name bytes (HeaderMismatch kept found) = HeaderCause name bytes system (MismatchOf kept found)
-IsContentOf s id system name bytes (Duplicate kept found) = IsFileOf name bytes system × (found.0 ≡ sha1 bytes) × (found.0 ≢ kept.0) × HasOther s id name kept.0
+IsContentOf s id system name bytes (Duplicate kept found) = IsFileOf name bytes system × (found.0 ≡ sha1 bytes)
+    × (found.0 ≢ kept.0) × HasOther s id name kept.0
 IsContentOf s id system name bytes (SegmentName word) = ⊥
 IsContentOf s id system name bytes (PathOutside word) = ⊥
 IsContentOf s id system name bytes (StanzaMismatch kept found) = ⊥
@@ -106,7 +109,8 @@ IsContentOf s id system name bytes (Ambiguous first second) = ⊥
 
 -- such a refusal has this status and this line
 abbrev pub IsRefusedAs : Stanza → ArchiveId → ℕ → ArchiveName → Text → ℕ → Text → Type 0
-IsRefusedAs s id system name bytes code line = (fault : PushFault) × IsContentOf s id system name bytes fault × (code ≡ push_status fault) × (content_text fault ≡ Some line)
+IsRefusedAs s id system name bytes code line = (fault : PushFault) × IsContentOf s id system name bytes fault
+    × (code ≡ push_status fault) × (content_text fault ≡ Some line)
 
 -- this becomes of the bytes
 abbrev pub IsFateOf : Stanza → ArchiveId → ℕ → ArchiveName → Text → Fate → Type 0
@@ -122,7 +126,8 @@ IsFate f s id system name fate = ((file_bytes (f (wal_path (wal_text name))) ≡
 -- this becomes of them in a stanza, one behind the other
 abbrev pub AreFates : Nodes → Stanza → ArchiveId → ℕ → List Entry → Type 0
 AreFates f s id system [] = Unit {0}
-AreFates f s id system (e ∷ es) = IsFate f s id system e.name e.fate × AreFates f (stored s id (kept_of e.name e.fate)) id system es
+AreFates f s id system (e ∷ es) = IsFate f s id system e.name e.fate
+    × AreFates f (stored s id (kept_of e.name e.fate)) id system es
 
 -- ---- what is counted
 

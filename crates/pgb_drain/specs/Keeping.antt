@@ -44,16 +44,27 @@ turn_of end id files = record { id = id; pushed = files; ended = is_some end }
 abbrev pub HasNoLoose : Text → View → Type 0
 HasNoLoose stanza spool = (name : ArchiveName) → IsWalName name → is_loose spool (receipt_name stanza name) ≡ false
 
--- From a repository of which all that a crash leaves stands for one: at each moment each receipt that the spool has, or a crash leaves, is an earlier one, or of one of the files of this turn, which the repository and all that a crash leaves of it then have.
+-- From a repository of which all that a crash leaves stands for one: at each moment each receipt that the spool has, or
+-- a crash leaves, is an earlier one, or of one of the files of this turn, which the repository and all that a crash
+-- leaves of it then have.
 pub record GivesStored (stanza : Text) (t : Turn) (repo new_repo spool new_spool : View) : Type 0 where
   pub each : (r : Repository) → IsSome repo.now → IsSome spool.now → IsSteady stanza r repo → HasNoLoose stanza spool →
       (m : ℕ) (f : Content) → spool.moment ≤ m → m ≤ new_spool.moment → Leaves new_spool m f →
       (name : ArchiveName) (sum : Text) → IsWalName name → HasReceipt stanza f name sum
       → HadReceipt stanza spool name sum ⊎ IsStoredBy stanza t name sum new_repo
 
--- The drain of these names, from what the spool held. Under the id of the current cluster it is a command of the log: it stores these files, all of them where it ends well; and to those who wait for it it is a turn. At each moment of either disk all that a crash leaves is that of the log with a part of it. Each receipt that it gives is of a file that, as it ends, the repository and all that a crash leaves of it have.
-pub record DrainsLog (stanza : Text) (id : ArchiveId) (system : ℕ) (f : Nodes) (names : List ArchiveName) (end : Option Drained) (held : Option Content) (repo new_repo spool new_spool : View) : Type 0 where
+-- The drain of these names, from what the spool held. Under the id of the current cluster it is a command of the log:
+-- it stores these files, all of them where it ends well; and to those who wait for it it is a turn. At each moment of
+-- either disk all that a crash leaves is that of the log with a part of it. Each receipt that it gives is of a file
+-- that, as it ends, the repository and all that a crash leaves of it have.
+pub record DrainsLog (stanza : Text) (id : ArchiveId) (system : ℕ) (f : Nodes) (names : List ArchiveName)
+    (end : Option Drained) (held : Option Content) (repo new_repo spool new_spool : View) : Type 0 where
   pub drains : DrainsFrom stanza id system f names end held repo new_repo spool new_spool
-  pub runs : IsUnderCurrent stanza id repo.now → Runs Whole stanza (ArchivePushDrain (kept_files drains.entries ++ drains.more)) (reached_of end) repo spool new_repo new_spool
-  pub waited : IsUnderCurrent stanza id repo.now → Runs Whole stanza (ArchivePushAsync (turn_of end id (kept_files drains.entries ++ drains.more) ∷ [])) (reached_of end) repo spool new_repo new_spool
-  pub gives : IsUnderCurrent stanza id repo.now → GivesStored stanza (turn_of end id (kept_files drains.entries ++ drains.more)) repo new_repo spool new_spool
+  pub runs : IsUnderCurrent stanza id repo.now
+      → Runs Whole stanza (ArchivePushDrain (kept_files drains.entries ++ drains.more)) (reached_of end) repo spool
+      new_repo new_spool
+  pub waited : IsUnderCurrent stanza id repo.now
+      → Runs Whole stanza (ArchivePushAsync (turn_of end id (kept_files drains.entries ++ drains.more) ∷ []))
+      (reached_of end) repo spool new_repo new_spool
+  pub gives : IsUnderCurrent stanza id repo.now
+      → GivesStored stanza (turn_of end id (kept_files drains.entries ++ drains.more)) repo new_repo spool new_spool

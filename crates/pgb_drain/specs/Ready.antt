@@ -1,4 +1,5 @@
--- Which files of the log are ready (PostgreSQL: a server makes `archive_status/NAME.ready` for each file that it wants archived).
+-- Which files of the log are ready (PostgreSQL: a server makes `archive_status/NAME.ready` for each file that it wants
+-- archived).
 use Rattle.std.specs.Prelude.{◌≡◌, ◌≢◌, ◌++◌, Bool, true, false, List, map, codes, IsSome, string_bytes}
 use Rattle.pgb_outside.specs.Content.{Name}
 use Rattle.pgb_outside.specs.Order.{are_in_order}
@@ -42,4 +43,5 @@ pub record TellsReady (seen : Seen) (name : ArchiveName) : Type 0 where
 
 -- it says so of none
 abbrev pub PassesReady : Seen → Type 0
-PassesReady seen = (name : ArchiveName) → IsWalName name → is_file seen.node ≡ true → string_bytes seen.path ≢ ready_path name
+PassesReady seen = (name : ArchiveName) → IsWalName name → is_file seen.node ≡ true
+    → string_bytes seen.path ≢ ready_path name

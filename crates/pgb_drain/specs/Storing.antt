@@ -1,4 +1,5 @@
--- What the stores of files one after another do to a repository: each file is pushed, where it isn't archived, and noted.
+-- What the stores of files one after another do to a repository: each file is pushed, where it isn't archived, and
+-- noted.
 use Rattle.std.specs.Prelude.{◌≡◌, List, ◌++◌, map, Option, Some, IsSome}
 use Rattle.std.specs.List.{flat_map}
 use Rattle.sha1.specs.Sha1.{sha1}
@@ -24,11 +25,13 @@ stored s id files = after_all s (store_steps s id files)
 
 -- g stands for the stanza after a part of the stores
 abbrev pub IsPartOfStores : Text → Stanza → ArchiveId → List Named → Content → Type 0
-IsPartOfStores stanza s id files g = (done : List Step) × IsPartOf done (map One (store_steps s id files)) × Stands stanza g (after (Some s) done)
+IsPartOfStores stanza s id files g = (done : List Step) × IsPartOf done (map One (store_steps s id files))
+    × Stands stanza g (after (Some s) done)
 
 -- the disk stands for it, where that is told
 abbrev pub NowPartOfStores : Text → Stanza → ArchiveId → List Named → Option Content → Type 0
-NowPartOfStores stanza s id files now = (done : List Step) × IsPartOf done (map One (store_steps s id files)) × NowStands stanza (after (Some s) done) now
+NowPartOfStores stanza s id files now = (done : List Step) × IsPartOf done (map One (store_steps s id files))
+    × NowStands stanza (after (Some s) done) now
 
 -- the stanza has a file archived at the name that the file and its sum give, and it has that sum
 pub record IsArchivedIn (stanza : Text) (s : Stanza) (id : ArchiveId) (n : Named) : Type 0 where
@@ -37,10 +40,15 @@ pub record IsArchivedIn (stanza : Text) (s : Stanza) (id : ArchiveId) (n : Named
   pub lies : stored_name stanza file ≡ archive_path stanza id n.name (sha1 n.bytes)
   pub sum : sha1 file.bytes ≡ sha1 n.bytes
 
--- The repository goes by the stores of files, and then by a part of those of some more: in what the disk holds, and in all that a crash leaves at each moment. At its end all that is left has the files whole.
+-- The repository goes by the stores of files, and then by a part of those of some more: in what the disk holds, and in
+-- all that a crash leaves at each moment. At its end all that is left has the files whole.
 pub record GoesByStores (stanza : Text) (id : ArchiveId) (files more : List Named) (old new : View) : Type 0 where
   pub told : IsSome old.now → IsSome new.now
-  pub now : (s : Stanza) → IsSome old.now → NowStands stanza (Some s) old.now → NowPartOfStores stanza (stored s id files) id more new.now
-  pub moves : (s : Stanza) → IsSteady stanza (Some s) old → IsSome old.now → Moves stanza (IsPartOfStores stanza s id (files ++ more)) old new
-  pub ends : (s : Stanza) → IsSteady stanza (Some s) old → IsSome old.now → (g : Content) → Leaves new new.moment g → IsPartOfStores stanza (stored s id files) id more g
-  pub held : (s : Stanza) → IsSteady stanza (Some s) old → IsSome old.now → (n : Named) → In n files → IsArchivedIn stanza (stored s id files) id n
+  pub now : (s : Stanza) → IsSome old.now → NowStands stanza (Some s) old.now
+      → NowPartOfStores stanza (stored s id files) id more new.now
+  pub moves : (s : Stanza) → IsSteady stanza (Some s) old → IsSome old.now
+      → Moves stanza (IsPartOfStores stanza s id (files ++ more)) old new
+  pub ends : (s : Stanza) → IsSteady stanza (Some s) old → IsSome old.now → (g : Content) → Leaves new new.moment g
+      → IsPartOfStores stanza (stored s id files) id more g
+  pub held : (s : Stanza) → IsSteady stanza (Some s) old → IsSome old.now → (n : Named) → In n files
+      → IsArchivedIn stanza (stored s id files) id n

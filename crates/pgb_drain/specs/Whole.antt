@@ -16,13 +16,15 @@ use Rattle.pgb_drain.specs.Keeping.{DrainsLog}
 use Rattle.pgb_drain.specs.Ready.{IsReady, AreReady}
 
 -- A drain of these names: the marks of no use are taken away, and then what came of each file is marked.
-pub record DrainsNamed (stanza : Text) (id : ArchiveId) (system : ℕ) (f : Nodes) (names : List ArchiveName) (end : Option Drained) (repo new_repo spool new_spool : View) : Type 0 where
+pub record DrainsNamed (stanza : Text) (id : ArchiveId) (system : ℕ) (f : Nodes) (names : List ArchiveName)
+    (end : Option Drained) (repo new_repo spool new_spool : View) : Type 0 where
   pub held : Option Content
   pub cleared : IsSome end → IsCleared (IsStale stanza names) spool.now held
   pub log : DrainsLog stanza id system f names end held repo new_repo spool new_spool
 
 -- a drain of the files that are ready
-pub record DrainsReady (stanza : Text) (id : ArchiveId) (system : ℕ) (f : Nodes) (end : Option Drained) (repo new_repo spool new_spool : View) : Type 0 where
+pub record DrainsReady (stanza : Text) (id : ArchiveId) (system : ℕ) (f : Nodes) (end : Option Drained)
+    (repo new_repo spool new_spool : View) : Type 0 where
   pub names : List ArchiveName
   pub ready : IsSome end → AreReady f names
   pub named : DrainsNamed stanza id system f names end repo new_repo spool new_spool
@@ -33,8 +35,10 @@ marks_folder stanza = archive_folder stanza ⫽ codes "out"
 
 -- all that a crash leaves has at each mark's name what the spool holds, where that wasn't loose before
 abbrev pub HasMarksOf : Text → View → View → Type 0
-HasMarksOf stanza old new = (n : Name) (v : Value) → LiesDirectlyIn (marks_folder stanza) n → ¬ IsTemporary n → is_loose old n ≡ false → MayKeep new n v → Holds new.now n v
+HasMarksOf stanza old new = (n : Name) (v : Value) → LiesDirectlyIn (marks_folder stanza) n → ¬ IsTemporary n
+    → is_loose old n ≡ false → MayKeep new n v → Holds new.now n v
 
 -- a file that is ready ends it so
 abbrev pub EndCauseReady : Text → ArchiveId → Option Nodes → Option Content → PushFault → Type 0
-EndCauseReady stanza id nodes now fault = (name : ArchiveName) × IfSome nodes (λ f. IsReady f name) × EndCause stanza id nodes now name fault
+EndCauseReady stanza id nodes now fault = (name : ArchiveName) × IfSome nodes (λ f. IsReady f name)
+    × EndCause stanza id nodes now name fault

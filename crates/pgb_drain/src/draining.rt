@@ -75,8 +75,8 @@ pub(crate) fn drain_files<D: Disk, S: Disk, T: Tree>(
     Ok(drained)
 }
 
-/// Takes marks of no use away. Then it stores the files of these names that the data folder has, in their order, and marks what
-/// came of each.
+/// Takes marks of no use away. Then it stores the files of these names that the data folder has, in their order, and
+/// marks what came of each.
 pub(crate) fn drain_named<D: Disk, S: Disk, T: Tree>(
     alloc: Global,
     repo: &mut D,

@@ -7,14 +7,14 @@
 //!   stored, or is refused for its content; a refused one is passed over. `pushed` and `refused` count them.
 //! - The spool then has a receipt with its sum of each stored file, and a refusal with its status and its line of each
 //!   refused one. The marks of no use were taken away before, and no other name changes but a temporary one.
-//! - Under the id of the stanza's current cluster it is one command of the log, which stores these files: all of them at
-//!   Ok, the first of them after every answer and every crash, on both disks. To a command that waits for it, it is a
-//!   turn of other processes, which pushes these files.
+//! - Under the id of the stanza's current cluster it is one command of the log, which stores these files: all of them
+//!   at Ok, the first of them after every answer and every crash, on both disks. To a command that waits for it, it is
+//!   a turn of other processes, which pushes these files.
 //! - Each receipt that the spool has at any moment, or that a crash leaves, is an earlier one or of a file that the
 //!   repository has as the drain ends, and that all that a crash then leaves has. So a receipt comes after its push.
 //! - At Ok a crash leaves the marks as they are: their folder is settled once, at the end.
-//! - It changes names below the stanza's folders of the archive and of the spool alone. Members of the archive pair that
-//!   have the same bytes stay so, in all that a crash leaves too.
+//! - It changes names below the stanza's folders of the archive and of the spool alone. Members of the archive pair
+//!   that have the same bytes stay so, in all that a crash leaves too.
 //! - Each end before its end has its cause.
 //!
 //! A stored segment costs three syncs where its folder is there: its bytes, its name and its receipt.

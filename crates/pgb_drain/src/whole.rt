@@ -21,8 +21,8 @@ use pgb_push::PushFault;
 use pgb_stage::Halt;
 use std::alloc::Global;
 
-/// Stores each file of the log that is ready and that the data folder has, in byte order of their names, and marks in the spool
-/// what came of each. The id is that of the stanza's current cluster. Marks of no use are taken away before.
+/// Stores each file of the log that is ready and that the data folder has, in byte order of their names, and marks in
+/// the spool what came of each. The id is that of the stanza's current cluster. Marks of no use are taken away before.
 pub fn drain<D: Disk, S: Disk, T: Tree>(
     alloc: Global,
     repo: &mut D,

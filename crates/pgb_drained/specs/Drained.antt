@@ -21,7 +21,8 @@ use Rattle.pgb_drain.specs.Fates.{Entry, names_of, all_marks, AreFates}
 use Rattle.pgb_drain.specs.Ready.{AreReady}
 use Rattle.pgb_drain.specs.Whole.{EndCauseReady}
 
--- It stores these files, some of those that the data folder has of these names, in their order. Where it ends well these are the files that are ready.
+-- It stores these files, some of those that the data folder has of these names, in their order. Where it ends well
+-- these are the files that are ready.
 pub record IsDrainOf (f : Nodes) (whole : Bool) (command : Command) : Type 0 where
   pub names : List ArchiveName
   pub files : List Named
@@ -29,15 +30,18 @@ pub record IsDrainOf (f : Nodes) (whole : Bool) (command : Command) : Type 0 whe
   pub of_names : AreOf f names files
   pub is : command ≡ ArchivePushDrain files
 
--- Ok: these became of the files that are ready, in what the repository held; the marks of no use were taken away, and then each file got its mark. It tells no line.
-pub record IsDrained (stanza : Text) (f : Nodes) (told : Control) (repo spool new_spool : Option Content) (lines : Text) : Type 0 where
+-- Ok: these became of the files that are ready, in what the repository held; the marks of no use were taken away, and
+-- then each file got its mark. It tells no line.
+pub record IsDrained (stanza : Text) (f : Nodes) (told : Control) (repo spool new_spool : Option Content)
+    (lines : Text) : Type 0 where
   pub current : ClusterId
   pub of : IsCurrent stanza repo (Some f) told current
   pub names : List ArchiveName
   pub ready : AreReady f names
   pub entries : List Entry
   pub all : names_of entries ≡ names
-  pub fates : (s : Stanza) → IsSome repo → NowStands stanza (Some s) repo → AreFates f s (id_kept current) told.system entries
+  pub fates : (s : Stanza) → IsSome repo → NowStands stanza (Some s) repo
+      → AreFates f s (id_kept current) told.system entries
   pub held : Option Content
   pub cleared : IsCleared (IsStale stanza names) spool held
   pub marked : NowGoes (AllOf (all_marks stanza entries)) held new_spool
@@ -56,5 +60,8 @@ drain_status other = 75
 
 -- why it is refused: the data folder is of another cluster, or a file that is ready is too long or stored twice
 abbrev pub DrainCause : Text → Option Content → Option Content → Option Nodes → PushFault → Type 0
-DrainCause stanza repo new_repo nodes fault = ((kept : Identity) × (found : Identity) × (fault ≡ StanzaMismatch kept found) × MismatchCause stanza repo nodes kept found)
-    ⊎ ((told : Control) × (c : ClusterId) × IsCurrent stanza repo nodes told c × EndCauseReady stanza (id_kept c) nodes new_repo fault)
+DrainCause stanza repo new_repo nodes fault =
+    ((kept : Identity) × (found : Identity) × (fault ≡ StanzaMismatch kept found)
+    × MismatchCause stanza repo nodes kept found)
+    ⊎ ((told : Control) × (c : ClusterId) × IsCurrent stanza repo nodes told c
+    × EndCauseReady stanza (id_kept c) nodes new_repo fault)

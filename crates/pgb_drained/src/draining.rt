@@ -27,8 +27,8 @@ use pgb_stage::{Halt, Outcome};
 use pgb_stanza::Control;
 use std::alloc::Global;
 
-/// Stores each file of the log that is ready, and marks in the spool what came of it. As long as it has the locks nobody
-/// can release them.
+/// Stores each file of the log that is ready, and marks in the spool what came of it. As long as it has the locks
+/// nobody can release them.
 pub fn drain_stanza<D: Disk, S: Disk, T: Tree, K: Locks>(
     alloc: Global,
     repo: &mut D,

@@ -1,5 +1,5 @@
-//! archive-push:async: the files of the data folder's log that are ready are stored under the id of the stanza's current
-//! cluster.
+//! archive-push:async: the files of the data folder's log that are ready are stored under the id of the stanza's
+//! current cluster.
 //!
 //! What is proved of `drain_stanza`, while the archive lock is held:
 //!

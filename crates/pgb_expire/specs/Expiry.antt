@@ -32,11 +32,13 @@ retention rules moment = record {
 
 -- g stands for the stanza after a part of its expiry
 abbrev pub IsPartOfExpiry : Text → Retention → Stanza → Content → Type 0
-IsPartOfExpiry stanza kept s g = (done : List Step) × IsPartOf done (expiry_moves kept s) × Stands stanza g (after (Some s) done)
+IsPartOfExpiry stanza kept s g = (done : List Step) × IsPartOf done (expiry_moves kept s)
+    × Stands stanza g (after (Some s) done)
 
 -- what the disk holds, where it is told, stands for it
 abbrev pub NowPartOfExpiry : Text → Retention → Stanza → Option Content → Type 0
-NowPartOfExpiry stanza kept s now = (done : List Step) × IsPartOf done (expiry_moves kept s) × NowStands stanza (after (Some s) done) now
+NowPartOfExpiry stanza kept s now = (done : List Step) × IsPartOf done (expiry_moves kept s)
+    × NowStands stanza (after (Some s) done) now
 
 -- the stanza after all of its expiry
 abbrev pub expired_of : Retention → Stanza → Repository
@@ -54,14 +56,17 @@ pub record WholeFrom (stanza : Text) (kept : Retention) (s : Stanza) (old new : 
 
 -- ---- what stays
 
--- g has the stanza, and in it, with all their bytes, each backup that isn't condemned, and each archived file that the backups left need
+-- g has the stanza, and in it, with all their bytes, each backup that isn't condemned, and each archived file that the
+-- backups left need
 pub record HasNeeded (stanza : Text) (kept : Retention) (s : Stanza) (g : Content) : Type 0 where
   pub left : Stanza
   pub has : HasStanza stanza g left
   pub backups : (b : Backup) → In b s.backups → kept.condemned s b.entry.label ≡ false → In b left.backups
-  pub files : (a : Archived) → In a s.archived → kept.needed (changed (Condemn (kept.condemned s)) s) a ≡ true → In a left.archived
+  pub files : (a : Archived) → In a s.archived → kept.needed (changed (Condemn (kept.condemned s)) s) a ≡ true
+      → In a left.archived
 
--- what the expiry of a stanza may change: the backup pair, folders of labels that aren't listed in the end, and files that aren't needed then
+-- what the expiry of a stanza may change: the backup pair, folders of labels that aren't listed in the end, and files
+-- that aren't needed then
 abbrev pub IsTouched : Text → Rules → ℕ → Stanza → Text → Type 0
 IsTouched stanza rules moment s name =
     let left = changed (Condemn (is_condemned rules moment (listed s))) s in

@@ -56,9 +56,12 @@ IsFinding InfoDisk = ⊥
 IsFinding InfoNoMemory = ⊥
 IsFinding fault = Unit {0}
 
--- Why an expiry isn't done, or not whole: one of the pairs has no value; their histories differ; or the count of faults rose, or memory ran out.
+-- Why an expiry isn't done, or not whole: one of the pairs has no value; their histories differ; or the count of faults
+-- rose, or memory ran out.
 abbrev pub ExpireCause : Text → Option Content → Type 0 → ExpireFault → Type 0
-ExpireCause stanza old rose (Info fault) = IsFinding fault × (PairCause IsArchiveText IsArchiveForm info_limit (archive_info stanza) old rose fault ⊎ PairCause IsBackupText IsBackupForm info_limit (backup_info stanza) old rose fault)
+ExpireCause stanza old rose (Info fault) = IsFinding fault
+    × (PairCause IsArchiveText IsArchiveForm info_limit (archive_info stanza) old rose fault
+    ⊎ PairCause IsBackupText IsBackupForm info_limit (backup_info stanza) old rose fault)
 ExpireCause stanza old rose (HistoryDiffers at) = IfSome old (λ f. HistoriesDiffer stanza f at)
 ExpireCause stanza old rose Disk = rose
 ExpireCause stanza old rose NoMemory = Unit {0}

@@ -34,9 +34,11 @@ pub record TakesAway (these : Name → Type 0) (old new : DiskState) : Type 0 wh
   pub works : Works (λ n v. these n × (v ≡ None)) (λ _. ⊥) old new
   pub now : Drops these old.view.now new.view.now
 
--- where a crash left at each of these names that wasn't loose what the disk held, it leaves there what the disk now holds
+-- where a crash left at each of these names that wasn't loose what the disk held, it leaves there what the disk now
+-- holds
 abbrev pub StaysSettled : (Name → Type 0) → View → View → Type 0
-StaysSettled these old new = Settles these old old → (n : Name) (v : Value) → these n → is_loose old n ≡ false → MayKeep new n v → Holds new.now n v
+StaysSettled these old new = Settles these old old → (n : Name) (v : Value) → these n → is_loose old n ≡ false
+    → MayKeep new n v → Holds new.now n v
 
 -- the name lies in the folder of a label that isn't among these
 pub record IsUnlisted (stanza : Text) (labels : List Label) (name : Text) : Type 0 where
@@ -89,10 +91,12 @@ pub record IsPassing (stanza : Text) (name : Text) : Type 0 where
   pub is : name ≡ archive_name stanza id file (sum_text sum)
   pub passing : is_passing file ≡ true
 
--- a member of the backup pair or the name at which one is put first, a name in the folder of a label, or an archive file
+-- a member of the backup pair or the name at which one is put first, a name in the folder of a label, or an archive
+-- file
 abbrev pub MayExpire : Text → Text → Type 0
 MayExpire stanza name = IsOfPair (backup_info stanza) name ⊎ (IsInLabel stanza name ⊎ IsPassing stanza name)
 
 -- a name of the backup pair, one in the folder of a label that isn't among these, or that of a file that isn't kept
 abbrev pub MayTouch : Text → List Label → (ArchiveId → ArchiveName → Bool) → Text → Type 0
-MayTouch stanza labels keeps name = IsOfPair (backup_info stanza) name ⊎ (IsUnlisted stanza labels name ⊎ IsUnneeded stanza keeps name)
+MayTouch stanza labels keeps name = IsOfPair (backup_info stanza) name
+    ⊎ (IsUnlisted stanza labels name ⊎ IsUnneeded stanza keeps name)

@@ -17,7 +17,8 @@ AreDistinct (n ∷ ns) = ¬ In n ns × AreDistinct ns
 -- these names, the last one first, were taken away one after another, each where it had bytes
 pub data Took (these : Name → Type 0) : List Name → Option Content → Option Content → Type 0 where
   Nothing : (old new : Option Content) → new ≡ old → Took these [] old new
-  Further : (ns : List Name) (old mid new : Option Content) (n : Name) → Took these ns old mid → these n → IsThere mid n → new ≡ option_map (put n None) mid → Took these (n ∷ ns) old new
+  Further : (ns : List Name) (old mid new : Option Content) (n : Name) → Took these ns old mid → these n → IsThere mid n
+      → new ≡ option_map (put n None) mid → Took these (n ∷ ns) old new
 
 -- a count stands still at its type's end
 abbrev pub IsCount : ℕ → List Name → Type 0
@@ -32,4 +33,5 @@ pub record Counted (these : Name → Type 0) (k : ℕ) (old new : Option Content
 -- k archive files are gone that the disk had, where that is told
 pub record CountsGone (stanza : Text) (k : ℕ) (old new : Option Content) : Type 0 where
   pub counts : (f g : Content) → old ≡ Some f → new ≡ Some g
-      → (names : List Name) × AreDistinct names × ((n : Name) → In n names ↔ (IsArchiveFile stanza n × IsSome (f n) × (g n ≡ None))) × IsCount k names
+      → (names : List Name) × AreDistinct names
+      × ((n : Name) → In n names ↔ (IsArchiveFile stanza n × IsSome (f n) × (g n ≡ None))) × IsCount k names

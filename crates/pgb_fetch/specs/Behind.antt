@@ -25,11 +25,13 @@ pub record IsSegmentName (word : Text) (segment : Segment) : Type 0 where
 -- The segments behind a stored one were fetched, by its length; or that is no segment's, and nothing was done.
 abbrev pub FetchesBehind : Text → Segment → Stored → ℕ → Option Content → Option Content → Option Content → Type 0
 FetchesBehind stanza segment file queue repo spool new_spool =
-    (HasSize segment file.size × ((n : ℕ) × IsFetched stanza file.id segment file.size (most_ahead file.size queue) repo spool new_spool n))
+    (HasSize segment file.size × ((n : ℕ)
+    × IsFetched stanza file.id segment file.size (most_ahead file.size queue) repo spool new_spool n))
     ⊎ (¬ HasSize segment file.size × (new_spool ≡ spool))
 
 -- how it ended well: the segment is stored, and those behind it were fetched; or it isn't
-abbrev pub FetchedBy : Text → Control → Text → Segment → ℕ → Option Content → Option Content → Option Content → Outcome → Type 0
+abbrev pub FetchedBy : Text → Control → Text → Segment → ℕ → Option Content → Option Content → Option Content → Outcome
+    → Type 0
 FetchedBy stanza told word segment queue repo spool new_spool (Finished lines) =
     (string_bytes lines ≡ []) × ((file : Stored) × IsKeptAs stanza told (Whole segment) file repo
     × FetchesBehind stanza segment file queue repo spool new_spool)

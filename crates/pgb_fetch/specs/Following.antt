@@ -49,7 +49,8 @@ Starts words old new lines = (IsStartedWith words old new × (lines ≡ []))
 
 -- A fetch is started exactly where what follows the segment isn't in the spool.
 abbrev pub Follows : Text → Segment → ℕ → List Text → Option Content → OthersState → OthersState → Text → Type 0
-Follows stanza segment size words spool old new lines = (IsWanting stanza segment size spool × Starts words old new lines)
+Follows stanza segment size words spool old new lines =
+    (IsWanting stanza segment size spool × Starts words old new lines)
     ⊎ (IsSated stanza segment size spool × (new.started ≡ old.started) × (lines ≡ []))
 
 -- Other processes had no turn, and this program was started with these words at most.

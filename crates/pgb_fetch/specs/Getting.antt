@@ -1,4 +1,5 @@
--- What archive-get serves with archive-async: a segment of the spool where its bytes have the sum that the repository's name tells.
+-- What archive-get serves with archive-async: a segment of the spool where its bytes have the sum that the repository's
+-- name tells.
 use Rattle.std.specs.Prelude.{◌≡◌, List, [], Option, Some, None, Result, Ok, Err, IfSome, string_bytes}
 use Rattle.sha1.specs.Sha1.{sha1}
 use Rattle.pgb_outside.specs.Content.{Content}
@@ -28,7 +29,8 @@ use Rattle.pgb_fetch.specs.Following.{Follows}
 -- ---- what is served
 
 -- the highest id of a history that has the file has it with this sum, and with no other
-pub record HasSumIn (history : List ClusterId) (stanza : Text) (told : Control) (name : ArchiveName) (sum : Text) (f : Content) : Type 0 where
+pub record HasSumIn (history : List ClusterId) (stanza : Text) (told : Control) (name : ArchiveName) (sum : Text)
+    (f : Content) : Type 0 where
   pub cluster : ClusterId
   pub listed : In cluster history
   pub same : IsSame told cluster
@@ -41,7 +43,8 @@ IsFoundBySum stanza told name repo bytes =
     IfSome repo (λ f. OnHistory stanza f (λ v. HasSumIn v.history stanza told name (sha1 bytes) f))
 
 -- the repository has the file that the words name with the sum of these bytes
-pub record IsServedBySum (stanza folder word path : Text) (repo : Option Content) (nodes : Option Nodes) (bytes : Text) : Type 0 where
+pub record IsServedBySum (stanza folder word path : Text) (repo : Option Content) (nodes : Option Nodes)
+    (bytes : Text) : Type 0 where
   pub name : ArchiveName
   pub told : Control
   pub wanted : IsWanted folder word path nodes name told
@@ -87,12 +90,15 @@ StillFolder (Err (Refused fault)) old new = new ≡ old
 StillFolder (Err (Failed object)) old new = Unit {0}
 StillFolder (Err NoMemory) old new = Unit {0}
 
--- What follows a served segment is fetched ahead, by the length of the stored one; of no other file, and where nothing is served.
-abbrev pub FollowsUp : Text → Control → ArchiveName → Option Content → List Text → Option Content → OthersState → OthersState → Outcome → Type 0
+-- What follows a served segment is fetched ahead, by the length of the stored one; of no other file, and where nothing
+-- is served.
+abbrev pub FollowsUp : Text → Control → ArchiveName → Option Content → List Text → Option Content → OthersState
+    → OthersState → Outcome → Type 0
 FollowsUp stanza told (Whole segment) repo words spool old new (Finished lines) =
     (file : Stored) × IsKeptAs stanza told (Whole segment) file repo
     × Follows stanza segment file.size words spool old new (string_bytes lines)
-FollowsUp stanza told name repo words spool old new (Finished lines) = (new.started ≡ old.started) × (string_bytes lines ≡ [])
+FollowsUp stanza told name repo words spool old new (Finished lines) = (new.started ≡ old.started)
+    × (string_bytes lines ≡ [])
 FollowsUp stanza told name repo words spool old new other = new.started ≡ old.started
 
 -- ---- why it isn't served
@@ -107,7 +113,9 @@ LacksFetched stanza told (History timeline) repo spool = Unit {0}
 LacksFetched stanza told (Backup segment offset) repo spool = Unit {0}
 
 -- Why it isn't: as without the spool; and a damaged segment isn't in the spool either.
-abbrev pub GetAheadCause : Text → Text → Text → Text → Control → ArchiveName → Option Content → Option Nodes → Option Content → GetFault → Type 0
+abbrev pub GetAheadCause : Text → Text → Text → Text → Control → ArchiveName → Option Content → Option Nodes
+    → Option Content → GetFault → Type 0
 GetAheadCause stanza folder word path told name repo nodes spool (SegmentDamaged sum found) =
     GetCause stanza folder word path repo nodes (SegmentDamaged sum found) × LacksFetched stanza told name repo spool
-GetAheadCause stanza folder word path told name repo nodes spool other = GetCause stanza folder word path repo nodes other
+GetAheadCause stanza folder word path told name repo nodes spool other =
+    GetCause stanza folder word path repo nodes other

@@ -79,8 +79,8 @@ fn fetch_from<D: Disk, S: Disk>(
     }
 }
 
-/// Fetches the segments that follow a stored one into the spool, as many as a queue of so many bytes holds. `told` is what
-/// the data folder tells of its cluster, and `info` the value of the archive pair.
+/// Fetches the segments that follow a stored one into the spool, as many as a queue of so many bytes holds. `told` is
+/// what the data folder tells of its cluster, and `info` the value of the archive pair.
 pub fn fetch_behind<D: Disk, S: Disk>(
     alloc: Global,
     repo: &mut D,

@@ -31,9 +31,9 @@ use pgb_stanza::Control;
 use pgb_turn::Aside;
 use std::alloc::Global;
 
-/// Serves a file of the archive at a path of the data folder: a whole segment from the spool, where that has it. Behind that
-/// a fetch is started with these words, where the spool hasn't the next segment. `told` is what the data folder tells of its
-/// cluster, and `info` the value of the archive pair.
+/// Serves a file of the archive at a path of the data folder: a whole segment from the spool, where that has it. Behind
+/// that a fetch is started with these words, where the spool hasn't the next segment. `told` is what the data folder
+/// tells of its cluster, and `info` the value of the archive pair.
 pub fn get_ahead<D: Disk, S: Disk, T: Tree, A: Aside<D, S>>(
     alloc: Global,
     repo: &mut D,

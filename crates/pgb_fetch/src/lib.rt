@@ -3,9 +3,9 @@
 //! What is proved, by the contract of the function that is named:
 //!
 //! - `get_ahead`: as archive-get, but a whole segment comes from the spool where that has it with the sum that the
-//!   repository's name tells, by the digest of its bytes; else from the repository. So what is served is the repository's,
-//!   as long as no two contents share a SHA-1. Behind a served segment a fetch is started exactly where the spool hasn't
-//!   the next one; where that fails, a line tells it. The segment's names in the spool are taken away.
+//!   repository's name tells, by the digest of its bytes; else from the repository. So what is served is the
+//!   repository's, as long as no two contents share a SHA-1. Behind a served segment a fetch is started exactly where
+//!   the spool hasn't the next one; where that fails, a line tells it. The segment's names in the spool are taken away.
 //! - `fetch_order`: the segment that the argument names, or why it names none.
 //! - `fetch_behind`: the segments that follow a stored one are in the spool, as many as the queue holds.
 //! - Both only read the repository, give no receipt, and keep to their stanza. Each refusal has its cause.

@@ -28,8 +28,8 @@ is_wanted w (Some Vanished) = false
 abbrev pub is_right : Wanted → ℕ → Option ItemEnd → Bool
 is_right w count end = is_wanted w end && nat_lt 0 count
 
--- The bytes that are held of its item: those of the file where it has its own name, else those under its temporary name. There is no such
--- file before the first bytes.
+-- The bytes that are held of its item: those of the file where it has its own name, else those under its temporary
+-- name. There is no such file before the first bytes.
 abbrev pub told_by : Bool → ℕ → Text → Option Nodes → Option Text
 told_by true count path nodes = bytes_at path nodes
 told_by false zero path nodes = Some []
@@ -100,7 +100,9 @@ pub record IsBegun (count : ℕ) (name : Text) (old new : Option Nodes) : Type 0
 
 -- behind the bytes that were held are these
 abbrev pub Grows : ℕ → Text → Text → Option Nodes → Option Nodes → Type 0
-Grows count path bytes old new = (before : Text) → count ≡ length before → IfSome (told_by false count path old) (λ t. t ≡ before) → IfSome (bytes_at (temporary_path path) new) (λ t. t ≡ before ++ bytes)
+Grows count path bytes old new = (before : Text) → count ≡ length before
+    → IfSome (told_by false count path old) (λ t. t ≡ before)
+    → IfSome (bytes_at (temporary_path path) new) (λ t. t ≡ before ++ bytes)
 
 -- the file under the temporary name has its own
 pub record IsPut (path : Text) (old new : Option Nodes) : Type 0 where

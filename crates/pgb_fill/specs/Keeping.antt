@@ -25,7 +25,8 @@ IsFolderAt path nodes = IfSome (at path nodes) (λ node. node ≡ Some folder)
 
 -- each of these files has its folder, which is none of them, nor the temporary name of one
 abbrev pub HaveFolders : List Wanted → Option Nodes → Type 0
-HaveFolders ws nodes = (w : Wanted) → In w ws → (front last : Text) → w.path.now ≡ front ⫽ last → ¬ Contains last 47 → IsNoneOf ws front × IsFolderAt front nodes
+HaveFolders ws nodes = (w : Wanted) → In w ws → (front last : Text) → w.path.now ≡ front ⫽ last → ¬ Contains last 47
+    → IsNoneOf ws front × IsFolderAt front nodes
 
 -- within these two counts of the tree's faults, one rose
 pub record RoseWithin (f g : ℕ) : Type 0 where

@@ -13,14 +13,23 @@ use Rattle.pgb_fill.specs.Files.{wanted_of}
 use Rattle.pgb_fill.specs.Keeping.{IsNoneOf, HaveFolders, RoseWithin, Later}
 
 -- what is no file's path is as it was, so their folders are there
-pub folders_stay : (ws : List Wanted) (u v : Option Nodes) → ((q : Text) → IsNoneOf ws q → at q v ≡ at q u) → HaveFolders ws u → HaveFolders ws v
+pub folders_stay : (ws : List Wanted) (u v : Option Nodes) → ((q : Text) → IsNoneOf ws q → at q v ≡ at q u)
+    → HaveFolders ws u → HaveFolders ws v
 folders_stay ws u v same have w i front last is plain =
     let x = have w i front last is plain in
     (x.0, subst (λ (o : Option (Option Held)). IfSome o (λ node. node ≡ Some folder)) (sym (same front x.0)) x.1)
 
 -- a keeper is later than itself, and than one before
 pub later_same : (k : FileKeeper) (u : TreeState) → Later k k u u
-later_same k u = record { jobs = refl; wanted = refl; others = λ q none. refl; opened = refl; proper = λ placed. refl; later = le_refl u.faults; failed = λ some. inl some }
+later_same k u = record {
+  jobs = refl;
+  wanted = refl;
+  others = λ q none. refl;
+  opened = refl;
+  proper = λ placed. refl;
+  later = le_refl u.faults;
+  failed = λ some. inl some;
+}
 
 pub later_through : (a b c : FileKeeper) (u v w : TreeState) → Later a b u v → Later b c v w → Later a c u w
 later_through a b c u v w p q = record {
@@ -29,11 +38,20 @@ later_through a b c u v w p q = record {
   others = λ n none. q.others n (subst (λ (ws : List Wanted). IsNoneOf ws n) (sym p.wanted) none) ∙ p.others n none;
   opened = q.opened ∙ p.opened;
   proper = λ have.
-      q.proper (subst (λ (ws : List Wanted). HaveFolders ws v.nodes) (sym p.wanted) (folders_stay (map wanted_of a.files.items) u.nodes v.nodes p.others have))
+      q.proper (subst (λ (ws : List Wanted). HaveFolders ws v.nodes) (sym p.wanted)
+      (folders_stay (map wanted_of a.files.items) u.nodes v.nodes p.others have))
       ∙ p.proper have;
   later = le_trans p.later q.later;
   failed = λ some. ⊎_elim
-      (λ was. ⊎_elim (λ x. inl x) (λ r. inr (record { before = r.before; after = r.after; from = r.from; rose = r.rose; to = le_trans r.to q.later })) (p.failed was))
-      (λ r. inr (record { before = r.before; after = r.after; from = le_trans p.later r.from; rose = r.rose; to = r.to }))
+      (λ was. ⊎_elim (λ x. inl x) (λ r. inr
+      (record { before = r.before; after = r.after; from = r.from; rose = r.rose; to = le_trans r.to q.later }))
+      (p.failed was))
+      (λ r. inr (record {
+        before = r.before;
+        after = r.after;
+        from = le_trans p.later r.from;
+        rose = r.rose;
+        to = r.to;
+      }))
       (q.failed some);
 }

@@ -59,7 +59,8 @@ NoneAbove history stanza told name c f =
     (d : ClusterId) → In d history → IsSame told d → c.id < d.id → StoresNone stanza (id_kept d) name f
 
 -- the highest of them that has the file has these bytes
-pub record FoundIn (history : List ClusterId) (stanza : Text) (told : Control) (name : ArchiveName) (bytes : Text) (f : Content) : Type 0 where
+pub record FoundIn (history : List ClusterId) (stanza : Text) (told : Control) (name : ArchiveName) (bytes : Text)
+    (f : Content) : Type 0 where
   pub cluster : ClusterId
   pub listed : In cluster history
   pub same : IsSame told cluster
@@ -67,11 +68,13 @@ pub record FoundIn (history : List ClusterId) (stanza : Text) (told : Control) (
   pub has : StoresBytes stanza (id_kept cluster) name f (sha1 bytes) bytes
 
 -- none of them has it
-pub record AbsentIn (history : List ClusterId) (stanza : Text) (told : Control) (name : ArchiveName) (f : Content) : Type 0 where
+pub record AbsentIn (history : List ClusterId) (stanza : Text) (told : Control) (name : ArchiveName)
+    (f : Content) : Type 0 where
   pub none : (c : ClusterId) → In c history → IsSame told c → StoresNone stanza (id_kept c) name f
 
 -- the highest of them that has it is refused
-pub record RefusedIn (history : List ClusterId) (stanza : Text) (told : Control) (name : ArchiveName) (repo : Option Content) (fault : ArchiveFault) : Type 0 where
+pub record RefusedIn (history : List ClusterId) (stanza : Text) (told : Control) (name : ArchiveName)
+    (repo : Option Content) (fault : ArchiveFault) : Type 0 where
   pub cluster : ClusterId
   pub listed : In cluster history
   pub same : IsSame told cluster
@@ -85,7 +88,8 @@ OnHistory stanza f P = (v : ArchiveInfo) × PairIs IsArchiveText f (archive_info
 -- ---- what is served
 
 -- the words name a file of the archive and a path in the data folder, which tells this cluster
-pub record IsWanted (folder word path : Text) (nodes : Option Nodes) (name : ArchiveName) (told : Control) : Type 0 where
+pub record IsWanted (folder word path : Text) (nodes : Option Nodes) (name : ArchiveName) (told : Control) : Type
+    0 where
   pub named : IsFileName word name
   pub inside : IsPath (served_path folder path)
   pub tells : IfSome nodes (λ f. FolderTells f told)
@@ -101,7 +105,8 @@ IsAbsent stanza told name repo =
     IfSome repo (λ f. OnHistory stanza f (λ v. HasSame v.history told × AbsentIn v.history stanza told name f))
 
 -- the repository has the file with these bytes
-pub record IsServed (stanza folder word path : Text) (repo : Option Content) (nodes : Option Nodes) (bytes : Text) : Type 0 where
+pub record IsServed (stanza folder word path : Text) (repo : Option Content) (nodes : Option Nodes)
+    (bytes : Text) : Type 0 where
   pub name : ArchiveName
   pub told : Control
   pub wanted : IsWanted folder word path nodes name told
@@ -172,7 +177,8 @@ RefusedOf stanza told name repo fault =
 
 -- this is the archive pair's current cluster, and none of its history is the data folder's
 abbrev pub IsForeign : Text → Control → ClusterId → Content → Type 0
-IsForeign stanza told c f = OnHistory stanza f (λ v. (at_number v.current v.history ≡ Some c) × ¬ HasSame v.history told)
+IsForeign stanza told c f = OnHistory stanza f
+    (λ v. (at_number v.current v.history ≡ Some c) × ¬ HasSame v.history told)
 
 -- why a file isn't had from the repository, for a data folder that tells this
 abbrev pub FetchCause : Text → Control → ArchiveName → Option Content → GetFault → Type 0

@@ -16,7 +16,8 @@ use Rattle.pgb_get.specs.Getting.{IsSame, NoneAbove, AbsentIn, OnHistory, IsAbse
 use Rattle.pgb_get.specs.Serving.{IsUnstoredUnder}
 
 -- the highest id of a history that has the file stores it with one sum alone, as this tells
-pub record KeptIn (history : List ClusterId) (stanza : Text) (told : Control) (name : ArchiveName) (file : Stored) (f : Content) : Type 0 where
+pub record KeptIn (history : List ClusterId) (stanza : Text) (told : Control) (name : ArchiveName) (file : Stored)
+    (f : Content) : Type 0 where
   pub cluster : ClusterId
   pub listed : In cluster history
   pub same : IsSame told cluster
@@ -30,7 +31,8 @@ FindsIn history stanza told name None f = AbsentIn history stanza told name f
 
 -- the archive pair's history has the file so
 abbrev pub IsKeptAs : Text → Control → ArchiveName → Stored → Option Content → Type 0
-IsKeptAs stanza told name file repo = IfSome repo (λ f. OnHistory stanza f (λ v. KeptIn v.history stanza told name file f))
+IsKeptAs stanza told name file repo =
+    IfSome repo (λ f. OnHistory stanza f (λ v. KeptIn v.history stanza told name file f))
 
 -- where the file is stored; or the archive pair's history has clusters of the data folder, and none of them has it
 abbrev pub IsLookedUp : Text → Control → ArchiveName → Option Stored → Option Content → Type 0
@@ -39,7 +41,8 @@ IsLookedUp stanza told name None repo = IsAbsent stanza told name repo
 
 -- where it is stored under the id of a cluster, which is the data folder's
 abbrev pub FindsUnder : ClusterId → Text → Control → ArchiveName → Option Stored → Option Content → Type 0
-FindsUnder cluster stanza told name (Some file) repo = IsSame told cluster × IfSome repo (λ f. Finds stanza (id_kept cluster) name f (Some file))
+FindsUnder cluster stanza told name (Some file) repo = IsSame told cluster
+    × IfSome repo (λ f. Finds stanza (id_kept cluster) name f (Some file))
 FindsUnder cluster stanza told name None repo = IsUnstoredUnder cluster stanza told name repo
 
 -- no stored bytes are read, so none are found damaged

@@ -10,7 +10,8 @@ use Rattle.pgb_story.specs.Story.{Disks, Call, stopped, Does, AreStill, AreFair,
 use Rattle.pgb_story.proofs.Kept.{all_keep, all_leave, all_still, all_rest, opened_keep}
 use Rattle.pgb_turn.specs.Turns.{Account}
 use Rattle.pgb_command.specs.Asked.{Request, create, push, leave, drain, get, get_through, fetch_ahead, backup, backup_running, restore, report, examine, expire, rehearse, Asked}
-use Rattle.pgb_command.specs.Tables.{Known, TurnsTold, uses_turns}
+use Rattle.pgb_command.specs.Tables.{Known, TurnsTold}
+use Rattle.pgb_command.specs.Uses.{uses_turns}
 use Rattle.pgb_headline.specs.declared.playing.Act.{Act}
 use Rattle.pgb_headline.specs.Lists.{IsLeft, CallGoes, AreOthersOf, HaveOthers, files_of, stanza_of}
 use Rattle.pgb_headline.specs.Acts.{IsCallOf, IsShown, GoesOn, Went}

@@ -16,7 +16,8 @@ use Rattle.pgb_command.specs.Answers.{status_of, reached_of, ending_of}
 use Rattle.pgb_command.specs.Asked.{Asked, MayAsk}
 use Rattle.pgb_command.specs.Causes.{IsAnswered, Carries, Answers}
 use Rattle.pgb_command.specs.Did.{IsIdle}
-use Rattle.pgb_command.specs.Tables.{known, plan_of, manner_of}
+use Rattle.pgb_command.specs.Tables.{known, manner_of}
+use Rattle.pgb_command.specs.Uses.{plan_of}
 use Rattle.pgb_command.proofs.Follows.{told_as}
 use Rattle.pgb_command.proofs.Statuses.{over, zero_ends}
 use Rattle.pgb_command.proofs.InForm.{asked_in_form}

@@ -20,7 +20,8 @@ use Rattle.pgb_headline.specs.declared.workers.Workers.{Workers}
 use Rattle.pgb_worker_links.specs.Workers.{state_of}
 use Rattle.pgb_model.specs.Text.{Text}
 use Rattle.pgb_command.specs.Asked.{Asked, MayAsk}
-use Rattle.pgb_command.specs.Tables.{Known, uses_turns}
+use Rattle.pgb_command.specs.Tables.{Known}
+use Rattle.pgb_command.specs.Uses.{uses_turns}
 use Rattle.pgb_headline.specs.Acts.{both, GoesOn}
 
 -- what the two disks in memory hold
@@ -51,13 +52,16 @@ pub record IsLeft (v : View) (first moment : ℕ) (opened : View) : Type 0 where
   pub reopened : IsReopened content opened
 
 -- the log goes on by a call with these words, of which the objects held this before
-abbrev pub CallGoes : List Text → Option Content → Option Nodes → List LinkState → ClockState → ℕ → Bool → List Call → List Call → Type 0
+abbrev pub CallGoes : List Text → Option Content → Option Nodes → List LinkState → ClockState → ℕ → Bool → List Call
+    → List Call → Type 0
 CallGoes words files nodes links clock status was_stopped before after =
-    (old : Known) × (new : Known) × (old.nodes ≡ nodes) × (old.links ≡ links) × (old.clock ≡ clock) × GoesOn words files old new status was_stopped before after
+    (old : Known) × (new : Known) × (old.nodes ≡ nodes) × (old.links ≡ links) × (old.clock ≡ clock)
+    × GoesOn words files old new status was_stopped before after
 
 -- it goes on by the act, which ended with this status, or would have
 abbrev pub ActGoes : Act → ℕ → List Call → List Call → Type 0
-ActGoes x status before after = CallGoes (map string_bytes x.words.items) (files_of x.config) (nodes_of x.tree) (links_of x.workers) (clock_of x.clock) status (is_some x.halt) before after
+ActGoes x status before after = CallGoes (map string_bytes x.words.items) (files_of x.config) (nodes_of x.tree)
+    (links_of x.workers) (clock_of x.clock) status (is_some x.halt) before after
 
 -- the stanza for which other processes push
 abbrev pub stanza_of : MemOthers → Text
@@ -70,4 +74,5 @@ AreOthersOf words files stanza = (a : Asked) → MayAsk words files a → uses_t
 -- so do those of each of the acts
 abbrev pub HaveOthers : List Act → Type 0
 HaveOthers [] = Unit {0}
-HaveOthers (x ∷ xs) = AreOthersOf (map string_bytes x.words.items) (files_of x.config) (stanza_of x.others) × HaveOthers xs
+HaveOthers (x ∷ xs) = AreOthersOf (map string_bytes x.words.items) (files_of x.config) (stanza_of x.others)
+    × HaveOthers xs

@@ -6,7 +6,8 @@ use Rattle.pgb_outside.specs.Links.{LinkState, Told}
 use Rattle.pgb_worker_reply.specs.Reads.{Reads}
 use Rattle.pgb_command.specs.Told.{AreWorkers}
 
-quiet_prop : (o : Option Told) → IsProp (IfSome o (λ (t : Told). (tree repo : Content) → Reads tree repo t → t.pending ≡ []))
+quiet_prop : (o : Option Told) → IsProp
+    (IfSome o (λ (t : Told). (tree repo : Content) → Reads tree repo t → t.pending ≡ []))
 quiet_prop None = hlevel props
 quiet_prop (Some t) = hlevel props
 

@@ -1,8 +1,8 @@
 //! The headline as functions: calls of the program and stops, over any devices and over devices in memory.
 //!
 //! - `called` calls the program, and says of the call what `pgb_story`'s `Does` says.
-//! - `play_one` plays one call over devices in memory, and its stop at any moment where it has one; `play` a list of them.
-//!   Disks that keep the logs of all stanzas go on with them.
+//! - `play_one` plays one call over devices in memory, and its stop at any moment where it has one; `play` a list of
+//!   them. Disks that keep the logs of all stanzas go on with them.
 //!
 //! What is proved, by the contract of the function that is named:
 //!

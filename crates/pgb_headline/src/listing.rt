@@ -18,8 +18,8 @@ fn note(statuses: &mut Vec<u8>, status: u8) -> Result<(), PlayFault>
 }
 
 /// Plays acts one after another, and answers what each call ended with: disks that keep the logs of all stanzas keep
-/// them with all of these calls, in their order. Where one waits for turns of other processes, these have to push for the
-/// stanza that its words ask for.
+/// them with all of these calls, in their order. Where one waits for turns of other processes, these have to push for
+/// the stanza that its words ask for.
 pub fn play(alloc: Global, disks: Disks, acts: Vec<Act>) -> Result<(Disks, Vec<u8>), PlayFault>
     ensures keeps { IfOk result (λ r. HaveOthers acts.items → (before : List Call) → KeepsAll before (views disks)
         → (after : List Call) × ArePlayed ActGoes acts.items r.1.items before after × KeepsAll after (views r.0)) }

@@ -17,8 +17,8 @@ use pgb_outside::Disk;
 use pgb_worker_links::MemTurns;
 use std::alloc::Global;
 
-/// What a stop leaves of a disk: the moment of the stop, which kept value each name has, and the bytes of loose names; and
-/// which calls are to fail afterwards.
+/// What a stop leaves of a disk: the moment of the stop, which kept value each name has, and the bytes of loose names;
+/// and which calls are to fail afterwards.
 #[derive(Drop)]
 pub struct Left {
     pub moment: u64,
@@ -155,9 +155,9 @@ fn both_reopened(
     Ok(Disks { repo, spool })
 }
 
-/// Plays a call, with its stop where it has one: disks that keep the logs of all stanzas keep them with the call. Where it
-/// waits for turns of other processes, these have to push for the stanza that its words ask for. It answers the status
-/// that the call ends with, or would have ended with.
+/// Plays a call, with its stop where it has one: disks that keep the logs of all stanzas keep them with the call. Where
+/// it waits for turns of other processes, these have to push for the stanza that its words ask for. It answers the
+/// status that the call ends with, or would have ended with.
 pub fn play_one(alloc: Global, disks: Disks, act: Act) -> Result<(Disks, u8), PlayFault>
     ensures keeps { IfOk result (λ r. AreOthersOf (map string_bytes act.words.items) (files_of act.config)
         (stanza_of act.others) → (before : List Call) → KeepsAll before (views disks)

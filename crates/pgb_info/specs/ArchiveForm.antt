@@ -10,7 +10,8 @@ use Rattle.pgb_keys.specs.Agree.{AgreeAt, KeysAgree, db, db_history}
 
 -- the current cluster is the one that the section `db` tells, and the history has a cluster for each of its keys
 pub record Matches (ss : List Section) (v : ArchiveInfo) : Type 0 where
-  pub current : (s : Section) → In s ss → s.name ≡ db → s.keys ≡ fields_of cluster_id_fields (at_number v.current v.history)
+  pub current : (s : Section) → In s ss → s.name ≡ db
+      → s.keys ≡ fields_of cluster_id_fields (at_number v.current v.history)
   pub clusters : (s : Section) → In s ss → s.name ≡ db_history → length s.keys ≤ length v.history
 
 -- the section `db` tells a cluster
@@ -19,10 +20,12 @@ pub record TellsCluster (ss : List Section) : Type 0 where
   pub rules : IsClusterId cluster
   pub found : In (record { name = db; keys = cluster_id_fields cluster }) ss
 
--- The sections are those of no value, and no value has at this key what they have. In the history only the values count that match the rest.
+-- The sections are those of no value, and no value has at this key what they have. In the history only the values count
+-- that match the rest.
 pub record IsArchiveForm (ss : List Section) (section key : Text) : Type 0 where
   pub none : (v : ArchiveInfo) → IsArchiveInfo v → archive_sections v ≢ ss
-  pub wrong : (v : ArchiveInfo) → IsArchiveInfo v → (section ≡ db_history → Matches ss v) → ¬ AgreeAt (archive_sections v) ss section key
+  pub wrong : (v : ArchiveInfo) → IsArchiveInfo v → (section ≡ db_history → Matches ss v)
+      → ¬ AgreeAt (archive_sections v) ss section key
   pub told : section ≡ db_history → TellsCluster ss
 
 -- ---- section by section

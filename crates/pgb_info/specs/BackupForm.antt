@@ -23,23 +23,27 @@ AgreeIn v ss section = (key : Text) → AgreeAt (backup_sections v) ss section k
 
 -- the value has at each earlier key of the section what the sections have
 abbrev pub AgreeBefore : BackupInfo → List Section → Text → Text → Type 0
-AgreeBefore v ss section key = (earlier : Text) → is_before earlier key ≡ true → AgreeAt (backup_sections v) ss section earlier
+AgreeBefore v ss section key = (earlier : Text) → is_before earlier key ≡ true
+    → AgreeAt (backup_sections v) ss section earlier
 
 -- the history has a cluster for each of its keys
 abbrev pub HasClusters : BackupInfo → List Section → Type 0
 HasClusters v ss = (s : Section) → In s ss → s.name ≡ db_history → length s.keys ≤ length v.history
 
--- The value has all that stands before the key. Before a key of the history stand the two other sections, and the count of its clusters.
+-- The value has all that stands before the key. Before a key of the history stand the two other sections, and the count
+-- of its clusters.
 pub record HasBefore (v : BackupInfo) (ss : List Section) (section key : Text) : Type 0 where
   pub listed : section ≡ backup_current → AgreeBefore v ss backup_current key
   pub current : section ≡ db → AgreeIn v ss backup_current × AgreeBefore v ss db key
   pub history : section ≡ db_history → AgreeIn v ss backup_current × AgreeIn v ss db × HasClusters v ss
 
--- The sections are those of no value. Some value has all that stands before this key, and each that does has something else at the key.
+-- The sections are those of no value. Some value has all that stands before this key, and each that does has something
+-- else at the key.
 pub record IsBackupForm (ss : List Section) (section key : Text) : Type 0 where
   pub none : (v : BackupInfo) → IsBackupInfo v → backup_sections v ≢ ss
   pub told : (v : BackupInfo) × IsBackupInfo v × HasBefore v ss section key
-  pub wrong : (v : BackupInfo) → IsBackupInfo v → HasBefore v ss section key → ¬ AgreeAt (backup_sections v) ss section key
+  pub wrong : (v : BackupInfo) → IsBackupInfo v → HasBefore v ss section key
+      → ¬ AgreeAt (backup_sections v) ss section key
 
 -- ---- section by section
 
@@ -61,7 +65,8 @@ pub record IsNext (front : List Field) (k : Field) (e : Entry) : Type 0 where
 -- Some list has all that stands before this key of `backup:current`, and each that does has something else at the key.
 pub record IsWrongBackup (ks : List Field) (key : Text) : Type 0 where
   pub told : (es : List Entry) × IsList es × KeysAgreeBefore (map entry_field es) ks key
-  pub wrong : (es : List Entry) → IsList es → KeysAgreeBefore (map entry_field es) ks key → ¬ KeysAgree (map entry_field es) ks key
+  pub wrong : (es : List Entry) → IsList es → KeysAgreeBefore (map entry_field es) ks key
+      → ¬ KeysAgree (map entry_field es) ks key
 
 -- Some cluster has all that stands before this key of `db`, and none has what stands at it.
 pub record IsWrongCluster (ks : List Field) (key : Text) : Type 0 where

@@ -16,7 +16,8 @@ module _ {X : Type 0} (IsOne : X → Type 0) (number : X → ℕ) (field : X →
     pub key : (c : X) → IsOne c → IsKey (field c)
     pub one : (c e : X) → IsOne c → IsOne e → field c ≡ field e → c ≡ e
 
-  -- clusters that are numbered 1, 2, 3 and so on, with this one at its number, so many at least, and one at least for each of so many keys
+  -- clusters that are numbered 1, 2, 3 and so on, with this one at its number, so many at least, and one at least for
+  -- each of so many keys
   pub record IsHistory (current : X) (least keys : ℕ) (h : List X) : Type 0 where
     pub clusters : AllByRecursion IsOne h
     pub numbers : AreFrom 1 (map number h)
@@ -24,6 +25,8 @@ module _ {X : Type 0} (IsOne : X → Type 0) (number : X → ℕ) (field : X →
     pub within : least ≤ length h
     pub long : keys ≤ length h
 
-  -- no history with this current cluster, with so many at least, and with a cluster for each key, has at this key what these keys have
+  -- no history with this current cluster, with so many at least, and with a cluster for each key, has at this key what
+  -- these keys have
   abbrev pub IsWrongHistory : X → ℕ → List Field → Text → Type 0
-  IsWrongHistory current least ks key = (h : List X) → IsHistory current least (length ks) h → ¬ KeysAgree (by_key (map field h)) ks key
+  IsWrongHistory current least ks key = (h : List X) → IsHistory current least (length ks) h
+      → ¬ KeysAgree (by_key (map field h)) ks key

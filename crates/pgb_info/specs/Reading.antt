@@ -29,12 +29,15 @@ module _ {V : Type 0} (IsTextOf : V → Text → Type 0) (IsForm : List Section 
 -- the text is that of the sections, or of none
 abbrev pub SectionsAre : Text → Result (Vec Part Global) MemberFault → Type 0
 SectionsAre text (Ok parts) = IsInfo (sections_of parts.items) × (text ≡ info_text (sections_of parts.items))
-SectionsAre text (Err (Syntax line)) = IsFault text (syntax line) × ((ss : List Section) → IsInfo ss → text ≢ info_text ss)
-SectionsAre text (Err (Sum told found)) = IsFault text (sum told.0 found.0) × ((ss : List Section) → IsInfo ss → text ≢ info_text ss)
+SectionsAre text (Err (Syntax line)) = IsFault text (syntax line)
+    × ((ss : List Section) → IsInfo ss → text ≢ info_text ss)
+SectionsAre text (Err (Sum told found)) = IsFault text (sum told.0 found.0)
+    × ((ss : List Section) → IsInfo ss → text ≢ info_text ss)
 SectionsAre text (Err fault) = ⊥
 
 -- A kind of text, with the value that a program's value stands for.
-module _ {X V : Type 0} (IsTextOf : V → Text → Type 0) (IsForm : List Section → Text → Text → Type 0) (value : X → V) where
+module _ {X V : Type 0} (IsTextOf : V → Text → Type 0) (IsForm : List Section → Text → Text → Type 0)
+    (value : X → V) where
   -- the value of the text, or the fault for which it has none
   abbrev pub TextGives : Text → Result X MemberFault → Type 0
   TextGives bytes (Ok x) = IsTextOf (value x) bytes

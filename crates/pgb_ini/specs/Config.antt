@@ -40,11 +40,13 @@ abbrev pub section_row : Text → Row
 section_row name = if is_utf8 name then opens name else bad
 
 abbrev pub key_row : Text → Text → Row
-key_row key value = if is_utf8 key then (if is_utf8 value then (if length key == 0 then bad else sets key value) else bad) else bad
+key_row key value = if is_utf8 key then (if is_utf8
+    value then (if length key == 0 then bad else sets key value) else bad) else bad
 
 -- `[name]`, or a key and its value on the two sides of the first `=`
 abbrev pub plain_row : Text → Row
-plain_row text = option_map_or section_row (name_in text) (option_map_or (λ p. key_row (trim_end p.0) (trim_start p.1)) (cut_at 61 text) bad)
+plain_row text = option_map_or section_row (name_in text)
+    (option_map_or (λ p. key_row (trim_end p.0) (trim_start p.1)) (cut_at 61 text) bad)
 
 -- an empty line and a comment say nothing
 abbrev pub text_row : Text → Row
@@ -66,7 +68,11 @@ start = record { open_section = None; settings = [] }
 
 abbrev pub set_in : Option Text → List Setting → ℕ → Text → Text → Option Config
 set_in None before line key value = None
-set_in (Some section) before line key value = Some (record { open_section = Some section; settings = before ++ record { section = section; key = key; value = value; line = line } ∷ [] })
+set_in (Some section) before line key value =
+    Some (record {
+      open_section = Some section;
+      settings = before ++ record { section = section; key = key; value = value; line = line } ∷ [];
+    })
 
 -- a key is taken where a section is open
 abbrev pub set : Config → ℕ → Text → Text → Option Config

@@ -26,14 +26,16 @@ cut_at c xs = option_map (λ i. (take i xs, drop (i + 1) xs)) (position (λ b. b
 
 -- the name of `[name]`
 abbrev pub name_in : List ℕ → Option (List ℕ)
-name_in piece = if nat_lt 1 (length piece) && (slice_index piece 0 == 91) && (slice_index piece (length piece - 1) == 93) then Some (take (length piece - 2) (drop 1 piece)) else None
+name_in piece = if nat_lt 1 (length piece) && (slice_index piece 0 == 91)
+    && (slice_index piece (length piece - 1) == 93) then Some (take (length piece - 2) (drop 1 piece)) else None
 
 abbrev pub check_start : List ℕ
 check_start = codes "backrest-checksum=\""
 
 -- the sum of `backrest-checksum="digits"`
 abbrev pub sum_in : List ℕ → Option (List ℕ)
-sum_in piece = if (length piece == 60) && bytes_eq (take 19 piece) check_start && (slice_index piece 59 == 34) then read_sum (take 40 (drop 19 piece)) else None
+sum_in piece = if (length piece == 60) && bytes_eq (take 19 piece) check_start
+    && (slice_index piece 59 == 34) then read_sum (take 40 (drop 19 piece)) else None
 
 -- the value, where this is its one text
 abbrev pub spelled_as : List ℕ → Data → Option Data
@@ -64,23 +66,29 @@ last_key keys = fold (λ _ k. k.0) [] keys
 
 -- a section begins
 abbrev pub opened : List Section → List ℕ → Option State
-opened done name = if is_utf8 name && is_name name && is_before (last_name done) name then Some (within done name []) else None
+opened done name = if is_utf8 name && is_name name
+    && is_before (last_name done) name then Some (within done name []) else None
 
 -- a section ends
 abbrev pub closed : List Section → List ℕ → List (List ℕ × Data) → Option State
-closed done name keys = if has_keys keys then Some (between (done ++ record { name = name; keys = keys } ∷ [])) else None
+closed done name keys = if has_keys keys then Some
+    (between (done ++ record { name = name; keys = keys } ∷ [])) else None
 
 -- one more key
 abbrev pub more : List Section → List ℕ → List (List ℕ × Data) → List ℕ × List ℕ → Option State
-more done name keys k = if is_utf8 k.0 && is_key k.0 && is_before (last_key keys) k.0 then option_map (λ d. within done name (keys ++ (k.0, d) ∷ [])) (value_of k.1) else None
+more done name keys k = if is_utf8 k.0 && is_key k.0
+    && is_before (last_key keys) k.0 then option_map (λ d. within done name (keys ++ (k.0, d) ∷ []))
+    (value_of k.1) else None
 
 -- the state after one more piece, where a text can go on so
 abbrev pub step : State → List ℕ → Option State
 step start p = if bytes_eq p (codes "[backrest]") then Some format else None
 step format p = if bytes_eq p (codes "backrest-format=5") then Some gap else None
 step gap p = if bytes_eq p [] then Some (between []) else None
-step (between done) p = if bytes_eq p (codes "[backrest]") then Some (check done) else option_and_then (opened done) (name_in p)
-step (within done name keys) p = if bytes_eq p [] then closed done name keys else option_and_then (more done name keys) (cut_at 61 p)
+step (between done) p = if bytes_eq p (codes "[backrest]") then Some (check done) else option_and_then (opened done)
+    (name_in p)
+step (within done name keys) p = if bytes_eq p [] then closed done name keys else option_and_then (more done name keys)
+    (cut_at 61 p)
 step (check done) p = option_map (closing done) (sum_in p)
 step (closing done told) p = if bytes_eq p [] then Some (over done told) else None
 step (over done told) p = None
@@ -99,7 +107,8 @@ ended lines (between done) = Err (syntax lines)
 ended lines (within done name keys) = Err (syntax lines)
 ended lines (check done) = Err (syntax lines)
 ended lines (closing done told) = Err (syntax lines)
-ended lines (over done told) = if bytes_eq told (sha1 (signed_text done)) then Ok done else Err (sum told (sha1 (signed_text done)))
+ended lines (over done told) = if bytes_eq told (sha1 (signed_text done)) then Ok done else Err
+    (sum told (sha1 (signed_text done)))
 
 infixl 10 ◌>>=◌
 abbrev pub ◌>>=◌ : {A B : Type 0} → Result A Fault → (A → Result B Fault) → Result B Fault

@@ -16,7 +16,12 @@ row_view (rows.Sets key value) = sets key.now value.now
 row_view rows.Bad = bad
 
 abbrev pub setting_of : ConfigLine → Setting
-setting_of l = record { section = string_bytes l.section; key = string_bytes l.key; value = string_bytes l.value; line = l.line }
+setting_of l = record {
+  section = string_bytes l.section;
+  key = string_bytes l.key;
+  value = string_bytes l.value;
+  line = l.line;
+}
 
 abbrev pub settings_of : List ConfigLine → List Setting
 settings_of ls = map setting_of ls

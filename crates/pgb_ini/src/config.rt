@@ -73,8 +73,8 @@ fn step(
 
 /// The settings of a configuration, in the order in which they stand there.
 ///
-/// A line that isn't valid is told as [`IniFault::Syntax`]: one that is neither empty, nor a comment, nor a section's name, nor a
-/// key with a value below one; or one that isn't UTF-8. A fault of a sum never comes.
+/// A line that isn't valid is told as [`IniFault::Syntax`]: one that is neither empty, nor a comment, nor a section's
+/// name, nor a key with a value below one; or one that isn't UTF-8. A fault of a sum never comes.
 pub fn read_config(alloc: Global, bytes: &[u8]) -> Result<Vec<ConfigLine>, IniFault>
     requires { length bytes.now + 1 < 2 ^ 32 }
     ensures { Gives (λ v. settings_of v.items) result (settings bytes.now) }

@@ -9,8 +9,8 @@ use std::alloc::{AllocError, AllocFailed};
 /// Why bytes are not read as an info text.
 #[derive(Clone, Copy, Debug, PartialEq, Eq)]
 pub enum IniFault {
-    /// No info text goes on as this line does; or this is the last line, and the text ends too soon.
-    /// Lines are the pieces that newlines separate, counted from 1: behind a last newline there is one more, which is empty.
+    /// No info text goes on as this line does; or this is the last line, and the text ends too soon. Lines are the
+    /// pieces that newlines separate, counted from 1: behind a last newline there is one more, which is empty.
     Syntax { line: u32 },
     /// The text tells a checksum that isn't that of its sections.
     Sum { told: Sum, found: Sum },

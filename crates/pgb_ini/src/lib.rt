@@ -1,4 +1,5 @@
-//! Info texts: sections of keys with JSON values, between a head and a checksum. Configurations: sections of keys with texts.
+//! Info texts: sections of keys with JSON values, between a head and a checksum. Configurations: sections of keys with
+//! texts.
 //!
 //! What is proved, by the contract of the function that is named:
 //!

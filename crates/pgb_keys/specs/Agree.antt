@@ -38,7 +38,8 @@ pub record IsFirstDifference (xs ys : List Field) (key : Text) : Type 0 where
 
 -- the keys of the section of this name, and none where there is no such section
 abbrev pub IsKeysOf : List Section → Text → List Field → Type 0
-IsKeysOf ss name ks = In (record { name = name; keys = ks }) ss ⊎ (((s : Section) → In s ss → s.name ≢ name) × (ks ≡ []))
+IsKeysOf ss name ks = In (record { name = name; keys = ks }) ss
+    ⊎ (((s : Section) → In s ss → s.name ≢ name) × (ks ≡ []))
 
 -- ---- the sections of both kinds
 

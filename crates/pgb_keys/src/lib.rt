@@ -1,4 +1,5 @@
-//! The keys of an info text's sections: the value at a key, the first key at which two sections differ, and the fault of a key.
+//! The keys of an info text's sections: the value at a key, the first key at which two sections differ, and the fault
+//! of a key.
 //!
 //! What is proved, by the contract of the function that is named:
 //!

@@ -59,9 +59,11 @@ abbrev pub KeptOn : BackupKeeper → DiskState → BackupKeeper → DiskState �
 KeptOn k d k2 d2 = SamePlan k k2 × Later (is_own (folder_of k)) (faults_of k) (faults_of k2) d d2
 
 pub kept_on_same : (k : BackupKeeper) (d : DiskState) → KeptOn k d k d
-kept_on_same k d = (record { folder = refl; jobs = refl; names = refl }, later_same (is_own (folder_of k)) (faults_of k) d)
+kept_on_same k d =
+    (record { folder = refl; jobs = refl; names = refl }, later_same (is_own (folder_of k)) (faults_of k) d)
 
-pub kept_on_through : (a : BackupKeeper) (u : DiskState) (b : BackupKeeper) (v : DiskState) (c : BackupKeeper) (w : DiskState) → KeptOn a u b v → KeptOn b v c w → KeptOn a u c w
+pub kept_on_through : (a : BackupKeeper) (u : DiskState) (b : BackupKeeper) (v : DiskState) (c : BackupKeeper)
+    (w : DiskState) → KeptOn a u b v → KeptOn b v c w → KeptOn a u c w
 kept_on_through a u b v c w p q = (
   record { folder = q.0.folder ∙ p.0.folder; jobs = q.0.jobs ∙ p.0.jobs; names = q.0.names ∙ p.0.names },
   later_on (ap is_own p.0.folder) p.1 q.1,

@@ -40,10 +40,12 @@ touches_on own a b c p q = record {
 }
 
 -- a call at one own name touches own names alone
-pub touches_one : (own : Name → Bool) (name : Name) (a b : View) → own name ≡ true → SameBut name a.now b.now → Goes (λ n _. n ≡ name) (λ n. n ≡ name) a b → Touches own a b
+pub touches_one : (own : Name → Bool) (name : Name) (a b : View) → own name ≡ true → SameBut name a.now b.now
+    → Goes (λ n _. n ≡ name) (λ n. n ≡ name) a b → Touches own a b
 touches_one own name a b is others time = record {
   now = λ q no. others q (λ (e : q ≡ name). let both : ◌≡◌ {A = Bool} true false = sym is ∙ ap own (sym e) ∙ no in cc);
-  time = goes_wide (λ n _. n ≡ name) (λ n _. own n ≡ true) (λ n. n ≡ name) (λ n. own n ≡ true) a b (λ n v e. ap own e ∙ is) (λ n e. ap own e ∙ is) time;
+  time = goes_wide (λ n _. n ≡ name) (λ n _. own n ≡ true) (λ n. n ≡ name) (λ n. own n ≡ true) a b
+      (λ n v e. ap own e ∙ is) (λ n e. ap own e ∙ is) time;
 }
 
 rises_on : (a b c : ℕ) → a ≤ b → Rises b c → Rises a c
@@ -53,14 +55,25 @@ rises_before : (a b c : ℕ) → Rises a b → b ≤ c → Rises a c
 rises_before a b c rises le = omega (arith, le, rises)
 
 pub later_same : (own : Name → Bool) (faults : ℕ) (a : DiskState) → Later own faults faults a a
-later_same own faults a = record { touches = touches_same own a.view; frame = record { opened = refl; proper = refl; later = omega arith }; counts = inl refl }
+later_same own faults a = record {
+  touches = touches_same own a.view;
+  frame = record { opened = refl; proper = refl; later = omega arith };
+  counts = inl refl;
+}
 
-pub later_on : {own other : Name → Bool} {k0 k1 k2 : ℕ} {a b c : DiskState} → other ≡ own → Later own k0 k1 a b → Later other k1 k2 b c → Later own k0 k2 a c
+pub later_on : {own other : Name → Bool} {k0 k1 k2 : ℕ} {a b c : DiskState} → other ≡ own → Later own k0 k1 a b
+    → Later other k1 k2 b c → Later own k0 k2 a c
 later_on {own = own} {other = other} {k0 = k0} {k1 = k1} {k2 = k2} {a = a} {b = b} {c = c} same p q = record {
-  touches = touches_on own a.view b.view c.view p.touches (subst (λ (o : Name → Bool). Touches o b.view c.view) same q.touches);
-  frame = record { opened = q.frame.opened ∙ p.frame.opened; proper = q.frame.proper ∙ p.frame.proper; later = omega (arith, p.frame.later, q.frame.later) };
+  touches = touches_on own a.view b.view c.view p.touches
+      (subst (λ (o : Name → Bool). Touches o b.view c.view) same q.touches);
+  frame = record {
+    opened = q.frame.opened ∙ p.frame.opened;
+    proper = q.frame.proper ∙ p.frame.proper;
+    later = omega (arith, p.frame.later, q.frame.later);
+  };
   counts = ⊎_elim
-      (λ (x : k1 ≡ k0). ⊎_elim (λ (y : k2 ≡ k1). inl (y ∙ x)) (λ (y : Rises b.faults c.faults). inr (rises_on a.faults b.faults c.faults p.frame.later y)) q.counts)
+      (λ (x : k1 ≡ k0). ⊎_elim (λ (y : k2 ≡ k1). inl (y ∙ x))
+      (λ (y : Rises b.faults c.faults). inr (rises_on a.faults b.faults c.faults p.frame.later y)) q.counts)
       (λ (x : Rises a.faults b.faults). inr (rises_before a.faults b.faults c.faults x q.frame.later))
       p.counts;
 }

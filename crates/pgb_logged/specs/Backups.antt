@@ -26,7 +26,8 @@ use Rattle.pgb_backup.specs.Online.{label_path}
 
 -- one of these links read the bytes in the data folder at the path
 abbrev pub IsOfLink : List LinkState → Text → Text → Type 0
-IsOfLink links path bytes = (link : ℕ) × (from : LinkState) × (i : Item) × (slice_get links link ≡ Some from) × (i.root ≡ Tree) × (i.path ≡ path) × ReadBy from.told i bytes
+IsOfLink links path bytes = (link : ℕ) × (from : LinkState) × (i : Item) × (slice_get links link ≡ Some from)
+    × (i.root ≡ Tree) × (i.path ≡ path) × ReadBy from.told i bytes
 
 -- each file with bytes has those that one of these links read in the data folder at its path
 pub record IsReadBy (links : List LinkState) (b : Backup) : Type 0 where
@@ -34,26 +35,33 @@ pub record IsReadBy (links : List LinkState) (b : Backup) : Type 0 where
 
 -- so it is of each but the label file, which has what the server told
 pub record IsReadBeside (links : List LinkState) (told : Option Text) (b : Backup) : Type 0 where
-  pub read : (path : Text) (x : File) → get b.files path ≡ Some x → path ≢ label_path → 0 < length x.bytes → IsOfLink links path x.bytes
+  pub read : (path : Text) (x : File) → get b.files path ≡ Some x → path ≢ label_path → 0 < length x.bytes
+      → IsOfLink links path x.bytes
   pub label : (x : File) → get b.files label_path ≡ Some x → told ≡ Some x.bytes
 
 -- the stanza's backup of this label has the file at the path
 abbrev pub HasFileOf : Stanza → Label → Text → File → Type 0
 HasFileOf s l path x = (p : Backup) × In p s.backups × (p.entry.label ≡ l) × (get p.files path ≡ Some x)
 
--- The file was left of the prior backup: in whatever stanza the disk had, that has its bytes at the path, and its time unless digests were compared.
+-- The file was left of the prior backup: in whatever stanza the disk had, that has its bytes at the path, and its time
+-- unless digests were compared.
 pub record IsLeftOf (stanza : Text) (old : Option Content) (b : Backup) (path : Text) (x : File) : Type 0 where
   pub prior : Label
   pub is : b.entry.prior ≡ Some prior
-  pub held : (s : Stanza) → IsSome old → NowStands stanza (Some s) old → (y : File) × HasFileOf s prior path y × (y.bytes ≡ x.bytes) × (b.choices.delta ≡ false → y.time ≡ x.time)
+  pub held : (s : Stanza) → IsSome old → NowStands stanza (Some s) old
+      → (y : File) × HasFileOf s prior path y × (y.bytes ≡ x.bytes) × (b.choices.delta ≡ false → y.time ≡ x.time)
 
--- each file with bytes has those that one of these links read in the data folder at its path, or was left of the prior backup
+-- each file with bytes has those that one of these links read in the data folder at its path, or was left of the prior
+-- backup
 pub record IsReadOrLeft (links : List LinkState) (stanza : Text) (old : Option Content) (b : Backup) : Type 0 where
-  pub read : (path : Text) (x : File) → get b.files path ≡ Some x → 0 < length x.bytes → IsOfLink links path x.bytes ⊎ IsLeftOf stanza old b path x
+  pub read : (path : Text) (x : File) → get b.files path ≡ Some x → 0 < length x.bytes
+      → IsOfLink links path x.bytes ⊎ IsLeftOf stanza old b path x
 
 -- so it is of each but the label file, which has what the server told
-pub record IsReadOrLeftBeside (links : List LinkState) (told : Option Text) (stanza : Text) (old : Option Content) (b : Backup) : Type 0 where
-  pub read : (path : Text) (x : File) → get b.files path ≡ Some x → path ≢ label_path → 0 < length x.bytes → IsOfLink links path x.bytes ⊎ IsLeftOf stanza old b path x
+pub record IsReadOrLeftBeside (links : List LinkState) (told : Option Text) (stanza : Text) (old : Option Content)
+    (b : Backup) : Type 0 where
+  pub read : (path : Text) (x : File) → get b.files path ≡ Some x → path ≢ label_path → 0 < length x.bytes
+      → IsOfLink links path x.bytes ⊎ IsLeftOf stanza old b path x
   pub label : (x : File) → get b.files label_path ≡ Some x → told ≡ Some x.bytes
 
 -- which command of the log a full backup is that is made of what these links read
@@ -70,7 +78,8 @@ IsOnlineBackup links turns told command = (b : Backup) × (command ≡ MakeBacku
 
 -- so it is of a backup of any kind of a running server
 abbrev pub IsAnyOnlineBackup : List LinkState → List Turn → Option Text → Text → Option Content → Command → Type 0
-IsAnyOnlineBackup links turns told stanza old command = (b : Backup) × (command ≡ MakeBackup turns b None) × IsReadOrLeftBeside links told stanza old b
+IsAnyOnlineBackup links turns told stanza old command = (b : Backup) × (command ≡ MakeBackup turns b None)
+    × IsReadOrLeftBeside links told stanza old b
 
 -- what others did while it waited for these turns
 pub record Waits (stanza : Text) (turns : List Turn) (ended : Bool) (old new : View) : Type 0 where
@@ -79,11 +88,13 @@ pub record Waits (stanza : Text) (turns : List Turn) (ended : Bool) (old new : V
   pub between : PassesOnly stanza (ArchivePushAsync turns) old new
   pub only : ChangesArchive stanza old new
   -- whatever sound repository the disk stood for, that is sound with all of them
-  pub sound : (r : Repository) → IsSome old.now → NowStands stanza r old.now → IsSound r → IsSound (after r (all_of (steps_of (ArchivePushAsync turns) r)))
+  pub sound : (r : Repository) → IsSome old.now → NowStands stanza r old.now → IsSound r
+      → IsSound (after r (all_of (steps_of (ArchivePushAsync turns) r)))
 
 -- each segment of this part of the log is archived under the id
 abbrev pub Archives : ArchiveId → WalPart → Stanza → Type 0
-Archives id w s = (segment : Segment) → IsWithinSpan w.size.0 w.span segment → (a : Archived) × In a s.archived × (a.id ≡ id) × (a.name ≡ Whole segment)
+Archives id w s = (segment : Segment) → IsWithinSpan w.size.0 w.span segment
+    → (a : Archived) × In a s.archived × (a.id ≡ id) × (a.name ≡ Whole segment)
 
 -- so it is in whatever stanza f has
 abbrev pub HasPart : Text → ArchiveId → WalPart → Content → Type 0
@@ -91,14 +102,20 @@ HasPart stanza id w f = (s : Stanza) → HasStanza stanza f s → Archives id w 
 
 -- the repository has one more backup, and is sound with it where it was
 pub record AddsBackup (stanza : Text) (b : Backup) (old new : Option Content) : Type 0 where
-  pub adds : (s : Stanza) → IsSome old → NowStands stanza (Some s) old → NowStands stanza (Some (changed (AddBackup b) s)) new
-  pub sound : (s : Stanza) → IsSome old → NowStands stanza (Some s) old → IsSoundStanza s → IsSoundStanza (changed (AddBackup b) s)
+  pub adds : (s : Stanza) → IsSome old → NowStands stanza (Some s) old
+      → NowStands stanza (Some (changed (AddBackup b) s)) new
+  pub sound : (s : Stanza) → IsSome old → NowStands stanza (Some s) old → IsSoundStanza s
+      → IsSoundStanza (changed (AddBackup b) s)
 
 -- The backup has all files and folders of the data folder that a backup of a stopped server takes, and nothing else.
 pub record IsOfFolder (f : Nodes) (b : Backup) : Type 0 where
-  pub has : (path bytes : Text) (time : ℕ) → f path ≡ Some (file bytes time) → is_kept false (path, nodes.File (length bytes) time) ≡ true → get b.files path ≡ Some (record { bytes = bytes; time = time })
-  pub only : (path : Text) (x : File) → get b.files path ≡ Some x → (f path ≡ Some (file x.bytes x.time)) × (is_kept false (path, nodes.File (length x.bytes) x.time) ≡ true)
-  pub folders : (path : Text) → In path b.folders ↔ ((f path ≡ Some folder) × (is_kept false (path, nodes.Folder) ≡ true))
+  pub has : (path bytes : Text) (time : ℕ) → f path ≡ Some (file bytes time)
+      → is_kept false (path, nodes.File (length bytes) time) ≡ true
+      → get b.files path ≡ Some (record { bytes = bytes; time = time })
+  pub only : (path : Text) (x : File) → get b.files path ≡ Some x
+      → (f path ≡ Some (file x.bytes x.time)) × (is_kept false (path, nodes.File (length x.bytes) x.time) ≡ true)
+  pub folders : (path : Text) → In path b.folders
+      ↔ ((f path ≡ Some folder) × (is_kept false (path, nodes.Folder) ≡ true))
 
 -- what the data folder's files hold
 abbrev pub bytes_in : Nodes → Content

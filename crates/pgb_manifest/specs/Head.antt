@@ -14,11 +14,24 @@ use Rattle.pgb_manifest.specs.Sections.{target_file, target_path}
 
 -- the manifest of these parts
 abbrev pub manifest_with : Head → Cluster → Choices → List FileEntry → List Text → Manifest
-manifest_with h cluster choices files folders = record { label = h.label; kind = h.kind; prior = h.prior; start = h.start; stop = h.stop; cluster = cluster; wal = h.wal; choices = choices; files = files; folders = folders }
+manifest_with h cluster choices files folders =
+    record {
+      label = h.label;
+      kind = h.kind;
+      prior = h.prior;
+      start = h.start;
+      stop = h.stop;
+      cluster = cluster;
+      wal = h.wal;
+      choices = choices;
+      files = files;
+      folders = folders;
+    }
 
 -- The keys of the section `backup`, which tell nothing of the rest of a manifest.
 abbrev pub head_fields : Head → List Field
-head_fields h = backup_fields (manifest_with h (record { id = 0; system = 0; version = 0; control = 0; catalog = 0 }) (record { bundle = false; delta = false }) [] [])
+head_fields h = backup_fields (manifest_with h (record { id = 0; system = 0; version = 0; control = 0; catalog = 0 })
+    (record { bundle = false; delta = false }) [] [])
 
 -- the rules of a manifest that its section `backup` tells of
 pub record IsHead (h : Head) : Type 0 where
@@ -35,4 +48,5 @@ manifest_names = codes "backup" ∷ codes "backup:db" ∷ codes "backup:option" 
 
 -- the choices, and whether a server was asked
 abbrev pub choice_fields : Choices → Bool → List Field
-choice_fields o online = (codes "option-bundle", boolean o.bundle) ∷ (codes "option-delta", boolean o.delta) ∷ (codes "option-online", boolean online) ∷ []
+choice_fields o online = (codes "option-bundle", boolean o.bundle) ∷ (codes "option-delta", boolean o.delta)
+    ∷ (codes "option-online", boolean online) ∷ []

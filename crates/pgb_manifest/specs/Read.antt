@@ -28,8 +28,10 @@ pub record IsLogRead (ks : List Field) (w : WalPart) : Type 0 where
   pub there : (d : Data) × In (codes "backup-archive-start", d) ks
   pub start : IsSegment w.span.start × IsReadAt segment_value IsSegment ks (codes "backup-archive-start") w.span.start
   pub stop : IsSegment w.span.stop × IsReadAt segment_value IsSegment ks (codes "backup-archive-stop") w.span.stop
-  pub from : (w.from.0 < 2 ^ 64) × IsReadAt (λ at. string (lsn_text at)) (λ at. at < 2 ^ 64) ks (codes "backup-lsn-start") w.from.0
-  pub to : (w.to.0 < 2 ^ 64) × IsReadAt (λ at. string (lsn_text at)) (λ at. at < 2 ^ 64) ks (codes "backup-lsn-stop") w.to.0
+  pub from : (w.from.0 < 2 ^ 64) × IsReadAt (λ at. string (lsn_text at)) (λ at. at < 2 ^ 64) ks
+      (codes "backup-lsn-start") w.from.0
+  pub to : (w.to.0 < 2 ^ 64) × IsReadAt (λ at. string (lsn_text at)) (λ at. at < 2 ^ 64) ks (codes "backup-lsn-stop")
+      w.to.0
   pub size : IsSegSize w.size.0 × IsReadAt whole IsSegSize ks (codes "backup-wal-segment-size") w.size.0
 
 -- what the keys tell of the backup
@@ -38,7 +40,8 @@ pub record IsHeadRead (ks : List Field) (h : Head) : Type 0 where
   pub kind : h.kind ≡ label_kind h.label
   pub has : HasItsPrior h.kind h.prior
   pub prior : IfSome h.prior (λ l. IsLabel l × IsReadAt label_value IsLabel ks (codes "backup-prior") l)
-  pub start : (h.start ≤ last_second) × IsReadAt whole (λ t. t ≤ last_second) ks (codes "backup-timestamp-start") h.start
+  pub start : (h.start ≤ last_second) × IsReadAt whole (λ t. t ≤ last_second) ks (codes "backup-timestamp-start")
+      h.start
   pub stop : (h.stop ≤ last_second) × IsReadAt whole (λ t. t ≤ last_second) ks (codes "backup-timestamp-stop") h.stop
   pub log : IfSome h.wal (IsLogRead ks)
   pub none : IfNone h.wal ((d : Data) → ¬ In (codes "backup-archive-start", d) ks)

@@ -36,4 +36,5 @@ faulted f = record f { faults = risen f.faults }
 
 -- after a call that is faulty where the first is false, and that fails where the second is
 abbrev pub tried_on : Bool → Bool → Failing → Failing
-tried_on proper takes f = if is_to_fail f || (proper && takes) then counted f else (if proper then faulted (counted f) else misused (counted f))
+tried_on proper takes f = if is_to_fail f
+    || (proper && takes) then counted f else (if proper then faulted (counted f) else misused (counted f))

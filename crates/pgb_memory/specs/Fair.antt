@@ -15,7 +15,8 @@ decided P x y true d = inl (d.0 refl, refl)
 decided P x y false d = inr refl
 
 -- a list of names with one set anew, at each name; and the choices that a push adds
-pub set_cases : {X : Type 0} (name : Name) (x : X) (f : Name → X) (q : Name) → ((name ≡ q) × (set_at name x f q ≡ x)) ⊎ (set_at name x f q ≡ f q)
+pub set_cases : {X : Type 0} (name : Name) (x : X) (f : Name → X) (q : Name)
+    → ((name ≡ q) × (set_at name x f q ≡ x)) ⊎ (set_at name x f q ≡ f q)
 set_cases name x f q = decided (name ≡ q) x (f q) (bytes_eq name q) (bytes_eq-Decides name q)
 
 pub among_push : (v : Value) (xs : List Value) (x : Value) → Among v (xs ++ x ∷ []) → Among v xs ⊎ (v ≡ x)
@@ -25,13 +26,16 @@ among_push v (y ∷ xs) x (inl is) = inl (inl is)
 among_push v (y ∷ xs) x (inr there) = ⊎_elim (λ h. inl (inr h)) (λ h. inr h) (among_push v xs x there)
 
 -- a set mark is an old one or the new name's
-pub set_mark : (name : Name) (b : Bool) (f : Name → Bool) (q : Name) → set_at name b f q ≡ true → (f q ≡ true) ⊎ ((q ≡ name) × (b ≡ true))
+pub set_mark : (name : Name) (b : Bool) (f : Name → Bool) (q : Name) → set_at name b f q ≡ true
+    → (f q ≡ true) ⊎ ((q ≡ name) × (b ≡ true))
 set_mark name b f q is = ⊎_elim (λ h. inr (sym h.0, sym h.1 ∙ is)) (λ h. inl (sym h ∙ is)) (set_cases name b f q)
 
 -- one value more at a name
-pub more_kept : (name : Name) (x : Value) (kept : Name → List Value) (q : Name) (v : Value) → Among v (set_at name (kept name ++ x ∷ []) kept q) → Among v (kept q) ⊎ ((q ≡ name) × (v ≡ x))
+pub more_kept : (name : Name) (x : Value) (kept : Name → List Value) (q : Name) (v : Value)
+    → Among v (set_at name (kept name ++ x ∷ []) kept q) → Among v (kept q) ⊎ ((q ≡ name) × (v ≡ x))
 more_kept name x kept q v had = ⊎_elim
-    (λ h. ⊎_elim (λ old. inl (subst (λ (n : Name). Among v (kept n)) h.0 old)) (λ new. inr (sym h.0, new)) (among_push v (kept name) x (subst (λ (l : List Value). Among v l) h.1 had)))
+    (λ h. ⊎_elim (λ old. inl (subst (λ (n : Name). Among v (kept n)) h.0 old)) (λ new. inr (sym h.0, new))
+    (among_push v (kept name) x (subst (λ (l : List Value). Among v l) h.1 had)))
     (λ h. inl (subst (λ (l : List Value). Among v l) h had))
     (set_cases name (kept name ++ x ∷ []) kept q)
 
@@ -65,39 +69,50 @@ set_no m x f n e = ap (λ b. cond b x (f n)) e
 pub set_same : {X : Type 0} (m : Name) (x : X) (f : Name → X) → set_at m x f m ≡ x
 set_same m x f = set_yes m x f m ((bytes_eq-Decides m m).1 refl)
 
-fair_other : (now now' : Name → Value) (kept kept' : Name → List Value) (loose loose' : Name → Bool) (n : Name) → now' n ≡ now n → kept' n ≡ kept n → loose' n ≡ loose n → FairAt now kept loose n → FairAt now' kept' loose' n
+fair_other : (now now' : Name → Value) (kept kept' : Name → List Value) (loose loose' : Name → Bool) (n : Name)
+    → now' n ≡ now n → kept' n ≡ kept n → loose' n ≡ loose n → FairAt now kept loose n → FairAt now' kept' loose' n
 fair_other now now' kept kept' loose loose' n a b c (inl l) = inl (c ∙ l)
-fair_other now now' kept kept' loose loose' n a b c (inr among) = inr (subst (λ (x : Value). Among x (kept' n)) (sym a) (subst (λ (l : List Value). Among (now n) l) (sym b) among))
+fair_other now now' kept kept' loose loose' n a b c (inr among) =
+    inr (subst (λ (x : Value). Among x (kept' n)) (sym a) (subst (λ (l : List Value). Among (now n) l) (sym b) among))
 
 -- a value that was just added
-fair_new : (now' : Name → Value) (kept' : Name → List Value) (loose' : Name → Bool) (n : Name) (xs : List Value) (x : Value) → now' n ≡ x → kept' n ≡ xs ++ x ∷ [] → FairAt now' kept' loose' n
-fair_new now' kept' loose' n xs x a b = inr (subst (λ (v : Value). Among v (kept' n)) (sym a) (subst (λ (l : List Value). Among x l) (sym b) (among_last xs x)))
+fair_new : (now' : Name → Value) (kept' : Name → List Value) (loose' : Name → Bool) (n : Name) (xs : List Value)
+    (x : Value) → now' n ≡ x → kept' n ≡ xs ++ x ∷ [] → FairAt now' kept' loose' n
+fair_new now' kept' loose' n xs x a b =
+    inr (subst (λ (v : Value). Among v (kept' n)) (sym a)
+    (subst (λ (l : List Value). Among x l) (sym b) (among_last xs x)))
 
 one_left : (b : Bool) (now : Value) (kept : List Value) → Among now kept → Among now (cond b (now ∷ []) kept)
 one_left true now kept a = inl refl
 one_left false now kept a = a
 
-all_kept : (b : Bool) (now : Value) (kept : List Value) (loose : Bool) → (loose ≡ true) ⊎ Among now kept → (cond b false loose ≡ true) ⊎ Among now (cond b (kept ++ now ∷ []) kept)
+all_kept : (b : Bool) (now : Value) (kept : List Value) (loose : Bool) → (loose ≡ true) ⊎ Among now kept
+    → (cond b false loose ≡ true) ⊎ Among now (cond b (kept ++ now ∷ []) kept)
 all_kept true now kept loose fair = inr (among_last kept now)
 all_kept false now kept loose fair = fair
 
 pub fair_step : (c : Change) (s : State) → IsFair s → IsFair (step c s)
 fair_step (Begun name) s fair n = let m = string_bytes name in
     ⊎_elim (λ y. inl (set_yes m true s.loose n y))
-    (λ no. fair_other s.now (put m (Some []) s.now) s.kept s.kept s.loose (set_at m true s.loose) n (set_no m (Some []) s.now n no) refl (set_no m true s.loose n no) (fair n))
+    (λ no. fair_other s.now (put m (Some []) s.now) s.kept s.kept s.loose (set_at m true s.loose) n
+    (set_no m (Some []) s.now n no) refl (set_no m true s.loose n no) (fair n))
     (two (bytes_eq m n))
 fair_step (Appended name bytes) s fair n = let m = string_bytes name in
     ⊎_elim (λ y. inl (set_yes m true s.loose n y))
-    (λ no. fair_other s.now (lengthened m bytes.items s.now) s.kept s.kept s.loose (set_at m true s.loose) n (set_no m _ s.now n no) refl (set_no m true s.loose n no) (fair n))
+    (λ no. fair_other s.now (lengthened m bytes.items s.now) s.kept s.kept s.loose (set_at m true s.loose) n
+    (set_no m _ s.now n no) refl (set_no m true s.loose n no) (fair n))
     (two (bytes_eq m n))
 fair_step (Loosened name) s fair n = let m = string_bytes name in
     ⊎_elim (λ y. inl (set_yes m true s.loose n y))
-    (λ no. fair_other s.now s.now s.kept s.kept s.loose (set_at m true s.loose) n refl refl (set_no m true s.loose n no) (fair n))
+    (λ no. fair_other s.now s.now s.kept s.kept s.loose (set_at m true s.loose) n refl refl (set_no m true s.loose n no)
+    (fair n))
     (two (bytes_eq m n))
 fair_step (Synced name) s fair n = let m = string_bytes name in
     let kept' = set_at m (s.kept m ++ s.now m ∷ []) s.kept in
-    ⊎_elim (λ y. fair_new s.now kept' (set_at m false s.loose) n (s.kept m) (s.now m) (ap s.now (sym ((bytes_eq-Decides m n).0 y))) (set_yes m _ s.kept n y))
-    (λ no. fair_other s.now s.now s.kept kept' s.loose (set_at m false s.loose) n refl (set_no m _ s.kept n no) (set_no m false s.loose n no) (fair n))
+    ⊎_elim (λ y. fair_new s.now kept' (set_at m false s.loose) n (s.kept m) (s.now m)
+    (ap s.now (sym ((bytes_eq-Decides m n).0 y))) (set_yes m _ s.kept n y))
+    (λ no. fair_other s.now s.now s.kept kept' s.loose (set_at m false s.loose) n refl (set_no m _ s.kept n no)
+    (set_no m false s.loose n no) (fair n))
     (two (bytes_eq m n))
 fair_step (Renamed from to) s fair n =
     let a = string_bytes from in let b = string_bytes to in
@@ -105,20 +120,33 @@ fair_step (Renamed from to) s fair n =
     let kept_a = set_at a (s.kept a ++ None ∷ []) s.kept in
     let kept' = set_at b (s.kept b ++ s.now a ∷ []) kept_a in
     let loose' = set_at b (s.loose b || s.loose a) s.loose in
-    ⊎_elim (λ y. fair_new now' kept' loose' n (s.kept b) (s.now a) (set_yes b (s.now a) (put a None s.now) n y) (set_yes b _ kept_a n y))
+    ⊎_elim (λ y. fair_new now' kept' loose' n (s.kept b) (s.now a) (set_yes b (s.now a) (put a None s.now) n y)
+    (set_yes b _ kept_a n y))
     (λ no. ⊎_elim
-    (λ y. fair_new now' kept' loose' n (s.kept a) None (set_no b (s.now a) (put a None s.now) n no ∙ set_yes a None s.now n y) (set_no b _ kept_a n no ∙ set_yes a _ s.kept n y))
-    (λ no'. fair_other s.now now' s.kept kept' s.loose loose' n (set_no b (s.now a) (put a None s.now) n no ∙ set_no a None s.now n no') (set_no b _ kept_a n no ∙ set_no a _ s.kept n no') (set_no b _ s.loose n no) (fair n))
+    (λ y. fair_new now' kept' loose' n (s.kept a) None
+    (set_no b (s.now a) (put a None s.now) n no ∙ set_yes a None s.now n y)
+    (set_no b _ kept_a n no ∙ set_yes a _ s.kept n y))
+    (λ no'. fair_other s.now now' s.kept kept' s.loose loose' n
+    (set_no b (s.now a) (put a None s.now) n no ∙ set_no a None s.now n no')
+    (set_no b _ kept_a n no ∙ set_no a _ s.kept n no') (set_no b _ s.loose n no) (fair n))
     (two (bytes_eq a n)))
     (two (bytes_eq b n))
 fair_step (Removed name) s fair n = let m = string_bytes name in
     let kept' = set_at m (s.kept m ++ None ∷ []) s.kept in
-    ⊎_elim (λ y. fair_new (put m None s.now) kept' s.loose n (s.kept m) None (set_yes m None s.now n y) (set_yes m _ s.kept n y))
-    (λ no. fair_other s.now (put m None s.now) s.kept kept' s.loose s.loose n (set_no m None s.now n no) (set_no m _ s.kept n no) refl (fair n))
+    ⊎_elim (λ y. fair_new (put m None s.now) kept' s.loose n (s.kept m) None (set_yes m None s.now n y)
+    (set_yes m _ s.kept n y))
+    (λ no. fair_other s.now (put m None s.now) s.kept kept' s.loose s.loose n (set_no m None s.now n no)
+    (set_no m _ s.kept n no) refl (fair n))
     (two (bytes_eq m n))
-fair_step (Swept Settle folder) s fair n = ⊎_elim (λ l. inl l) (λ a. inr (one_left (takes_in Settle (string_bytes folder) n && not (s.loose n)) (s.now n) (s.kept n) a)) (fair n)
-fair_step (Swept SettleIn folder) s fair n = ⊎_elim (λ l. inl l) (λ a. inr (one_left (takes_in SettleIn (string_bytes folder) n && not (s.loose n)) (s.now n) (s.kept n) a)) (fair n)
-fair_step (Swept Sync folder) s fair n = all_kept (takes_in Sync (string_bytes folder) n && (s.loose n && is_some (s.now n))) (s.now n) (s.kept n) (s.loose n) (fair n)
+fair_step (Swept Settle folder) s fair n =
+    ⊎_elim (λ l. inl l) (λ a. inr (one_left (takes_in Settle (string_bytes folder) n && not (s.loose n)) (s.now n)
+    (s.kept n) a)) (fair n)
+fair_step (Swept SettleIn folder) s fair n =
+    ⊎_elim (λ l. inl l) (λ a. inr (one_left (takes_in SettleIn (string_bytes folder) n && not (s.loose n)) (s.now n)
+    (s.kept n) a)) (fair n)
+fair_step (Swept Sync folder) s fair n =
+    all_kept (takes_in Sync (string_bytes folder) n && (s.loose n && is_some (s.now n))) (s.now n) (s.kept n)
+    (s.loose n) (fair n)
 
 pub fair_after : (cs : List Change) (s : State) → IsFair s → IsFair (after s cs)
 fair_after [] s fair = fair
@@ -130,6 +158,9 @@ fair_first given n = inr (inl refl)
 whole : (cs : List Change) → take (length cs) cs ≡ cs
 whole cs = take_all (length cs) cs (omega arith)
 
-pub may_be_left : (first : State) → IsFair first → (cs : List Change) (n : Name) (v : Value) → v ≡ (after first cs).now n → kept_at first cs (length cs) n v ⊎ (loose_at first cs (length cs) n ≡ true)
-may_be_left first fair cs n v is = subst (λ (l : List Change). Among v ((after first l).kept n) ⊎ ((after first l).loose n ≡ true)) (sym (whole cs))
-    (⊎_elim (λ l. inr l) (λ a. inl (subst (λ (x : Value). Among x ((after first cs).kept n)) (sym is) a)) (fair_after cs first fair n))
+pub may_be_left : (first : State) → IsFair first → (cs : List Change) (n : Name) (v : Value)
+    → v ≡ (after first cs).now n → kept_at first cs (length cs) n v ⊎ (loose_at first cs (length cs) n ≡ true)
+may_be_left first fair cs n v is = subst
+    (λ (l : List Change). Among v ((after first l).kept n) ⊎ ((after first l).loose n ≡ true)) (sym (whole cs))
+    (⊎_elim (λ l. inr l) (λ a. inl (subst (λ (x : Value). Among x ((after first cs).kept n)) (sym is) a))
+    (fair_after cs first fair n))

@@ -59,7 +59,8 @@ with_value name (Some bytes) others = (name, bytes) ∷ others
 -- the names with bytes that a stop leaves of these traces
 abbrev pub left_names : (Name → Option ℕ) → Content → List (String Global × Trace) → List (Name × List ℕ)
 left_names positions loose [] = []
-left_names positions loose (e ∷ es) = let n = string_bytes e.0 in with_value n (left_value (state_of_trace e.1) (positions n) (loose n)) (left_names positions loose es)
+left_names positions loose (e ∷ es) = let n = string_bytes e.0 in
+    with_value n (left_value (state_of_trace e.1) (positions n) (loose n)) (left_names positions loose es)
 
 -- names with their bytes
 abbrev pub named : List (String Global × Vec ℕ Global) → List (Name × List ℕ)

@@ -26,7 +26,11 @@ abbrev pub synced : Name → State → State
 synced n s = record s { kept = set_at n (s.kept n ++ s.now n ∷ []) s.kept; loose = set_at n false s.loose }
 
 abbrev pub renamed : Name → Name → State → State
-renamed a b s = record { now = moved a b s.now; kept = set_at b (s.kept b ++ s.now a ∷ []) (set_at a (s.kept a ++ None ∷ []) s.kept); loose = set_at b (s.loose b || s.loose a) s.loose }
+renamed a b s = record {
+  now = moved a b s.now;
+  kept = set_at b (s.kept b ++ s.now a ∷ []) (set_at a (s.kept a ++ None ∷ []) s.kept);
+  loose = set_at b (s.loose b || s.loose a) s.loose;
+}
 
 abbrev pub removed : Name → State → State
 removed n s = record s { now = put n None s.now; kept = set_at n (s.kept n ++ None ∷ []) s.kept }
@@ -36,7 +40,11 @@ settled these s = record s { kept = λ q. if these q && not (s.loose q) then s.n
 
 -- a loose name that has bytes is synced, any other stays as it is
 abbrev pub all_synced : (Name → Bool) → State → State
-all_synced these s = record s { kept = λ q. if these q && (s.loose q && is_some (s.now q)) then s.kept q ++ s.now q ∷ [] else s.kept q; loose = λ q. if these q && (s.loose q && is_some (s.now q)) then false else s.loose q }
+all_synced these s = record s {
+  kept = λ q. if these q && (s.loose q && is_some (s.now q)) then s.kept q ++ s.now q
+      ∷ [] else s.kept q;
+  loose = λ q. if these q && (s.loose q && is_some (s.now q)) then false else s.loose q;
+}
 
 -- the name lies in the folder, and in none within it
 abbrev pub is_directly_in : Name → Name → Bool
@@ -96,7 +104,12 @@ loose_at first changes t n = (state_at first changes t).loose n
 
 -- the disk after these changes, as it is told
 abbrev pub view_at : State → List Change → View
-view_at first cs = record { now = Some (after first cs).now; moment = length cs; kept = kept_at first cs; loose = loose_at first cs }
+view_at first cs = record {
+  now = Some (after first cs).now;
+  moment = length cs;
+  kept = kept_at first cs;
+  loose = loose_at first cs;
+}
 
 -- the changes are one more, which does this to the state
 pub record Adds (first : State) (next : State → State) (old new : List Change) : Type 0 where

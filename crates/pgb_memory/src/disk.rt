@@ -90,8 +90,9 @@ impl MemDisk {
         kept_in(alloc, &traces, name)
     }
 
-    /// The names with bytes that a stop at that moment leaves: a name in `loose` has the bytes given there, any other has
-    /// the kept value at its position in `choice`, or its last one. Of a name that is given twice the last one counts.
+    /// The names with bytes that a stop at that moment leaves: a name in `loose` has the bytes given there, any other
+    /// has the kept value at its position in `choice`, or its last one. Of a name that is given twice the last one
+    /// counts.
     pub fn image(
         &self,
         alloc: Global,

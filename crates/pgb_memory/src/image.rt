@@ -73,7 +73,8 @@ pub(crate) fn kept_in(
     }
 }
 
-/// The names with bytes that a stop leaves, with the bytes of the loose ones and the position of a kept value for others.
+/// The names with bytes that a stop leaves, with the bytes of the loose ones and the position of a kept value for
+/// others.
 pub(crate) fn image_in(
     alloc: Global,
     traces: &Traces,

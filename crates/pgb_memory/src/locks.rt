@@ -25,8 +25,8 @@ pub struct MemLocks {
 }
 
 impl MemLocks {
-    /// Locks of which others hold those of the names in `held`. `fail` has the numbers of the takes that are to fail, the
-    /// first being 0.
+    /// Locks of which others hold those of the names in `held`. `fail` has the numbers of the takes that are to fail,
+    /// the first being 0.
     pub fn new(alloc: Global, held: Vec<String>, fail: Vec<u64>) -> Self
         ensures taken { (⟦<MemLocks as Locks>⟧.state result).taken ≡ [] }
         ensures took { (⟦<MemLocks as Locks>⟧.state result).took ≡ Some [] }

@@ -10,7 +10,8 @@ use crate::failing::Failing;
 use pgb_outside::{Source, Stop};
 use std::alloc::Global;
 
-/// One file, the same at every path, or none. Before it is opened nothing is left of it. A read gives as many bytes as fit.
+/// One file, the same at every path, or none. Before it is opened nothing is left of it. A read gives as many bytes as
+/// fit.
 #[derive(Drop)]
 pub struct MemSource {
     alloc: Global,

@@ -90,8 +90,8 @@ impl MemTree {
         self.failing.faults()
     }
 
-    /// How many calls were faulty: an append or a rename of what is no file, a make, a begin or a rename to a path whose
-    /// folder isn't there, a remove of a folder that isn't empty.
+    /// How many calls were faulty: an append or a rename of what is no file, a make, a begin or a rename to a path
+    /// whose folder isn't there, a remove of a folder that isn't empty.
     pub fn misuses(&self) -> u64
         ensures { result ≡ (⟦<MemTree as Tree>⟧.state self.now).misuses }
     {

@@ -5,8 +5,8 @@ use crate::failing::Failing;
 use pgb_outside::{Stop, Wire};
 use std::alloc::Global;
 
-/// A connection that gives its input in pieces of these sizes, and as much as fits after the last, and keeps what it was
-/// sent.
+/// A connection that gives its input in pieces of these sizes, and as much as fits after the last, and keeps what it
+/// was sent.
 #[derive(Drop)]
 pub struct MemWire {
     alloc: Global,

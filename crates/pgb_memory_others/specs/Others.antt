@@ -15,7 +15,10 @@ idle_turn = record { turn = record { id = record { version = 0; number = 0 }; pu
 abbrev pub pushed_by : Text → Option OtherPush → Bool → Bool → Turned
 pushed_by stanza None tried ended = idle_turn
 pushed_by stanza (Some p) tried ended =
-    record { turn = turn_of p.id p.segment p.bytes.items tried ended; marks = marks_of stanza p.segment p.bytes.items tried ended }
+    record {
+      turn = turn_of p.id p.segment p.bytes.items tried ended;
+      marks = marks_of stanza p.segment p.bytes.items tried ended;
+    }
 
 abbrev pub turned_by : Text → OtherTurn → Turned
 turned_by stanza t = pushed_by stanza t.push t.tried t.ended
@@ -31,4 +34,7 @@ idle_turns (n ∷ ns) = idle_turns ns ++ idle_turn ∷ []
 
 -- they tell the first turns of the list, as many as were taken, and those behind the list
 abbrev pub account_of : Text → List OtherTurn → ℕ → List ℕ → Account
-account_of stanza list at behind = record { stanza = stanza; turns = map (turned_by stanza) (take at list) ++ idle_turns behind }
+account_of stanza list at behind = record {
+  stanza = stanza;
+  turns = map (turned_by stanza) (take at list) ++ idle_turns behind;
+}

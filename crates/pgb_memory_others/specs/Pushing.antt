@@ -86,7 +86,8 @@ StopsBy (Refused cause) rose stop = stop ≡ cause
 
 -- the turn, with the file or without
 abbrev pub turn_of : ArchiveId → Segment → Text → Bool → Bool → Turn
-turn_of id segment bytes true ended = record { id = id; pushed = record { name = Whole segment; bytes = bytes } ∷ []; ended = ended }
+turn_of id segment bytes true ended =
+    record { id = id; pushed = record { name = Whole segment; bytes = bytes } ∷ []; ended = ended }
 turn_of id segment bytes false ended = record { id = id; pushed = []; ended = ended }
 
 -- the text of a receipt: the digits of the sum, and a newline
@@ -101,7 +102,8 @@ marks_of stanza segment bytes false ended = []
 
 -- the disk has the segment with this sum, and all that a crash now leaves
 abbrev pub HasFile : Text → ArchiveId → Segment → Text → View → Type 0
-HasFile stanza id segment sum v = (f : Content) → Leaves v v.moment f → (bytes : Text) × (f (archive_name stanza id (Whole segment) (sum_text sum)) ≡ Some bytes) × (sha1 bytes ≡ sum)
+HasFile stanza id segment sum v = (f : Content) → Leaves v v.moment f
+    → (bytes : Text) × (f (archive_name stanza id (Whole segment) (sum_text sum)) ≡ Some bytes) × (sha1 bytes ≡ sum)
 
 -- the names and the text of a mark
 pub record AreMarkNamesOf (stanza : Text) (segment : Segment) (bytes : Text) (names : MarkNames) : Type 0 where
@@ -111,5 +113,7 @@ pub record AreMarkNamesOf (stanza : Text) (segment : Segment) (bytes : Text) (na
 
 -- at each moment each receipt is an earlier one, or the stored segment's
 pub record GivesReceipt (stanza : Text) (segment : Segment) (bytes : Text) (went : Went) (old new : View) : Type 0 where
-  pub each : IsSome old.now → is_loose old (receipt_name stanza (Whole segment)) ≡ false → (m : ℕ) (f : Content) → old.moment ≤ m → m ≤ new.moment → Leaves new m f →
-      (name : ArchiveName) (sum : Text) → IsWalName name → HasReceipt stanza f name sum → HadReceipt stanza old name sum ⊎ ((went ≡ Stored) × (name ≡ Whole segment) × (sum ≡ sha1 bytes))
+  pub each : IsSome old.now → is_loose old (receipt_name stanza (Whole segment)) ≡ false → (m : ℕ) (f : Content)
+      → old.moment ≤ m → m ≤ new.moment → Leaves new m f →
+      (name : ArchiveName) (sum : Text) → IsWalName name → HasReceipt stanza f name sum
+      → HadReceipt stanza old name sum ⊎ ((went ≡ Stored) × (name ≡ Whole segment) × (sum ≡ sha1 bytes))

@@ -1,7 +1,7 @@
 //! Other processes in memory, which push segments while a command waits for their turns, and tell what they did.
 //!
-//! - `MemOthers` is made of the name of a stanza and of a list of turns; each of these pushes a segment or nothing. Behind
-//!   the list its turns push nothing.
+//! - `MemOthers` is made of the name of a stanza and of a list of turns; each of these pushes a segment or nothing.
+//!   Behind the list its turns push nothing.
 //!
 //! What is proved, by the contract of the function that is named:
 //!

@@ -15,8 +15,8 @@ impl Names<Tag> for OneMore {
     ghost numbers = { λ count. 0 ∷ count.numbers };
 }
 
-/// Other processes that take these turns for a stanza, one after another, and then turns in which they push nothing. They
-/// tell each of them.
+/// Other processes that take these turns for a stanza, one after another, and then turns in which they push nothing.
+/// They tell each of them.
 #[derive(Drop)]
 pub struct MemOthers {
     alloc: Global,

@@ -27,11 +27,13 @@ version_value version = string (decimal version)
 
 -- the current cluster, as the section `db` repeats it
 abbrev pub cluster_id_fields : ClusterId → List Field
-cluster_id_fields c = (codes "db-id", whole c.id) ∷ (codes "db-system-id", whole c.system) ∷ (codes "db-version", version_value c.version) ∷ []
+cluster_id_fields c = (codes "db-id", whole c.id) ∷ (codes "db-system-id", whole c.system)
+    ∷ (codes "db-version", version_value c.version) ∷ []
 
 -- a cluster of the history, under its number
 abbrev pub cluster_id_field : ClusterId → Field
-cluster_id_field c = (decimal c.id, fields ((codes "db-id", whole c.system) ∷ (codes "db-version", version_value c.version) ∷ []))
+cluster_id_field c =
+    (decimal c.id, fields ((codes "db-id", whole c.system) ∷ (codes "db-version", version_value c.version) ∷ []))
 
 unfoldable pub archive_sections : ArchiveInfo → List Section
 archive_sections v =
@@ -43,7 +45,8 @@ archive_sections v =
 -- the parts of a cluster, a kind of backup, a label and a segment, as values of the lists
 abbrev pub cluster_fields : Cluster → List Field
 cluster_fields c = (codes "db-catalog-version", whole c.catalog) ∷ (codes "db-control-version", whole c.control)
-    ∷ (codes "db-id", whole c.id) ∷ (codes "db-system-id", whole c.system) ∷ (codes "db-version", version_value c.version) ∷ []
+    ∷ (codes "db-id", whole c.id) ∷ (codes "db-system-id", whole c.system)
+    ∷ (codes "db-version", version_value c.version) ∷ []
 
 abbrev pub cluster_field : Cluster → Field
 cluster_field c = (

@@ -1,4 +1,5 @@
--- An info text: sections of keys with JSON values, between a head and a checksum. The layout is that of pgBackRest's info files (user guide, "Create the Stanza"); the checksum's rule is this project's own.
+-- An info text: sections of keys with JSON values, between a head and a checksum. The layout is that of pgBackRest's
+-- info files (user guide, "Create the Stanza"); the checksum's rule is this project's own.
 use Rattle.std.specs.Prelude.{◌≡◌, ℕ, ◌&&◌, ◌==◌, not, nat_lt, Bool, true, false, List, [], ◌∷◌, ◌++◌, map, codes, IsUtf8}
 use Rattle.std.specs.List.{flat_map, list_all, list_any, AllByRecursion}
 use Rattle.pgb_outside.specs.Order.{are_after}
@@ -34,7 +35,8 @@ head = record { name = head_name; keys = (codes "backrest-format", number (unsig
 
 -- the text of the sections, with these digits as its checksum
 unfoldable pub text_with : List ℕ → List Section → List ℕ
-text_with digits sections = flat_map section_text (head ∷ sections) ++ (codes "[backrest]\nbackrest-checksum=\"" ++ (digits ++ 34 ∷ 10 ∷ []))
+text_with digits sections = flat_map section_text (head ∷ sections)
+    ++ (codes "[backrest]\nbackrest-checksum=\"" ++ (digits ++ 34 ∷ 10 ∷ []))
 
 abbrev pub members_from : List (List ℕ × Data) → Members
 members_from [] = no_members

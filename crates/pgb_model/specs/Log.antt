@@ -47,10 +47,12 @@ pub record StandsAfter (stanza : Text) (q : Repository) (log : List Done) (f : C
 
 -- the files of a stanza that tell it: the members of its two pairs, and those of a backup's manifest
 abbrev pub IsPairMember : Text → Text → Type 0
-IsPairMember stanza name = (name ≡ archive_info stanza) ⊎ ((name ≡ copy_of (archive_info stanza)) ⊎ ((name ≡ backup_info stanza) ⊎ (name ≡ copy_of (backup_info stanza))))
+IsPairMember stanza name = (name ≡ archive_info stanza)
+    ⊎ ((name ≡ copy_of (archive_info stanza)) ⊎ ((name ≡ backup_info stanza) ⊎ (name ≡ copy_of (backup_info stanza))))
 
 abbrev pub IsManifestMember : Text → Text → Type 0
-IsManifestMember stanza name = (l : Label) × ((name ≡ manifest_name stanza l) ⊎ (name ≡ copy_of (manifest_name stanza l)))
+IsManifestMember stanza name = (l : Label)
+    × ((name ≡ manifest_name stanza l) ⊎ (name ≡ copy_of (manifest_name stanza l)))
 
 -- a member of an info pair, an archive file, or a manifest of any label
 pub data IsFixed (stanza name : Text) : Type 0 where
@@ -60,7 +62,8 @@ pub data IsFixed (stanza name : Text) : Type 0 where
 
 -- f lists the label
 abbrev pub Lists : Text → Content → Label → Type 0
-Lists stanza f l = (v : BackupInfo) × PairIs IsBackupText f (backup_info stanza) v × ((e : Entry) × In e v.backups × (e.label ≡ l))
+Lists stanza f l = (v : BackupInfo) × PairIs IsBackupText f (backup_info stanza) v
+    × ((e : Entry) × In e v.backups × (e.label ≡ l))
 
 -- the name is a place of a label that f lists
 pub record IsPlaceOf (stanza : Text) (f : Content) (name : Text) : Type 0 where
@@ -86,16 +89,19 @@ IsDrained (Some s) name sum = In (record { name = name; sum = sum }) s.drained
 
 -- ---- keeps
 
--- The repository's disk, and all that a crash now leaves of it, stand, each by itself, for a sound repository that the log reaches from q, and the names that are looked at aren't loose.
+-- The repository's disk, and all that a crash now leaves of it, stand, each by itself, for a sound repository that the
+-- log reaches from q, and the names that are looked at aren't loose.
 pub record KeepsRepository (stanza : Text) (q : Repository) (log : List Done) (v : View) : Type 0 where
   pub fixed : (name : Text) → IsFixed stanza name → is_loose v name ≡ false
   pub places : (f : Content) → Leaves v v.moment f → (name : Text) → IsPlaceOf stanza f name → is_loose v name ≡ false
   pub stands : (f : Content) → Leaves v v.moment f → StandsAfter stanza q log f
 
--- Each receipt that the spool's disk has, or a crash now leaves, is by itself of a file that such a repository has stored, and no receipt is loose.
+-- Each receipt that the spool's disk has, or a crash now leaves, is by itself of a file that such a repository has
+-- stored, and no receipt is loose.
 pub record KeepsSpool (stanza : Text) (q : Repository) (log : List Done) (v : View) : Type 0 where
   pub fixed : (name : ArchiveName) → IsWalName name → is_loose v (receipt_name stanza name) ≡ false
-  pub receipts : (f : Content) → Leaves v v.moment f → (name : ArchiveName) (sum : Text) → IsWalName name → HasReceipt stanza f name sum → (r : Repository) × Reaches q log r × IsDrained r name sum
+  pub receipts : (f : Content) → Leaves v v.moment f → (name : ArchiveName) (sum : Text) → IsWalName name
+      → HasReceipt stanza f name sum → (r : Repository) × Reaches q log r × IsDrained r name sum
 
 -- the two disks keep the log
 pub record Keeps (stanza : Text) (q : Repository) (log : List Done) (repo spool : View) : Type 0 where

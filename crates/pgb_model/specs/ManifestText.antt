@@ -122,7 +122,8 @@ pub record IsFolder (folders : List Text) (path : Text) : Type 0 where
   pub is_path : IsPath path
   pub lasting : ¬ IsTemporary path
   pub placed : HasItsFolders folders path
-  pub signal : (path ≢ codes "recovery.signal") × (path ≢ codes "standby.signal") × (path ≢ codes "postgresql.auto.conf")
+  pub signal : (path ≢ codes "recovery.signal") × (path ≢ codes "standby.signal")
+      × (path ≢ codes "postgresql.auto.conf")
 
 pub record IsManifest (m : Manifest) : Type 0 where
   pub label : IsLabel m.label

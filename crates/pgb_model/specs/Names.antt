@@ -1,4 +1,5 @@
--- The names of a repository's files (pgBackRest user guide, "Configure Repository"; PostgreSQL manual, "Continuous Archiving").
+-- The names of a repository's files (pgBackRest user guide, "Configure Repository"; PostgreSQL manual, "Continuous
+-- Archiving").
 use Rattle.std.specs.Prelude.{ℕ, [], ◌∷◌, ◌++◌, Option, Some, None, codes, decimal, Bool, ◌||◌}
 use Rattle.pgb_outside.specs.Content.{is_below}
 use Rattle.pgb_model.specs.declared.wal.Segment.{Segment}

@@ -33,7 +33,9 @@ BeginsFrom (Expire kept) r = IsSound r
 BeginsFrom (Then first second) r = IsSound r
 BeginsFrom Reading r = Unit {0}
 
--- From old to new the disk goes by all of the command's steps, or by a part of them, whatever repository it stood for that the command begins from.
+-- From old to new the disk goes by all of the command's steps, or by a part of them, whatever repository it stood for
+-- that the command begins from.
 pub record NowDoes (stanza : Text) (command : Command) (whole : Bool) (old new : Option Content) : Type 0 where
   pub told : IsSome old → IsSome new
-  pub does : (r : Repository) → BeginsFrom command r → IsSome old → NowStands stanza r old → (done : List Step) × IsDone whole done (steps_of command r) × NowStands stanza (after r done) new
+  pub does : (r : Repository) → BeginsFrom command r → IsSome old → NowStands stanza r old
+      → (done : List Step) × IsDone whole done (steps_of command r) × NowStands stanza (after r done) new

@@ -14,7 +14,8 @@ is_path_byte c = not (nat_lt c 32) && not (c == 127) && not (c == 61)
 -- not empty, without `[` or `#` in front, and neither `.` nor `..`
 abbrev pub is_element : Text → Bool
 is_element [] = false
-is_element (c ∷ cs) = not (c == 91) && not (c == 35) && not (bytes_eq (c ∷ cs) (codes ".")) && not (bytes_eq (c ∷ cs) (codes ".."))
+is_element (c ∷ cs) = not (c == 91) && not (c == 35) && not (bytes_eq (c ∷ cs) (codes "."))
+    && not (bytes_eq (c ∷ cs) (codes ".."))
 
 -- a path of at most 1,024 bytes (own)
 pub record IsPath (path : Text) : Type 0 where

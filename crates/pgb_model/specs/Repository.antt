@@ -38,7 +38,8 @@ pub record Drained : Type 0 where
   pub name : ArchiveName
   pub sum : Text
 
--- The clusters so far, the current one last; the backups in the order of their labels; the archived files; and all that a drain ever stored.
+-- The clusters so far, the current one last; the backups in the order of their labels; the archived files; and all that
+-- a drain ever stored.
 pub record Stanza : Type 0 where
   pub history : List Cluster
   pub backups : List Backup
@@ -74,14 +75,17 @@ NeighboursDiffer (c ∷ d ∷ cs) = Differ c d × NeighboursDiffer (d ∷ cs)
 
 -- a segment at that size, which lies from start to stop
 abbrev pub IsWithinSpan : ℕ → Span → Segment → Type 0
-IsWithinSpan size span s = (s.timeline ≡ span.start.timeline) × (s.seg < segments_per_log size) × (position size span.start ≤ position size s) × (position size s ≤ position size span.stop)
+IsWithinSpan size span s = (s.timeline ≡ span.start.timeline) × (s.seg < segments_per_log size)
+    × (position size span.start ≤ position size s) × (position size s ≤ position size span.stop)
 
 -- each segment that a backup needs is archived under its cluster's id
 abbrev pub HasItsSegments : Stanza → Backup → Type 0
-HasItsSegments s b = IfSome b.wal (λ w. (segment : Segment) (c : Cluster) → In c s.history → c.id ≡ b.entry.db → IsWithinSpan w.size.0 w.span segment →
+HasItsSegments s b = IfSome b.wal (λ w. (segment : Segment) (c : Cluster) → In c s.history → c.id ≡ b.entry.db
+    → IsWithinSpan w.size.0 w.span segment →
     (a : Archived) × In a s.archived × (a.id ≡ id_of c) × (a.name ≡ Whole segment))
 
--- The backup's cluster is in the history, its span is that of its part of the log, its prior stands before it and is of its cluster, and its segments are archived.
+-- The backup's cluster is in the history, its span is that of its part of the log, its prior stands before it and is of
+-- its cluster, and its segments are archived.
 pub record IsSoundBackup (s : Stanza) (earlier : List Backup) (b : Backup) : Type 0 where
   pub cluster : (c : Cluster) × In c s.history × (c.id ≡ b.entry.db)
   pub span : b.entry.span ≡ option_map (λ (w : WalPart). w.span) b.wal

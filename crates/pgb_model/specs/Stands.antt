@@ -58,7 +58,8 @@ pub record IsEntryOf (stanza : Text) (f : Content) (own : Label) (file : File) (
 -- the label is the prior of the backup, or an ancestor of its prior
 pub data IsAncestor (backups : List Backup) : Label → Backup → Type 0 where
   Prior : (b : Backup) (l : Label) → b.entry.prior ≡ Some l → IsAncestor backups l b
-  Earlier : (b p : Backup) (l : Label) → In p backups → b.entry.prior ≡ Some p.entry.label → IsAncestor backups l p → IsAncestor backups l b
+  Earlier : (b p : Backup) (l : Label) → In p backups → b.entry.prior ≡ Some p.entry.label → IsAncestor backups l p
+      → IsAncestor backups l b
 
 -- the label is listed
 abbrev pub IsListed : List Backup → Label → Type 0
@@ -76,7 +77,8 @@ pub record IsManifestOf (stanza : Text) (f : Content) (s : Stanza) (b : Backup) 
   pub choices : m.choices ≡ b.choices
   pub folders : m.folders ≡ b.folders
   pub paths : map (λ e. e.path) m.files ≡ keys b.files
-  pub files : (e : FileEntry) → In e m.files → (file : File) × (get b.files e.path ≡ Some file) × IsEntryOf stanza f b.entry.label file e
+  pub files : (e : FileEntry) → In e m.files
+      → (file : File) × (get b.files e.path ≡ Some file) × IsEntryOf stanza f b.entry.label file e
   pub references : (l : Label) → In l b.entry.references ↔ ((e : FileEntry) × In e m.files × (e.reference ≡ Some l))
   pub ancestors : (l : Label) → In l b.entry.references → IsAncestor s.backups l b × IsListed s.backups l
 
@@ -93,10 +95,15 @@ pub record IsVacant (stanza : Text) (f : Content) : Type 0 where
 abbrev pub archive_value : Stanza → ArchiveInfo
 archive_value s = record { current = current_number s; history = map identity_of s.history }
 
--- The value of the backup pair. Its history is the stanza's, or has one further cluster that is still to come: it is then its current one, and no listed backup's.
+-- The value of the backup pair. Its history is the stanza's, or has one further cluster that is still to come: it is
+-- then its current one, and no listed backup's.
 abbrev pub backup_value : Stanza → Option Cluster → BackupInfo
 backup_value s None = record { current = current_number s; history = s.history; backups = map (λ b. b.entry) s.backups }
-backup_value s (Some c) = record { current = c.id; history = s.history ++ c ∷ []; backups = map (λ b. b.entry) s.backups }
+backup_value s (Some c) = record {
+  current = c.id;
+  history = s.history ++ c ∷ [];
+  backups = map (λ b. b.entry) s.backups;
+}
 
 abbrev pub IsPending : Stanza → Option Cluster → Type 0
 IsPending s None = Unit {0}
@@ -108,7 +115,8 @@ pub record HasStanza (stanza : Text) (f : Content) (s : Stanza) : Type 0 where
   pub pending : Option Cluster
   pub is_pending : IsPending s pending
   pub backup_pair : PairIs IsBackupText f (backup_info stanza) (backup_value s pending)
-  pub manifests : (b : Backup) → In b s.backups → (m : Manifest) × PairIs IsManifestText f (manifest_name stanza b.entry.label) m × IsManifestOf stanza f s b m
+  pub manifests : (b : Backup) → In b s.backups
+      → (m : Manifest) × PairIs IsManifestText f (manifest_name stanza b.entry.label) m × IsManifestOf stanza f s b m
   pub archived : (name bytes : Text) → IsArchiveFile stanza name →
       (f name ≡ Some bytes) ↔ ((a : Archived) × In a s.archived × (name ≡ stored_name stanza a) × (bytes ≡ a.bytes))
   pub named : (a : Archived) → In a s.archived → IsArchivePlace a.id a.name (sha1 a.bytes)

@@ -22,14 +22,16 @@ pub record IsBegun (stanza : Text) (q : Repository) (log : List Done) (v : View)
   pub sound : IsSound repository
   pub steady : IsSteady stanza repository v
 
--- A command's way from old to new: at each moment all that may be left has P, the past stays, and at its end no name that is looked at is loose.
+-- A command's way from old to new: at each moment all that may be left has P, the past stays, and at its end no name
+-- that is looked at is loose.
 pub record Moves (stanza : Text) (P : Content → Type 0) (old new : View) : Type 0 where
   pub later : old.moment ≤ new.moment
   pub past : (t : ℕ) (n : Name) (v : Value) → t ≤ old.moment → new.kept t n v → old.kept t n v
   pub past_loose : (t : ℕ) (n : Name) → t ≤ old.moment → new.loose t n ≡ old.loose t n
   pub told : IsSome new.now
   pub fixed : (name : Text) → IsFixed stanza name → is_loose new name ≡ false
-  pub places : (f : Content) → Leaves new new.moment f → (name : Text) → IsPlaceOf stanza f name → is_loose new name ≡ false
+  pub places : (f : Content) → Leaves new new.moment f → (name : Text) → IsPlaceOf stanza f name
+      → is_loose new name ≡ false
   pub leaves : (t : ℕ) (f : Content) → old.moment ≤ t → t ≤ new.moment → Leaves new t f → P f
 
 -- at each moment between the two all that may be left has P
@@ -40,13 +42,16 @@ LeavesOnly P old new = (t : ℕ) (f : Content) → old.moment ≤ t → t ≤ ne
 
 -- A command takes a disk that keeps a log on to the log with the command: the whole of it, or a part.
 pub record CarriesOn (stanza : Text) (command : Command) (whole : Bool) (old new : View) : Type 0 where
-  pub keeps : (q : Repository) (log : List Done) → IsSome old.now → KeepsRepository stanza q log old → KeepsRepository stanza q (record { command = command; acknowledged = whole } ∷ log) new
+  pub keeps : (q : Repository) (log : List Done) → IsSome old.now → KeepsRepository stanza q log old
+      → KeepsRepository stanza q (record { command = command; acknowledged = whole } ∷ log) new
 
 -- The same of the repository's disk and the spool's.
 abbrev pub KeepsOn : Text → Command → Bool → View → View → View → View → Type 0
 KeepsOn stanza command whole repo spool new_repo new_spool =
-    (q : Repository) (log : List Done) → IsSome repo.now → Keeps stanza q log repo spool → Keeps stanza q (record { command = command; acknowledged = whole } ∷ log) new_repo new_spool
+    (q : Repository) (log : List Done) → IsSome repo.now → Keeps stanza q log repo spool
+    → Keeps stanza q (record { command = command; acknowledged = whole } ∷ log) new_repo new_spool
 
 -- At each moment of the command all that may be left stands for the log with a part of the command.
 pub record PassesOnly (stanza : Text) (command : Command) (old new : View) : Type 0 where
-  pub between : (q : Repository) (log : List Done) → IsSome old.now → KeepsRepository stanza q log old → LeavesOnly (StandsAfter stanza q (record { command = command; acknowledged = false } ∷ log)) old new
+  pub between : (q : Repository) (log : List Done) → IsSome old.now → KeepsRepository stanza q log old
+      → LeavesOnly (StandsAfter stanza q (record { command = command; acknowledged = false } ∷ log)) old new

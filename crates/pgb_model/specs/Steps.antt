@@ -80,7 +80,8 @@ IsSomeOf done (g ∷ groups) = IsSomeOf done groups ⊎ ((rest : List Step) × (
 abbrev pub IsPartOf : List Step → List Move → Type 0
 IsPartOf done [] = done ≡ []
 IsPartOf done (One t ∷ moves) = (done ≡ []) ⊎ ((rest : List Step) × (done ≡ t ∷ rest) × IsPartOf rest moves)
-IsPartOf done (Any groups ∷ moves) = IsSomeOf done groups ⊎ ((rest : List Step) × (done ≡ flat_map (λ g. g) groups ++ rest) × IsPartOf rest moves)
+IsPartOf done (Any groups ∷ moves) = IsSomeOf done groups
+    ⊎ ((rest : List Step) × (done ≡ flat_map (λ g. g) groups ++ rest) × IsPartOf rest moves)
 
 -- ---- commands
 
@@ -154,7 +155,8 @@ turn_moves s (t ∷ ts) =
 abbrev pub expiry_moves : Retention → Stanza → List Move
 expiry_moves kept s =
     let rest = changed (Condemn (kept.condemned s)) s in
-    One (Condemn (kept.condemned s)) ∷ Any (map (λ a. Forget a ∷ []) (filter (λ a. not (kept.needed rest a)) rest.archived)) ∷ []
+    One (Condemn (kept.condemned s)) ∷ Any
+    (map (λ a. Forget a ∷ []) (filter (λ a. not (kept.needed rest a)) rest.archived)) ∷ []
 
 abbrev pub create_moves : Option Cluster → Repository → List Move
 create_moves (Some c) None = One (Create c) ∷ []
@@ -180,7 +182,8 @@ abbrev pub steps_of : Command → Repository → List Move
 steps_of (StanzaCreate cluster) r = create_moves cluster r
 steps_of (ArchivePush n) r = in_stanza (λ s. under_current (λ id. map One (push_of s (archived_of id n))) s) r
 steps_of (ArchivePushAsync turns) r = in_stanza (λ s. turn_moves s turns) r
-steps_of (ArchivePushDrain files) r = in_stanza (λ s. under_current (λ id. map One (flat_map (λ g. g) (stores_of s id files))) s) r
+steps_of (ArchivePushDrain files) r =
+    in_stanza (λ s. under_current (λ id. map One (flat_map (λ g. g) (stores_of s id files))) s) r
 steps_of (MakeBackup turns b kept) r = in_stanza (backup_moves turns b kept) r
 steps_of (Expire kept) r = in_stanza (expiry_moves kept) r
 steps_of (Then first next) r = steps_of first r ++ steps_of next (after r (all_of (steps_of first r)))

@@ -68,13 +68,42 @@ abbrev pub archive_info_of : rust_archive_info.ArchiveInfo → ArchiveInfo
 archive_info_of v = record { current = v.current; history = v.history.items }
 
 abbrev pub entry_of : rust_entry.Entry → Entry
-entry_of e = record { label = e.label; kind = e.kind; prior = e.prior; references = e.references.items; db = e.db; span = e.span; start = e.start; stop = e.stop; size = e.size; stored = e.stored }
+entry_of e = record {
+  label = e.label;
+  kind = e.kind;
+  prior = e.prior;
+  references = e.references.items;
+  db = e.db;
+  span = e.span;
+  start = e.start;
+  stop = e.stop;
+  size = e.size;
+  stored = e.stored;
+}
 
 abbrev pub backup_info_of : rust_backup_info.BackupInfo → BackupInfo
 backup_info_of v = record { current = v.current; history = v.history.items; backups = map entry_of v.backups.items }
 
 abbrev pub file_entry_of : rust_file_entry.FileEntry → FileEntry
-file_entry_of e = record { path = string_bytes e.path; size = e.size; time = e.time; sum = e.sum.0; reference = e.reference; bundle = e.bundle }
+file_entry_of e = record {
+  path = string_bytes e.path;
+  size = e.size;
+  time = e.time;
+  sum = e.sum.0;
+  reference = e.reference;
+  bundle = e.bundle;
+}
 
 abbrev pub manifest_of : rust_manifest.Manifest → Manifest
-manifest_of m = record { label = m.label; kind = m.kind; prior = m.prior; start = m.start; stop = m.stop; cluster = m.cluster; wal = m.wal; choices = m.choices; files = map file_entry_of m.files.items; folders = map string_bytes m.folders.items }
+manifest_of m = record {
+  label = m.label;
+  kind = m.kind;
+  prior = m.prior;
+  start = m.start;
+  stop = m.stop;
+  cluster = m.cluster;
+  wal = m.wal;
+  choices = m.choices;
+  files = map file_entry_of m.files.items;
+  folders = map string_bytes m.folders.items;
+}

@@ -35,7 +35,8 @@ abbrev pub Misses : ℕ → Segment → Stop → OnlineFault → Type 0
 Misses size segment stop (Server fault) = ⊥
 Misses size segment stop TablespaceMap = stop.map_file ≢ []
 Misses size segment stop (SpanWrong start last) =
-    (stop.map_file ≡ []) × (start ≡ segment) × (last ≡ stop.segment) × ¬ IsSpanOf size (record { start = start; stop = last })
+    (stop.map_file ≡ []) × (start ≡ segment) × (last ≡ stop.segment)
+    × ¬ IsSpanOf size (record { start = start; stop = last })
 
 -- why a backup isn't stopped
 abbrev pub StopCause : Begun → Option (List ℕ) → Option (List ℕ) → Type 0 → OnlineFault → Type 0

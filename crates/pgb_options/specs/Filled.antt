@@ -58,7 +58,8 @@ or_else d (Some x) = x
 
 -- the words of `type`, `repo1-retention-archive-type`, `repo1-retention-full-type`, `output` and `log-level-stderr`
 abbrev pub kind_word : Text → KindWord
-kind_word t = if bytes_eq t (codes "full") then kinds.Full else if bytes_eq t (codes "diff") then kinds.Diff else kinds.Incr
+kind_word t = if bytes_eq t (codes "full") then kinds.Full else if bytes_eq t
+    (codes "diff") then kinds.Diff else kinds.Incr
 
 abbrev pub retention_word : Text → RetentionWord
 retention_word t = if bytes_eq t (codes "time") then retentions.Time else retentions.Count
@@ -70,11 +71,13 @@ abbrev pub output_word : Text → OutputWord
 output_word t = if bytes_eq t (codes "json") then outputs.Json else outputs.Text
 
 abbrev pub is_beyond_info : Text → Bool
-is_beyond_info t = bytes_eq t (codes "info") || bytes_eq t (codes "detail") || bytes_eq t (codes "debug") || bytes_eq t (codes "trace")
+is_beyond_info t = bytes_eq t (codes "info") || bytes_eq t (codes "detail") || bytes_eq t (codes "debug")
+    || bytes_eq t (codes "trace")
 
 -- what is told on standard error (manual, "Console Log Level")
 abbrev pub log_word : Text → LogWord
-log_word t = if bytes_eq t [] || bytes_eq t (codes "off") then logs.Nothing else if is_beyond_info t then logs.Progress else logs.Failures
+log_word t = if bytes_eq t [] || bytes_eq t (codes "off") then logs.Nothing else if is_beyond_info
+    t then logs.Progress else logs.Failures
 
 abbrev pub word_in : Option Value → Text
 word_in v = or_else [] (text_in v)
@@ -91,7 +94,8 @@ pub record AreOptions (o : Options) (value : Opt → Option Value) : Type 0 wher
   pub repo1_retention_full_type : o.repo1_retention_full_type ≡ retention_word (word_in (value Repo1RetentionFullType))
   pub repo1_retention_diff : o.repo1_retention_diff ≡ number_in (value Repo1RetentionDiff)
   pub repo1_retention_archive : o.repo1_retention_archive ≡ number_in (value Repo1RetentionArchive)
-  pub repo1_retention_archive_type : o.repo1_retention_archive_type ≡ kind_word (word_in (value Repo1RetentionArchiveType))
+  pub repo1_retention_archive_type : o.repo1_retention_archive_type
+      ≡ kind_word (word_in (value Repo1RetentionArchiveType))
   pub repo1_bundle : o.repo1_bundle ≡ or_else false (flag_in (value Repo1Bundle))
   pub repo1_bundle_size : o.repo1_bundle_size ≡ or_else 0 (amount_in (value Repo1BundleSize))
   pub repo1_bundle_limit : o.repo1_bundle_limit ≡ or_else 0 (amount_in (value Repo1BundleLimit))

@@ -33,7 +33,8 @@ abbrev pub value_given : List (Text × Text) → Text → Option Text
 value_given given name = option_map (λ g. g.1) (find (λ g. bytes_eq g.0 name) given)
 
 abbrev pub value_in : List Setting → Text → Text → Option Text
-value_in settings section key = option_map (λ s. s.value) (find (λ s. bytes_eq s.section section && bytes_eq s.key key) settings)
+value_in settings section key = option_map (λ s. s.value)
+    (find (λ s. bytes_eq s.section section && bytes_eq s.key key) settings)
 
 -- the value of the strongest section that has the key
 abbrev pub value_among : List Setting → List Text → Text → Option Text
@@ -46,7 +47,8 @@ value_configured Anywhere s name = value_among s.settings s.sections name
 
 -- what the words tell, or else the configuration, where the command has the option
 abbrev pub told : Source → Opt → Option Text
-told s o = if is_for s.verb o then option_or (value_given s.given (row o).name) (value_configured (row o).place s (row o).name) else None
+told s o = if is_for s.verb o then option_or (value_given s.given (row o).name)
+    (value_configured (row o).place s (row o).name) else None
 
 -- the text in force: what is told, or else the default
 unfoldable pub in_force : Source → Opt → Option Text
@@ -63,7 +65,8 @@ abbrev pub refused : {A : Type 0} → (A → Bool) → (A → Fault) → List A 
 refused fails fault xs = option_map_or (λ x. Err (fault x)) (find fails xs) (Ok tt)
 
 abbrev pub verb_named : List Verb → Text → Result Verb Fault
-verb_named verbs word = option_map_or (λ v. Ok v) (find (λ v. bytes_eq (verb_word v) word) verbs) (Err (command_unknown word))
+verb_named verbs word = option_map_or (λ v. Ok v) (find (λ v. bytes_eq (verb_word v) word) verbs)
+    (Err (command_unknown word))
 
 abbrev pub command_of : List Verb → Option Text → Result Verb Fault
 command_of verbs None = Err command_missing
@@ -94,7 +97,8 @@ is_set settings section key = list_any (λ s. bytes_eq s.section section && byte
 -- no section has a known key twice; the first list is what stands before the second
 abbrev pub none_twice : List Opt → List Setting → List Setting → Result (Unit {0}) Fault
 none_twice table before [] = Ok tt
-none_twice table before (s ∷ ss) = if is_known table s.key && is_set before s.section s.key then Err (option_repeated s.key) else none_twice table (before ++ s ∷ []) ss
+none_twice table before (s ∷ ss) = if is_known table s.key
+    && is_set before s.section s.key then Err (option_repeated s.key) else none_twice table (before ++ s ∷ []) ss
 
 abbrev pub is_wrong : Source → Opt → Bool
 is_wrong s o = is_some (in_force s o) && is_none (value s o)
@@ -143,7 +147,8 @@ section_word Rehearse = codes "rehearse"
 
 -- the sections that count, the strongest first
 unfoldable pub sections_of : Text → Verb → List Text
-sections_of stanza verb = (stanza ++ codes ":" ++ section_word verb) ∷ stanza ∷ (codes "global:" ++ section_word verb) ∷ codes "global" ∷ []
+sections_of stanza verb = (stanza ++ codes ":" ++ section_word verb) ∷ stanza ∷ (codes "global:" ++ section_word verb)
+    ∷ codes "global" ∷ []
 
 abbrev pub counts : List Text → Text → Bool
 counts sections section = list_any (λ s. bytes_eq s section) sections
@@ -154,7 +159,8 @@ known_settings table sections settings = filter (λ s. counts sections s.section
 
 -- the keys of sections that count that no option has
 unfoldable pub unknown_keys : List Opt → List Text → List Setting → List Text
-unknown_keys table sections settings = map (λ s. s.key) (filter (λ s. counts sections s.section && not (is_known table s.key)) settings)
+unknown_keys table sections settings =
+    map (λ s. s.key) (filter (λ s. counts sections s.section && not (is_known table s.key)) settings)
 
 -- ---- the command
 
@@ -167,10 +173,17 @@ pub record Settled : Type 0 where
   pub warnings : List Text
 
 abbrev pub source_of : List Opt → Verb → List (Text × Text) → List Text → List Setting → Source
-source_of table verb given sections settings = record { verb = verb; given = given; settings = known_settings table sections settings; sections = sections }
+source_of table verb given sections settings =
+    record { verb = verb; given = given; settings = known_settings table sections settings; sections = sections }
 
 abbrev pub settled : List Opt → Text → Words → Source → List Setting → Settled
-settled table stanza words source settings = record { stanza = stanza; parameters = words.parameters; source = source; warnings = unknown_keys table source.sections settings }
+settled table stanza words source settings =
+    record {
+      stanza = stanza;
+      parameters = words.parameters;
+      source = source;
+      warnings = unknown_keys table source.sections settings;
+    }
 
 -- the settings of a configuration, or its first fault: of its form, or a key that stands twice in a section
 unfoldable pub configured : List Opt → Text → Result (List Setting) Fault

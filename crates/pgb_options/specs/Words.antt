@@ -30,7 +30,8 @@ style_of (table.words allowed) = valued
 abbrev pub style_named : List Opt → Text → Option Style
 style_named table name = option_map (λ o. style_of (row o).kind) (find (λ o. bytes_eq (row o).name name) table)
 
--- what one or two words say: a word that begins with `-` and is no option; an option with its value; `--no-config`; any other word
+-- what one or two words say: a word that begins with `-` and is no option; an option with its value; `--no-config`; any
+-- other word
 pub data Token : Type 0 where
   unknown : (word : Text) → Token
   gives : (name value : Text) → Token
@@ -48,7 +49,8 @@ after_prefix prefix t = if starts_with nat_eq t prefix then Some (drop (length p
 
 -- the two sides of the first `=`
 abbrev pub split_equals : Text → Option (Text × Text)
-split_equals t = if nat_lt (position_or_len (λ b. b == 61) t) (length t) then Some (before_first (λ b. b == 61) t, after_first (λ b. b == 61) t) else None
+split_equals t = if nat_lt (position_or_len (λ b. b == 61) t) (length t) then Some
+    (before_first (λ b. b == 61) t, after_first (λ b. b == 61) t) else None
 
 -- a word that names an option and a value: `--name=value`
 abbrev pub given_shape : Option Style → Text → Text → Text → Shape
@@ -63,7 +65,8 @@ denied_shape (Some valued) word name = done (unknown word)
 denied_shape None word name = done (unknown word)
 
 abbrev pub other_shape : List Opt → Text → Text → Shape
-other_shape table word body = option_map_or (λ name. denied_shape (style_named table name) word name) (after_prefix (codes "no-") body) (done (unknown word))
+other_shape table word body = option_map_or (λ name. denied_shape (style_named table name) word name)
+    (after_prefix (codes "no-") body) (done (unknown word))
 
 -- a word that names an option alone: `--name`; and any word that begins with two dashes
 abbrev pub bare_shape : Option Style → List Opt → Text → Text → Shape
@@ -73,7 +76,8 @@ bare_shape (Some valued) table word body = wants body
 bare_shape None table word body = other_shape table word body
 
 abbrev pub option_shape : List Opt → Text → Text → Shape
-option_shape table word body = option_map_or (λ p. given_shape (style_named table p.0) word p.0 p.1) (split_equals body) (bare_shape (style_named table body) table word body)
+option_shape table word body = option_map_or (λ p. given_shape (style_named table p.0) word p.0 p.1) (split_equals body)
+    (bare_shape (style_named table body) table word body)
 
 -- no `-` stands in front
 abbrev pub is_plain : Text → Bool
@@ -86,7 +90,8 @@ body_of word = if nat_le (length word) 2 then None else after_prefix (codes "--"
 
 -- what a word says by itself
 abbrev pub shape : List Opt → Text → Shape
-shape table word = if is_plain word then done (plain word) else option_map_or (option_shape table word) (body_of word) (done (unknown word))
+shape table word = if is_plain word then done (plain word) else option_map_or (option_shape table word) (body_of word)
+    (done (unknown word))
 
 abbrev pub shaped : Shape → (Option Text → List Token) → List Token
 shaped (done t) rest = t ∷ rest None
@@ -115,7 +120,11 @@ abbrev pub is_given : List (Text × Text) → Text → Bool
 is_given given name = list_any (λ g. bytes_eq g.0 name) given
 
 abbrev pub with_option : Words → Text → Text → Words
-with_option w name value = record { command = w.command; parameters = w.parameters; given = w.given ++ (name, value) ∷ [] }
+with_option w name value = record {
+  command = w.command;
+  parameters = w.parameters;
+  given = w.given ++ (name, value) ∷ [];
+}
 
 -- the first plain word is the command, the others are parameters
 abbrev pub with_word : Words → Option Text → Text → Words
@@ -125,7 +134,8 @@ with_word w (Some c) word = record { command = Some c; parameters = w.parameters
 -- the words with one more token, or its fault
 abbrev pub add_token : Words → Token → Result Words Fault
 add_token w (unknown word) = Err (option_unknown word)
-add_token w (gives name value) = if is_given w.given name then Err (option_repeated name) else if length value == 0 then Err (option_value name) else Ok (with_option w name value)
+add_token w (gives name value) = if is_given w.given name then Err (option_repeated name) else if length value
+    == 0 then Err (option_value name) else Ok (with_option w name value)
 add_token w (denies name) = if is_given w.given name then Err (option_repeated name) else Ok (with_option w name [])
 add_token w (plain word) = Ok (with_word w w.command word)
 

@@ -55,8 +55,8 @@ pub enum LogWord {
 
 /// The values in force of the options, named as these with `_` for `-`.
 ///
-/// An option without a default is None where no value is in force, or where the command doesn't use it. Any other then has its
-/// default. A path or a text has 1 to 1,024 bytes.
+/// An option without a default is None where no value is in force, or where the command doesn't use it. Any other then
+/// has its default. A path or a text has 1 to 1,024 bytes.
 #[derive(Debug, Drop)]
 pub struct Options {
     /// The data folder.

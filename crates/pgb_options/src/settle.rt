@@ -106,9 +106,9 @@ pub(crate) fn settle(
 
 /// The command that the words of a command line and the bytes of a configuration ask for.
 ///
-/// Else the first fault. It is looked for in this order: the words from left to right, the command, its options, the stanza,
-/// the configuration's form, a key that stands twice in a section of it, the values in force, options without a value, the
-/// parameters.
+/// Else the first fault. It is looked for in this order: the words from left to right, the command, its options, the
+/// stanza, the configuration's form, a key that stands twice in a section of it, the values in force, options without a
+/// value, the parameters.
 #[tactic(auto, unfolding(crate::specs::Settings::settled_words))]
 pub fn settle_words(alloc: Global, words: &[String], config: &[u8]) -> Result<Command, Usage>
     requires { length config.now + 1 < 2 ^ 32 }

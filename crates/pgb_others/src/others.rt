@@ -8,8 +8,8 @@ use std::process::{Command, Stdio};
 use std::time::Duration;
 use std::{io, thread};
 
-/// Other processes. A turn of theirs is a second, in which they push what a server hands to its archive command, or what is
-/// ready. This program is started beside itself.
+/// Other processes. A turn of theirs is a second, in which they push what a server hands to its archive command, or
+/// what is ready. This program is started beside itself.
 #[derive(Drop)]
 pub struct Others {
     rt: HostRuntime,

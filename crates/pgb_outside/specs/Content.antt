@@ -52,11 +52,13 @@ IsThere content name = IfSome content (λ f. IsSome (f name))
 
 -- At `Ok` the content is after the change. At an `Err` it is after it or as before.
 abbrev pub Changes : {T E : Type 0} → Result T E → (Content → Content) → Option Content → Option Content → Type 0
-Changes result change old new = MatchResult result (λ _. new ≡ option_map change old) (λ _. (new ≡ old) ⊎ (new ≡ option_map change old))
+Changes result change old new = MatchResult result (λ _. new ≡ option_map change old)
+    (λ _. (new ≡ old) ⊎ (new ≡ option_map change old))
 
 -- a failed append may have added a part of its bytes
 abbrev pub Appends : {T E : Type 0} → Result T E → Name → List ℕ → Option Content → Option Content → Type 0
-Appends result name bytes old new = MatchResult result (λ _. new ≡ option_map (lengthened name bytes) old) (λ _. (new ≡ old) ⊎ ((k : ℕ) × (new ≡ option_map (lengthened name (take k bytes)) old)))
+Appends result name bytes old new = MatchResult result (λ _. new ≡ option_map (lengthened name bytes) old)
+    (λ _. (new ≡ old) ⊎ ((k : ℕ) × (new ≡ option_map (lengthened name (take k bytes)) old)))
 
 -- what stands at a name, where that is told
 abbrev pub at : {X : Type 0} → Name → Option (Name → X) → Option X
@@ -68,8 +70,10 @@ SameBut name old new = (q : Name) → q ≢ name → at q new ≡ at q old
 
 -- every name below the folder once, with the length of its bytes, in byte order
 pub record IsListing (folder : Name) (f : Content) (found : List (Name × ℕ)) : Type 0 where
-  pub each : (name : Name) (size : ℕ) → Contains found (name, size) → IsTrue (is_below folder name) × ((bytes : List ℕ) × (f name ≡ Some bytes) × (length bytes ≡ size))
-  pub all : (name bytes : List ℕ) → IsTrue (is_below folder name) → f name ≡ Some bytes → Contains found (name, length bytes)
+  pub each : (name : Name) (size : ℕ) → Contains found (name, size)
+      → IsTrue (is_below folder name) × ((bytes : List ℕ) × (f name ≡ Some bytes) × (length bytes ≡ size))
+  pub all : (name bytes : List ℕ) → IsTrue (is_below folder name) → f name ≡ Some bytes
+      → Contains found (name, length bytes)
   pub order : are_in_order (map (λ x. x.0) found) ≡ true
 
 -- the name of a folder within another: it isn't empty and has no slash

@@ -4,13 +4,15 @@ use Rattle.pgb_outside.specs.Cause.{Rises}
 use Rattle.pgb_outside.specs.declared.stop.Stop.{Stop}
 use Rattle.pgb_outside.specs.declared.stop.Stop.TheVariants.{Failed, NoMemory}
 
--- what a link tells: its answer to each frame, what it is still to give, and that no call fails or ends before all is given
+-- what a link tells: its answer to each frame, what it is still to give, and that no call fails or ends before all is
+-- given
 pub record Told : Type 0 where
   pub answer : List ℕ → List ℕ
   pub pending : List ℕ
   pub steady : Bool
 
--- how often it failed, the jobs that it was sent and the read jobs among them, the last five bytes that it gave, and what it tells
+-- how often it failed, the jobs that it was sent and the read jobs among them, the last five bytes that it gave, and
+-- what it tells
 pub record LinkState : Type 0 where
   pub faults : ℕ
   pub jobs : ℕ

@@ -26,9 +26,11 @@ shown other = Other
 
 -- a listing: every node once, in byte order of the paths, each folder on a path among them
 pub record IsTreeListing (nodes : Nodes) (seen : List (Name × Node)) : Type 0 where
-  pub each : (path : Name) (node : Node) → Contains seen (path, node) → (held : Held) × (nodes path ≡ Some held) × (node ≡ shown held)
+  pub each : (path : Name) (node : Node) → Contains seen (path, node)
+      → (held : Held) × (nodes path ≡ Some held) × (node ≡ shown held)
   pub all : (path : Name) (held : Held) → nodes path ≡ Some held → Contains seen (path, shown held)
-  pub folders : (front rest : Name) (node : Node) → Contains seen (front ++ 47 ∷ rest, node) → Contains seen (front, Folder)
+  pub folders : (front rest : Name) (node : Node) → Contains seen (front ++ 47 ∷ rest, node)
+      → Contains seen (front, Folder)
   pub order : are_in_order (map (λ s. s.0) seen) ≡ true
 
 -- the path of a known file (PostgreSQL manual, "Database File Layout")
@@ -44,7 +46,8 @@ file_bytes other_node = None
 
 -- the folder that holds the path is there: the root always is
 abbrev pub HasItsFolder : Nodes → Name → Type 0
-HasItsFolder nodes path = (front last : Name) → path ≡ front ++ 47 ∷ last → ¬ Contains last 47 → nodes front ≡ Some folder
+HasItsFolder nodes path = (front last : Name) → path ≡ front ++ 47 ∷ last → ¬ Contains last 47
+    → nodes front ≡ Some folder
 
 -- the tree, where it is told, has its folder
 abbrev pub IsPlaced : Option Nodes → Name → Type 0
@@ -80,10 +83,13 @@ ChangesTree result change old new = MatchResult result (λ _. new ≡ option_map
 
 -- At `Ok` the tree is after the change, with some time of the file. At an `Err` only the file itself may have changed.
 abbrev pub ChangesFile : {T E : Type 0} → Result T E → Name → (ℕ → Nodes → Nodes) → Option Nodes → Option Nodes → Type 0
-ChangesFile result path change old new = MatchResult result (λ _. (time : ℕ) × (new ≡ option_map (change time) old)) (λ _. SameBut path old new)
+ChangesFile result path change old new =
+    MatchResult result (λ _. (time : ℕ) × (new ≡ option_map (change time) old)) (λ _. SameBut path old new)
 
--- At `Ok true` nothing was at the path, and an empty file is, with some time. At `Ok false` something was, and the tree is as before. At an `Err` only the file itself may have changed.
+-- At `Ok true` nothing was at the path, and an empty file is, with some time. At `Ok false` something was, and the tree
+-- is as before. At an `Err` only the file itself may have changed.
 abbrev pub BeginsNew : {E : Type 0} → Result Bool E → Name → Option Nodes → Option Nodes → Type 0
-BeginsNew (Ok true) path old new = IfSome old (λ f. f path ≡ None) × ((time : ℕ) × (new ≡ option_map (with_node path (Some (file [] time))) old))
+BeginsNew (Ok true) path old new = IfSome old (λ f. f path ≡ None)
+    × ((time : ℕ) × (new ≡ option_map (with_node path (Some (file [] time))) old))
 BeginsNew (Ok false) path old new = IfSome old (λ f. IsSome (f path)) × (new ≡ old)
 BeginsNew (Err e) path old new = SameBut path old new

@@ -37,8 +37,8 @@ pub trait Disk {
         ensures looks { Looks (state self.old) (state self.new) }
         ensures cause { HasCause (state self.old).faults (state self.new).faults result };
 
-    /// The own names of the folders that stand directly in the folder, in any order; one may come twice, and one may hold
-    /// nothing. An absent folder has none.
+    /// The own names of the folders that stand directly in the folder, in any order; one may come twice, and one may
+    /// hold nothing. An absent folder has none.
     fn folders(&mut self, alloc: Global, folder: &str) -> Result<Vec<String>, Stop>
         ensures folders { IfOk result
             (λ told. IfSome (state self.old).view.now (λ f. AreFolders folder.now f (map string_bytes told.items))) }

@@ -23,7 +23,8 @@ pub trait Files {
         ensures files { files self.new ≡ files self.old }
         ensures cause { HasCause (faults self.old) (faults self.new) result };
 
-    /// Bytes of a name from a place on: None where it is absent, 0 at its end. No byte lies at a place that isn't a `u64`.
+    /// Bytes of a name from a place on: None where it is absent, 0 at its end. No byte lies at a place that isn't a
+    /// `u64`.
     fn read(&mut self, name: &str, at: u64, buf: &mut [u8]) -> Result<Option<usize>, Stop>
         ensures bytes { IfOk result
             (λ n. IfSome (files self.old) (λ f. Reads (f name.now) at (length buf.old) buf.new n)) }

@@ -1,7 +1,8 @@
-//! Tells how fast files are read by workers, for the bench: `pgb_pace PROGRAM FOLDER FILES SIZE` has two workers of the program
-//! read so many files `0`, `1`, .. of the folder, of so many bytes each, which are counted here. Then one pass of SHA-1 is made
-//! over as many bytes in memory. It writes how many they are, and the microseconds of both. `pgb_pace FROM TO SIZE` copies a file
-//! of so many bytes, whole MiB, and sums them on the way, by one process: what a backup or a restore of it costs at least.
+//! Tells how fast files are read by workers, for the bench: `pgb_pace PROGRAM FOLDER FILES SIZE` has two workers of the
+//! program read so many files `0`, `1`, .. of the folder, of so many bytes each, which are counted here. Then one pass
+//! of SHA-1 is made over as many bytes in memory. It writes how many they are, and the microseconds of both. `pgb_pace
+//! FROM TO SIZE` copies a file of so many bytes, whole MiB, and sums them on the way, by one process: what a backup or
+//! a restore of it costs at least.
 #![tactic(auto)]
 
 mod asking;

@@ -39,8 +39,8 @@ fn roots(alloc: Global) -> Result<Roots, Fail>
     }
 }
 
-// A child of the shell. It waits for its setup and the first byte of its job, and then for the other child to have come as far:
-// only then it replies.
+// A child of the shell. It waits for its setup and the first byte of its job, and then for the other child to have come
+// as far: only then it replies.
 fn child(rt: HostRuntime, folder: &str, own: &str, other: &str) -> io::Result<RealLink> {
     let alloc = rt.alloc();
     let lines = format!(in alloc;

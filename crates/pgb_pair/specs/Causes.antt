@@ -11,7 +11,8 @@ use Rattle.pgb_info.specs.Reading.{IsTextFault}
 use Rattle.pgb_pair.specs.declared.fault.InfoFault.{InfoFault}
 use Rattle.pgb_pair.specs.declared.fault.InfoFault.TheVariants.{Missing, Damaged, Disk, NoMemory}
 
--- A kind of text says which value a text is of, and which sections break its rules at a key. So many bytes at most are read.
+-- A kind of text says which value a text is of, and which sections break its rules at a key. So many bytes at most are
+-- read.
 module _ {V : Type 0} (IsTextOf : V → Text → Type 0) (IsForm : List Section → Text → Text → Type 0) (limit : ℕ) where
   -- the fault is that of what the member holds
   abbrev pub IsMemberFault : Option Text → MemberFault → Type 0

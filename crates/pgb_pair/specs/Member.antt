@@ -28,8 +28,10 @@ IsOfPair name n = (n ≡ name ++ codes ".pgbackrest.tmp") ⊎ IsMember name n
 
 -- where the member wasn't loose, and all that a crash left had of it what the disk held, it does so still
 abbrev pub KeepsMember : Text → View → View → Type 0
-KeepsMember name old new = is_loose old name ≡ false → IsSome old.now → IsAlikeAt (λ n. n ≡ name) old → IsAlikeAt (λ n. n ≡ name) new
+KeepsMember name old new = is_loose old name ≡ false → IsSome old.now → IsAlikeAt (λ n. n ≡ name) old
+    → IsAlikeAt (λ n. n ≡ name) new
 
 -- where no member was loose, and all that a crash left had of both what the disk held, it does so still
 abbrev pub KeepsMembers : Text → View → View → Type 0
-KeepsMembers name old new = is_loose old name ≡ false → is_loose old (copy_of name) ≡ false → IsSome old.now → IsAlikeAt (IsMember name) old → IsAlikeAt (IsMember name) new
+KeepsMembers name old new = is_loose old name ≡ false → is_loose old (copy_of name) ≡ false → IsSome old.now
+    → IsAlikeAt (IsMember name) old → IsAlikeAt (IsMember name) new

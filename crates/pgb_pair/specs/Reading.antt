@@ -19,7 +19,8 @@ BytesAre limit (Some bytes) (Err TooLong) = limit < length bytes
 BytesAre limit value (Err fault) = ⊥
 
 -- A kind of text, with the value that a program's value stands for.
-module _ {X V : Type 0} (IsTextOf : V → Text → Type 0) (IsForm : List Section → Text → Text → Type 0) (value : X → V) where
+module _ {X V : Type 0} (IsTextOf : V → Text → Type 0) (IsForm : List Section → Text → Text → Type 0)
+    (value : X → V) where
   -- the value of the member, or the fault for which it has none
   abbrev pub MemberGives : ℕ → Content → Text → Result X MemberFault → Type 0
   MemberGives limit f name (Ok x) = MemberIs IsTextOf f name (value x)

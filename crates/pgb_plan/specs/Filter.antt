@@ -1,4 +1,5 @@
--- What a backup takes of a listing, and why a listing is refused (pgBackRest user guide, "Backup"; PostgreSQL manual, "Database File Layout"; some own).
+-- What a backup takes of a listing, and why a listing is refused (pgBackRest user guide, "Backup"; PostgreSQL manual,
+-- "Database File Layout"; some own).
 use Rattle.std.specs.Prelude.{◌≡◌, ◌≢◌, ◌⊎◌, ◌≤◌, ◌<◌, ◌^◌, ◌&&◌, not, ℕ, Bool, true, false, List, [], ◌∷◌, ◌++◌, map, filter, length, codes, sum_by, string_bytes}
 use Rattle.pgb_outside.specs.declared.tree.Node.{Node}
 use Rattle.pgb_outside.specs.declared.tree.Node.TheVariants as nodes
@@ -153,7 +154,8 @@ IsMissing path fs = (¬ HasFile path fs) × ((path ≡ version_path) ⊎ ((path 
 
 -- the limit is passed: that of files, or else that of bytes
 abbrev pub IsPast : ℕ → List Taken → Type 0
-IsPast limit fs = ((limit ≡ most_files) × (most_files < length fs)) ⊎ ((limit ≡ most_bytes) × (length fs ≤ most_files) × (most_bytes < size_of fs))
+IsPast limit fs = ((limit ≡ most_files) × (most_files < length fs))
+    ⊎ ((limit ≡ most_bytes) × (length fs ≤ most_files) × (most_bytes < size_of fs))
 
 -- a file's time is a number of 64 bits
 abbrev pub IsTimed : ListedNode → Type 0

@@ -14,7 +14,14 @@ abbrev pub taken_of : rust_taken.Taken → Taken
 taken_of f = record { path = string_bytes f.path; size = f.size; time = f.time }
 
 abbrev pub layout_of : rust_walk.Walk → Layout
-layout_of w = record { choices = w.choices.items; singles = map job_of w.singles.items; full = map job_of w.full.items; current = items_of w.current.items; bytes = w.bytes; last = map job_of w.last.items }
+layout_of w = record {
+  choices = w.choices.items;
+  singles = map job_of w.singles.items;
+  full = map job_of w.full.items;
+  current = items_of w.current.items;
+  bytes = w.bytes;
+  last = map job_of w.last.items;
+}
 
 abbrev pub seen_of : rust_seen.Seen → Text × Node
 seen_of s = (string_bytes s.path, s.node)

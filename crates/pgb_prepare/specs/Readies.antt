@@ -33,7 +33,8 @@ IsArchiveOf stanza repo v = IfSome repo (λ f. HasValue stanza f (archive_info_o
 
 -- the backup pair has this value
 abbrev pub IsBackupOf : Text → Option Content → BackupInfo → Type 0
-IsBackupOf stanza repo v = IfSome repo (λ f. PairIs IsBackupText f (backup_info stanza) (backup_info_of v)) × IsBackupInfo (backup_info_of v)
+IsBackupOf stanza repo v = IfSome repo (λ f. PairIs IsBackupText f (backup_info stanza) (backup_info_of v))
+    × IsBackupInfo (backup_info_of v)
 
 -- the list's text isn't longer than it may be
 abbrev pub FitsLimit : BackupInfo → Type 0
@@ -44,7 +45,8 @@ abbrev pub IfAsked : {T : Type 0} → Bool → (T → Type 0) → Option T → T
 IfAsked asked P found = IsTrue asked → IsSomeAnd found P
 
 -- What the plan asks for was read: the data folder's cluster, and the values that the pairs have now.
-pub record IsReady (plan : Plan) (stanza : Text) (repo : Option Content) (nodes : Option Nodes) (ready : Ready) : Type 0 where
+pub record IsReady (plan : Plan) (stanza : Text) (repo : Option Content) (nodes : Option Nodes) (ready : Ready) : Type
+    0 where
   pub control : IfAsked plan.control (IsTold nodes) ready.control
   pub archive : IfAsked (has_archive plan.pairs) (IsArchiveOf stanza repo) ready.archive
   pub backup : IfAsked (has_backup plan.pairs) (IsBackupOf stanza repo) ready.backup

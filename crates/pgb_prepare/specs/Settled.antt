@@ -12,5 +12,6 @@ use Rattle.pgb_stage.specs.declared.plan.Settling.TheVariants.{Whole, Looked}
 
 -- all of the stanza's folders were settled, or that of the archive pair
 abbrev pub SettlesFor : Settling → Text → View → View → Type 0
-SettlesFor Whole stanza old new = (q : Repository) (log : List Done) → KeepsRepository stanza q log old → IsSome old.now → IsBegun stanza q log new
+SettlesFor Whole stanza old new = (q : Repository) (log : List Done) → KeepsRepository stanza q log old → IsSome old.now
+    → IsBegun stanza q log new
 SettlesFor Looked stanza old new = Settles (LiesDirectlyIn (archive_folder stanza)) old new

@@ -34,14 +34,17 @@ use Rattle.pgb_stage.specs.Seen.{Seen}
 abbrev pub IsArchiveFault : Text → InfoFault → Halt StageFault → Type 0
 IsArchiveFault stanza Missing (Refused (StanzaMissing word)) = string_bytes word ≡ stanza
 IsArchiveFault stanza Missing NoMemory = Unit {0}
-IsArchiveFault stanza (Damaged of_main of_copy) (Refused (InfoDamaged name main copy)) = (string_bytes name ≡ archive_info stanza) × (main ≡ of_main) × (copy ≡ of_copy)
+IsArchiveFault stanza (Damaged of_main of_copy) (Refused (InfoDamaged name main copy)) =
+    (string_bytes name ≡ archive_info stanza) × (main ≡ of_main) × (copy ≡ of_copy)
 IsArchiveFault stanza InfoDisk (Failed object) = object ≡ Repo
 IsArchiveFault stanza InfoNoMemory NoMemory = Unit {0}
 IsArchiveFault stanza fault other = ⊥
 
 -- why a call on the archive pair gives no value
 abbrev pub ArchivePairCause : Text → DiskState → DiskState → InfoFault → Type 0
-ArchivePairCause stanza old new fault = PairCause IsArchiveText IsArchiveForm info_limit (archive_info stanza) old.view.now (Rises old.faults new.faults) fault
+ArchivePairCause stanza old new fault =
+    PairCause IsArchiveText IsArchiveForm info_limit (archive_info stanza) old.view.now (Rises old.faults new.faults)
+    fault
 
 -- the archive pair is read, and has no value
 abbrev pub NoArchive : Pairs → Text → Option Content → StageFault → Type 0
@@ -74,16 +77,19 @@ PairsCause plan stanza repo fault = NoArchive plan.pairs stanza repo fault
 
 -- what is found behind the locks: the control file, and then the pairs
 abbrev pub FoundCause : Plan → Text → Option Content → Option Nodes → StageFault → Type 0
-FoundCause plan stanza repo nodes fault = (IsTrue plan.control × ClusterCause nodes fault) ⊎ (TellsCluster plan nodes × PairsCause plan stanza repo fault)
+FoundCause plan stanza repo nodes fault = (IsTrue plan.control × ClusterCause nodes fault)
+    ⊎ (TellsCluster plan nodes × PairsCause plan stanza repo fault)
 
 -- this was found, or the repository or the data folder failed
 abbrev pub StopCause : Plan → Text → DiskState → DiskState → TreeState → TreeState → Halt StageFault → Type 0
-StopCause plan stanza repo new_repo tree new_tree halt = HaltCause (FoundCause plan stanza repo.view.now tree.nodes) (rose_in (record none {
-  repo = Rises repo.faults new_repo.faults;
-  tree = Rises tree.faults new_tree.faults;
-})) halt
+StopCause plan stanza repo new_repo tree new_tree halt =
+    HaltCause (FoundCause plan stanza repo.view.now tree.nodes) (rose_in (record none {
+      repo = Rises repo.faults new_repo.faults;
+      tree = Rises tree.faults new_tree.faults;
+    })) halt
 
 -- a lock was held, or this was found
 abbrev pub StageCause : Plan → Text → Seen → Seen → StageFault → Type 0
-StageCause plan stanza before after fault = HeldCause plan stanza (Rises before.locks.refusals after.locks.refusals) fault
+StageCause plan stanza before after fault =
+    HeldCause plan stanza (Rises before.locks.refusals after.locks.refusals) fault
     ⊎ FoundCause plan stanza before.repo.view.now before.tree.nodes fault

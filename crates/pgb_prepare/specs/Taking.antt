@@ -42,7 +42,8 @@ HeldCause plan stanza held other = ⊥
 
 -- a call on the locks was refused for one that was held, or the locks failed
 abbrev pub LocksCause : (Type 0 → StageFault → Type 0) → ℕ → ℕ → ℕ → ℕ → Halt StageFault → Type 0
-LocksCause why refusals new_refusals faults new_faults halt = HaltCause (why (Rises refusals new_refusals)) (Only Locks (Rises faults new_faults)) halt
+LocksCause why refusals new_refusals faults new_faults halt =
+    HaltCause (why (Rises refusals new_refusals)) (Only Locks (Rises faults new_faults)) halt
 
 -- the name of a lock, where there is one
 abbrev pub name_of : Option (String Global) → Option Text
@@ -50,7 +51,8 @@ name_of name = option_map string_bytes name
 
 -- the names of the plan's locks
 abbrev pub AreNames : LockNames → Plan → Text → Type 0
-AreNames names plan stanza = (name_of names.first ≡ first_lock plan stanza) × (name_of names.second ≡ second_lock plan stanza)
+AreNames names plan stanza = (name_of names.first ≡ first_lock plan stanza)
+    × (name_of names.second ≡ second_lock plan stanza)
 
 -- the plan's first lock was taken, or none was
 abbrev pub MayTake : Plan → Text → Text → Option (List (Text × Text)) → Option (List (Text × Text)) → Type 0

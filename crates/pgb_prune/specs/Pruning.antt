@@ -37,7 +37,8 @@ counts_days Unset = false
 counts_days (Count n) = false
 counts_days (Days n) = true
 
--- By which moment the rules may be read: where they count days, by none before the least second that the clock may tell; else it is 0.
+-- By which moment the rules may be read: where they count days, by none before the least second that the clock may
+-- tell; else it is 0.
 abbrev pub IsMoment : FullRule → ℕ → ℕ → Type 0
 IsMoment Unset least moment = moment ≡ 0
 IsMoment (Count n) least moment = moment ≡ 0
@@ -51,36 +52,45 @@ TellsMoment (Days n) old new moment = TellsSecond moment old new
 
 -- an expiry by these rules; least is the least second that the clock may tell
 abbrev pub IsExpiryBy : Rules → ℕ → Command → Type 0
-IsExpiryBy rules least command = (moment : ℕ) × IsMoment rules.full least moment × (command ≡ Expire (retention rules moment))
+IsExpiryBy rules least command = (moment : ℕ) × IsMoment rules.full least moment
+    × (command ≡ Expire (retention rules moment))
 
 -- ---- what it does
 
 -- Ok of an expiry at a moment, with its lines: these labels and so many files of the archive went.
-pub record IsPruned (stanza : Text) (rules : Rules) (moment : ℕ) (old new : Option Content) (lines : Text) : Type 0 where
+pub record IsPruned (stanza : Text) (rules : Rules) (moment : ℕ) (old new : Option Content) (lines : Text) : Type
+    0 where
   pub labels : List Label
   pub removed : ℕ
   pub lines_are : lines ≡ lines_of labels removed
   pub counts : CountsGone stanza removed old new
   -- they are those that the rules let go, and the stanza is left without these
-  pub condemned : (s : Stanza) → IsSome old → NowStands stanza (Some s) old → labels ≡ condemned_labels rules moment (listed s)
-  pub left : (s : Stanza) → IsSoundStanza s → IsSome old → NowStands stanza (Some s) old → NowStands stanza (expired_of (retention rules moment) s) new
+  pub condemned : (s : Stanza) → IsSome old → NowStands stanza (Some s) old
+      → labels ≡ condemned_labels rules moment (listed s)
+  pub left : (s : Stanza) → IsSoundStanza s → IsSome old → NowStands stanza (Some s) old
+      → NowStands stanza (expired_of (retention rules moment) s) new
   -- both members of the backup pair are alike
   pub alike : IsSome old → IfSome new (AgreeAt (backup_info stanza))
 
 -- What expire does, at some moment; where it ended well, at the one that the clock told.
-pub record Prunes (stanza : Text) (rules : Rules) (clock new_clock : ClockState) (repo new_repo : View) (result : Result Outcome (Halt PruneFault)) : Type 0 where
+pub record Prunes (stanza : Text) (rules : Rules) (clock new_clock : ClockState) (repo new_repo : View)
+    (result : Result Outcome (Halt PruneFault)) : Type 0 where
   pub moment : ℕ
   pub may_be : IsMoment rules.full clock.least moment
   pub told : OnOk result (TellsMoment rules.full clock new_clock moment)
   pub does : Does Whole stanza (Expire (retention rules moment)) (reached_by prune_early result) repo new_repo
   pub pruned : IfOk result (λ outcome. OnFinished outcome (IsPruned stanza rules moment repo.now new_repo.now))
   -- at each moment each backup that stays and each file that it needs have the bytes that they had
-  pub keeps : (s : Stanza) → IsSoundStanza s → IsSome repo.now → IsSteady stanza (Some s) repo → LeavesOnly (HasNeeded stanza (retention rules moment) s) repo new_repo
-  -- nothing changes but the backup pair, folders of labels that aren't listed in the end, and files that aren't needed then
-  pub touches : (s : Stanza) → IsSome repo.now → NowStands stanza (Some s) repo.now → ChangesOnly (IsTouched stanza rules moment s) repo new_repo
+  pub keeps : (s : Stanza) → IsSoundStanza s → IsSome repo.now → IsSteady stanza (Some s) repo
+      → LeavesOnly (HasNeeded stanza (retention rules moment) s) repo new_repo
+  -- nothing changes but the backup pair, folders of labels that aren't listed in the end, and files that aren't needed
+  -- then
+  pub touches : (s : Stanza) → IsSome repo.now → NowStands stanza (Some s) repo.now
+      → ChangesOnly (IsTouched stanza rules moment s) repo new_repo
 
 -- ---- why it is refused
 
 -- the values tell histories that differ
 abbrev pub Differs : ArchiveInfo → BackupInfo → PruneFault → Type 0
-Differs archive backup (HistoryDiffers at) = DifferFirst at archive.history (identities backup) × ¬ HasPending archive backup
+Differs archive backup (HistoryDiffers at) = DifferFirst at archive.history (identities backup)
+    × ¬ HasPending archive backup

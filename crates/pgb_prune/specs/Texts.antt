@@ -18,7 +18,8 @@ label_line label = codes "INFO: expire backup " ++ (label_text label ++ codes "\
 
 -- the line that tells how many archive files went; there is none where none did
 abbrev pub removed_line : ℕ → Text
-removed_line removed = if nat_eq removed 0 then codes "" else codes "INFO: removed " ++ (decimal removed ++ codes " archive files\n")
+removed_line removed = if nat_eq removed 0 then codes "" else codes "INFO: removed "
+    ++ (decimal removed ++ codes " archive files\n")
 
 -- a line for each label, and then that of the files
 abbrev pub lines_of : List Label → ℕ → Text
@@ -43,7 +44,8 @@ behind_status behind.NoMemory = 90
 
 abbrev pub behind_message : BehindFault → Text
 behind_message behind.PairLost = codes "expiry after the backup: an info pair can't be read"
-behind_message (behind.HistoryDiffers at) = codes "expiry after the backup: archive history and backup history differ at " ++ decimal at
+behind_message (behind.HistoryDiffers at) =
+    codes "expiry after the backup: archive history and backup history differ at " ++ decimal at
 behind_message behind.Repo = codes "repository failed"
 behind_message behind.Clock = codes "clock failed"
 behind_message behind.NoMemory = codes "out of memory"

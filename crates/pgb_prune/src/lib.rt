@@ -16,10 +16,10 @@
 //!   but the backup pair, folders of labels, and files of the archive that aren't timeline histories.
 //! - Each refusal has its cause in what stood before, and each object that failed counted it.
 //! - `rules_of`: the rules are those of the options.
-//! - `prune_behind`, behind a backup and under its lock, does the same, and tells what went behind the backup's lines. It
-//!   reads both pairs anew. Each of its faults has its cause in what the backup left.
-//! - Lemmas (`proofs/Followed`): a backup that came to its end and such an expiry behind it are one command of the log, of
-//!   which a part is done at each moment. A sound repository has to be sound with the backup for that.
+//! - `prune_behind`, behind a backup and under its lock, does the same, and tells what went behind the backup's lines.
+//!   It reads both pairs anew. Each of its faults has its cause in what the backup left.
+//! - Lemmas (`proofs/Followed`): a backup that came to its end and such an expiry behind it are one command of the log,
+//!   of which a part is done at each moment. A sound repository has to be sound with the backup for that.
 #![tactic(auto)]
 
 mod behind;

@@ -1,4 +1,5 @@
--- Which file of the data folder's log a word names (PostgreSQL manual, "Continuous Archiving and Point-in-Time Recovery": `%p`).
+-- Which file of the data folder's log a word names (PostgreSQL manual, "Continuous Archiving and Point-in-Time
+-- Recovery": `%p`).
 use Rattle.std.specs.Prelude.{◌≡◌, ◌⊎◌, ◌++◌, ◌∷◌, ◌≢◌, codes, Some}
 use Rattle.std.specs.List.{AllByRecursion}
 use Rattle.pgb_outside.specs.Tree.{Nodes, file_bytes}

@@ -24,7 +24,8 @@ use Rattle.pgb_record.specs.Making.{labels_of}
 
 -- what is known of the numbers and sums that came, and of the prior backup's files
 pub record HasBounds (w : Went) (l : Layout) (old_folders : List Text) : Type 0 where
-  pub came : (job item : ℕ) (end : Ended) (n : ℕ) (sum : Sum) → end_at w.ends job item ≡ Some end → end.how ≡ Whole n sum → (n < 2 ^ 64) × IsSum sum.0 × (n ≡ 0 → sum.0 ≡ sha1 [])
+  pub came : (job item : ℕ) (end : Ended) (n : ℕ) (sum : Sum) → end_at w.ends job item ≡ Some end
+      → end.how ≡ Whole n sum → (n < 2 ^ 64) × IsSum sum.0 × (n ≡ 0 → sum.0 ≡ sha1 [])
   pub before : (job item : ℕ) → bytes_before w.ends job item < 2 ^ 64
   pub few : length (bundles l) < 2 ^ 32 - 1
   pub prior : IsLabel w.prior
@@ -36,9 +37,11 @@ pub record KeepsBounds (w : Went) (fs : List Taken) (cs : List Choice) : Type 0 
   pub have : HaveItems w.old layout fs cs
   pub old_folders : List Text
   pub bounds : HasBounds w layout old_folders
-  pub within : (f : Taken) (c : Choice) (e : FileEntry) → HasItem w.old layout f c → entry_for w f c ≡ Some e → e.size ≤ f.size
+  pub within : (f : Taken) (c : Choice) (e : FileEntry) → HasItem w.old layout f c → entry_for w f c ≡ Some e
+      → e.size ≤ f.size
 
--- What the manifest tells beside its files and folders is within the rules, and its backup may be listed behind those of the list.
+-- What the manifest tells beside its files and folders is within the rules, and its backup may be listed behind those
+-- of the list.
 pub record MayFollow (h : Head) (before : BackupInfo) : Type 0 where
   pub label : IsLabel h.label
   pub later : (l : Label) → In l (labels_of before.backups) → is_before (label_text l) (label_text h.label) ≡ true

@@ -16,9 +16,11 @@ pub record HasControl (files : List FileEntry) : Type 0 where
   pub version : HasEntry version_path files
   pub control : HasEntry control_path files
 
--- the path is that of a file that a backup can't do without, and none of these files has it: the version's, or else the control file's
+-- the path is that of a file that a backup can't do without, and none of these files has it: the version's, or else the
+-- control file's
 abbrev pub IsMissing : Text → List FileEntry → Type 0
-IsMissing path files = (entry_at path files ≡ None) × ((path ≡ version_path) ⊎ ((path ≡ control_path) × HasEntry version_path files))
+IsMissing path files = (entry_at path files ≡ None)
+    × ((path ≡ version_path) ⊎ ((path ≡ control_path) × HasEntry version_path files))
 
 abbrev pub RecordFails : List FileEntry → RecordFault → Type 0
 RecordFails files (faults.ControlMissing path) = IsMissing path.now files

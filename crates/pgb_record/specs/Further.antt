@@ -60,7 +60,13 @@ with_name None names = names
 with_name (Some x) names = names ++ x.name ∷ []
 
 abbrev pub kept_of : Further → Kept
-kept_of x = record { done = record { held = record { count = length x.bytes; told = Some x.bytes }; end = Whole x.entry.size (sum_in x) } ∷ []; held = record { count = 0; told = Some [] } }
+kept_of x = record {
+  done = record {
+    held = record { count = length x.bytes; told = Some x.bytes };
+    end = Whole x.entry.size (sum_in x);
+  } ∷ [];
+  held = record { count = 0; told = Some [] };
+}
 
 abbrev pub with_kept : Option Further → List Kept → List Kept
 with_kept None kept = kept

@@ -13,7 +13,18 @@ use Rattle.pgb_record.specs.Record.{own_size}
 
 -- the manifest of these files and folders
 abbrev pub manifest_with : Head → List FileEntry → List Text → Manifest
-manifest_with h files folders = record { label = h.label; kind = label_kind h.label; prior = h.prior; start = h.start; stop = h.stop; cluster = h.cluster; wal = h.wal; choices = h.choices; files = files; folders = folders }
+manifest_with h files folders = record {
+  label = h.label;
+  kind = label_kind h.label;
+  prior = h.prior;
+  start = h.start;
+  stop = h.stop;
+  cluster = h.cluster;
+  wal = h.wal;
+  choices = h.choices;
+  files = files;
+  folders = folders;
+}
 
 -- how many bytes all files have, and how many of them lie in the backup's own folder
 abbrev pub size_of : List FileEntry → ℕ
@@ -24,11 +35,28 @@ stored_of files = sum_by own_size files
 
 -- the manifest's backup, as the list has it
 abbrev pub entry_with : Manifest → List Label → Entry
-entry_with m references = record { label = m.label; kind = m.kind; prior = m.prior; references = references; db = m.cluster.id; span = option_map (λ (w : WalPart). w.span) m.wal; start = m.start; stop = m.stop; size = size_of m.files; stored = stored_of m.files }
+entry_with m references = record {
+  label = m.label;
+  kind = m.kind;
+  prior = m.prior;
+  references = references;
+  db = m.cluster.id;
+  span = option_map (λ (w : WalPart). w.span) m.wal;
+  start = m.start;
+  stop = m.stop;
+  size = size_of m.files;
+  stored = stored_of m.files;
+}
 
 -- the manifest's backup, which refers to these labels and holds these files
 abbrev pub backup_with : Manifest → List Label → Map File → Backup
-backup_with m references files = record { entry = entry_with m references; wal = m.wal; choices = m.choices; folders = m.folders; files = files }
+backup_with m references files = record {
+  entry = entry_with m references;
+  wal = m.wal;
+  choices = m.choices;
+  folders = m.folders;
+  files = files;
+}
 
 -- the labels of a list
 abbrev pub labels_of : List Entry → List Label

@@ -24,7 +24,8 @@ bundles_in folder n [] = []
 bundles_in folder n (j ∷ js) = (folder ⫽ codes "bundle" ⫽ decimal n) ∷ bundles_in folder (n + 1) js
 
 abbrev pub names_in : Text → Layout → List Name
-names_in folder l = map (single_in folder) l.singles ++ (bundles_in folder 1 (bundles l) ++ map (single_in folder) l.last)
+names_in folder l = map (single_in folder) l.singles
+    ++ (bundles_in folder 1 (bundles l) ++ map (single_in folder) l.last)
 
 abbrev pub single_name : Text → Label → Job → Name
 single_name stanza label = single_in (label_folder stanza label)
@@ -43,6 +44,9 @@ pub record IsPlanned (p : Plan) (l : Layout) : Type 0 where
 
 -- each job's name is that of its file, or of its bundle
 pub record IsNaming (stanza : Text) (label : Label) (names : List Name) (w : Went) (l : Layout) : Type 0 where
-  pub single : (j : ℕ) (x : Item) → slice_get l.singles j ≡ Some (read_job (x ∷ [])) → slice_get names j ≡ Some (file_name stanza label x.path)
-  pub bundle : (j : ℕ) (job : Job) → slice_get (bundles l) j ≡ Some job → slice_get names (w.singles + j) ≡ Some (bundle_name stanza label (j + 1))
-  pub last : (x : Item) → In (read_job (x ∷ [])) l.last → slice_get names (last_job_number w) ≡ Some (file_name stanza label x.path)
+  pub single : (j : ℕ) (x : Item) → slice_get l.singles j ≡ Some (read_job (x ∷ []))
+      → slice_get names j ≡ Some (file_name stanza label x.path)
+  pub bundle : (j : ℕ) (job : Job) → slice_get (bundles l) j ≡ Some job
+      → slice_get names (w.singles + j) ≡ Some (bundle_name stanza label (j + 1))
+  pub last : (x : Item) → In (read_job (x ∷ [])) l.last
+      → slice_get names (last_job_number w) ≡ Some (file_name stanza label x.path)

@@ -7,8 +7,8 @@ ghost use Rattle.pgb_record.specs.Sums.{sums};
 use pgb_label::Ended;
 use pgb_model::{FileEntry, Label};
 
-/// How a backup went: the label and the files of the prior one, how many jobs are of single files, how each item of each job
-/// ended, and how many bytes lie before it.
+/// How a backup went: the label and the files of the prior one, how many jobs are of single files, how each item of
+/// each job ended, and how many bytes lie before it.
 #[derive(Drop)]
 pub struct Ran<'a> {
     pub(crate) prior: Label,

@@ -1,4 +1,5 @@
--- How a restored server fetches the log (pgBackRest command reference, "Restore Command", option "type"; PostgreSQL manual, "restore_command").
+-- How a restored server fetches the log (pgBackRest command reference, "Restore Command", option "type"; PostgreSQL
+-- manual, "restore_command").
 use Rattle.std.specs.Prelude.{ℕ, Bool, ◌==◌, [], ◌∷◌, ◌++◌, codes, Option, Some, None, option_map, if◌then◌else◌}
 use Rattle.pgb_model.specs.Restored.{Recovery}
 use Rattle.pgb_model.specs.Restored.Recovery.{ToTheEnd, Nothing}
@@ -31,7 +32,8 @@ config_word (Some path) = codes " --config=" ++ doubled path
 
 -- the command by which the server fetches a log file
 abbrev pub fetch_text : Text → Option Text → Text
-fetch_text stanza config = codes "pgbackrest" ++ config_word config ++ codes " --stanza=" ++ stanza ++ codes " archive-get %f \"%p\""
+fetch_text stanza config = codes "pgbackrest" ++ config_word config ++ codes " --stanza=" ++ stanza
+    ++ codes " archive-get %f \"%p\""
 
 abbrev pub recovery_by : Text → RecoveryType → Recovery
 recovery_by stanza (Default config) = ToTheEnd (fetch_text stanza config)

@@ -46,5 +46,6 @@ StartCause used other = ⊥
 abbrev pub FillCause : Text → Manifest → List LinkState → RecoverFault → Type 0
 FillCause stanza m used (WorkersLost lost) = AreLost used lost
 FillCause stanza m used (Unread path) = CannotRead stanza m used (string_bytes path)
-FillCause stanza m used (FileDamaged path told found) = IsDamaged stanza m.label used m.files (string_bytes path) told found
+FillCause stanza m used (FileDamaged path told found) =
+    IsDamaged stanza m.label used m.files (string_bytes path) told found
 FillCause stanza m used other = ⊥

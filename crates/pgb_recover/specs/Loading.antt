@@ -31,7 +31,8 @@ abbrev pub IsOtherLabel : MemberFault → Type 0
 IsOtherLabel (Form section key) = (string_bytes section ≡ codes "backup") × (string_bytes key ≡ codes "backup-label")
 IsOtherLabel other = ⊥
 
--- its members have these faults: where neither is there, both are absent; a manifest of another label has it as a foreign value
+-- its members have these faults: where neither is there, both are absent; a manifest of another label has it as a
+-- foreign value
 abbrev pub LacksManifest : Text → Label → MemberFault → MemberFault → Content → Type 0
 LacksManifest stanza label main copy f =
     AreDamaged IsManifestText IsManifestForm manifest_limit f (manifest_name stanza label) main copy
@@ -52,7 +53,8 @@ TellsDamage label main copy other = ⊥
 
 -- the refusal tells this label, and that both members tell another
 abbrev pub TellsForeign : Label → RecoverFault → Type 0
-TellsForeign label (ManifestDamaged text main copy) = (string_bytes text ≡ label_text label) × IsOtherLabel main × IsOtherLabel copy
+TellsForeign label (ManifestDamaged text main copy) = (string_bytes text ≡ label_text label) × IsOtherLabel main
+    × IsOtherLabel copy
 TellsForeign label other = ⊥
 
 -- the refusal of a manifest's label by what is found of its pair

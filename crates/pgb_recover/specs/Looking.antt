@@ -29,7 +29,8 @@ IsOpen delta f = IsEmpty f ⊎ ((delta ≡ true) × IsSome (f version_path))
 -- why nothing is put into the folder
 abbrev pub FolderCause : Bool → Option Nodes → RecoverFault → Type 0
 FolderCause delta nodes Running = IfSome nodes (λ f. IsSome (f server_path))
-FolderCause delta nodes (NotEmpty path) = IfSome nodes (λ f. (f server_path ≡ None) × IsFirst f (string_bytes path) × (delta ≡ true → f version_path ≡ None))
+FolderCause delta nodes (NotEmpty path) =
+    IfSome nodes (λ f. (f server_path ≡ None) × IsFirst f (string_bytes path) × (delta ≡ true → f version_path ≡ None))
 FolderCause delta nodes other = ⊥
 
 -- ---- the same, by what a listing shows
@@ -43,7 +44,8 @@ IsSeenOpen delta seen = (seen ≡ []) ⊎ ((delta ≡ true) × IsListed seen ver
 
 abbrev pub HoldingCause : Bool → List (Text × Node) → RecoverFault → Type 0
 HoldingCause delta seen (NotEmpty path) =
-    ((node : Node) × (rest : List (Text × Node)) × (seen ≡ (string_bytes path, node) ∷ rest)) × (delta ≡ true → ¬ IsListed seen version_path)
+    ((node : Node) × (rest : List (Text × Node)) × (seen ≡ (string_bytes path, node) ∷ rest))
+    × (delta ≡ true → ¬ IsListed seen version_path)
 HoldingCause delta seen other = ⊥
 
 abbrev pub SeenCause : Bool → List (Text × Node) → RecoverFault → Type 0

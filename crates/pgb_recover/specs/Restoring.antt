@@ -16,8 +16,8 @@ use Rattle.pgb_recover.specs.Loading.{HasManifest}
 use Rattle.pgb_recover.specs.Looking.{IsOpen}
 use Rattle.pgb_recover.specs.Texts.{restored_line}
 
--- what stands before: the repository and the data folder, the label that is asked for, the links that are used, and how the backup is to be
--- restored
+-- what stands before: the repository and the data folder, the label that is asked for, the links that are used, and how
+-- the backup is to be restored
 pub record Before : Type 0 where
   pub stanza : Text
   pub set : Option Label
@@ -30,8 +30,8 @@ pub record Before : Type 0 where
 abbrev pub Chooses : Before → Label → Type 0
 Chooses b label = IfSome b.repo (λ f. OnList b.stanza f (λ v. IsChosen b.set v label))
 
--- The folder could be restored into, and has now all that a manifest of the chosen label tells, as the used links read it or
--- as delta kept it, with the settings of the recovery, and nothing else. The one line tells the label.
+-- The folder could be restored into, and has now all that a manifest of the chosen label tells, as the used links read
+-- it or as delta kept it, with the settings of the recovery, and nothing else. The one line tells the label.
 pub record Recovers (b : Before) (now_nodes : Option Nodes) (lines : Text) : Type 0 where
   pub label : Label
   pub line : lines ≡ restored_line label
@@ -41,10 +41,11 @@ pub record Recovers (b : Before) (now_nodes : Option Nodes) (lines : Text) : Typ
   pub has : IfSome b.repo (HasManifest b.stanza label manifest)
   pub finished : IfSome now_nodes (IsFinished b.stanza b.used b.options manifest b.nodes)
 
--- The folder has now the restored tree of one of the stanza's backups, the one that was asked for or the last, where all used
--- links read the repository f, and with delta the folder's files too. The one line tells its label.
+-- The folder has now the restored tree of one of the stanza's backups, the one that was asked for or the last, where
+-- all used links read the repository f, and with delta the folder's files too. The one line tells its label.
 pub record GivesBackup (s : Stanza) (b : Before) (f : Content) (now_nodes : Option Nodes) (lines : Text) : Type 0 where
   pub backup : Backup
   pub is : IsChosenOf b.set s.backups backup
   pub line : lines ≡ restored_line backup.entry.label
-  pub restored : (tree : Content) → AllRead tree f b.used → AreTold b.options backup b.nodes tree → IfSome now_nodes (IsRestored backup b.options.recovery)
+  pub restored : (tree : Content) → AllRead tree f b.used → AreTold b.options backup b.nodes tree
+      → IfSome now_nodes (IsRestored backup b.options.recovery)

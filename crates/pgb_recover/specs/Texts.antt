@@ -34,7 +34,8 @@ recover_message NoBackup = codes "no backup exists"
 recover_message (SetMissing label) = codes "backup set '" ++ (string_bytes label ++ codes "' does not exist")
 recover_message Running = codes "postmaster.pid is there"
 recover_message (NotEmpty path) = codes "folder is not empty: '" ++ (shown (string_bytes path) ++ codes "'")
-recover_message (ManifestDamaged label main copy) = codes "manifest of '" ++ (shown (string_bytes label) ++ damage_text main copy)
+recover_message (ManifestDamaged label main copy) =
+    codes "manifest of '" ++ (shown (string_bytes label) ++ damage_text main copy)
 recover_message (WorkersLost lost) = decimal lost ++ codes " workers lost"
 recover_message (Unread path) = codes "'" ++ (shown (string_bytes path) ++ codes "' could not be read")
 recover_message (FileDamaged path told found) = codes "'" ++ (shown (string_bytes path) ++ sums_end told found)

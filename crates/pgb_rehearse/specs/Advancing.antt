@@ -12,16 +12,19 @@ use Rattle.pgb_stage.specs.Runs.{DoesPart, DoesWhole}
 
 -- whatever sound repository the disk stands for, it is sound after all of the command's steps
 abbrev pub StaysSound : Text → Command → Option Content → Type 0
-StaysSound stanza command now = (r : Repository) → IsSome now → NowStands stanza r now → IsSound r → IsSound (after r (all_of (steps_of command r)))
+StaysSound stanza command now = (r : Repository) → IsSome now → NowStands stanza r now → IsSound r
+    → IsSound (after r (all_of (steps_of command r)))
 
 -- A part of the command's steps, at each moment; at Ok all of them, and a sound repository stays sound.
-pub record Advances {T E : Type 0} (stanza : Text) (command : Command) (result : Result T E) (old new : View) : Type 0 where
+pub record Advances {T E : Type 0} (stanza : Text) (command : Command) (result : Result T E) (old new : View) : Type
+    0 where
   pub part : DoesPart Whole stanza command old new
   pub whole : OnOk result (DoesWhole Whole stanza command old new)
   pub sound : OnOk result (StaysSound stanza command old.now)
 
 -- A part of the command's steps, at each moment; at Ok all of them.
-pub record Carries {T E : Type 0} (stanza : Text) (command : Command) (result : Result T E) (old new : View) : Type 0 where
+pub record Carries {T E : Type 0} (stanza : Text) (command : Command) (result : Result T E) (old new : View) : Type
+    0 where
   pub part : DoesPart Whole stanza command old new
   pub whole : OnOk result (DoesWhole Whole stanza command old new)
 

@@ -27,17 +27,21 @@ pub record IsTakenBy (stanza : Text) (kind : Kind) (before now : Option Content)
   pub taken : IsTaken stanza sample order nodes used before now lines
 
 -- it was made behind these commands, and so many of its files are counted
-pub record IsStep (stanza : Text) (front : Command) (kind : Kind) (counted : Counted) (old now : Option Content) (amount : Amount) : Type 0 where
+pub record IsStep (stanza : Text) (front : Command) (kind : Kind) (counted : Counted) (old now : Option Content)
+    (amount : Amount) : Type 0 where
   pub taken : Had stanza front old (λ before. IsTakenBy stanza kind before now)
   pub told : TellsLast stanza counted now amount
 
 -- a full backup behind the segments, and an incremental one behind it
-pub record AreTwo (stanza : Text) (number : ℕ) (b : Backup) (old now : Option Content) (first second : Amount) : Type 0 where
+pub record AreTwo (stanza : Text) (number : ℕ) (b : Backup) (old now : Option Content) (first second : Amount) : Type
+    0 where
   pub full : Had stanza (with_first number b) old (λ mid. IsStep stanza (prepared number) Full Own old mid first)
   pub further : IsStep stanza (with_first number b) Incr Filled old now second
 
 -- and again a full one
-pub record AreThree (stanza : Text) (number : ℕ) (b c : Backup) (old now : Option Content) (first second third : Amount) : Type 0 where
+pub record AreThree (stanza : Text) (number : ℕ) (b c : Backup) (old now : Option Content)
+    (first second third : Amount) : Type 0 where
   pub full : Had stanza (with_first number b) old (λ mid. IsStep stanza (prepared number) Full Own old mid first)
-  pub further : Had stanza (with_second number b c) old (λ mid. IsStep stanza (with_first number b) Incr Filled old mid second)
+  pub further : Had stanza (with_second number b c) old
+      (λ mid. IsStep stanza (with_first number b) Incr Filled old mid second)
   pub last : IsStep stanza (with_second number b c) Full Own old now third

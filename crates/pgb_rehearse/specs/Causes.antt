@@ -1,4 +1,5 @@
--- Why a rehearsal is refused: its first two causes speak of what stood before, those of a step of what stood as that step began.
+-- Why a rehearsal is refused: its first two causes speak of what stood before, those of a step of what stood as that
+-- step began.
 use Rattle.std.specs.Prelude.{◌≡◌, ◌≤◌, ◌*◌, ◌⊎◌, ℕ, Option, None, IfSome, string_bytes}
 use Rattle.pgb_outside.specs.Cause.{Rises}
 use Rattle.pgb_outside.specs.Content.{Content}
@@ -119,11 +120,13 @@ pub record FrontCause (stanza : Text) (number : ℕ) (old : Option Content) (fau
 
 -- one of the first so many pushes is
 abbrev pub PushesCause : Text → ℕ → Option Content → StepFault → Type 0
-PushesCause stanza count old fault = (k : ℕ) × (k ≤ count) × Had stanza (pushed k) old (λ now. StepCause stanza now fault)
+PushesCause stanza count old fault = (k : ℕ) × (k ≤ count)
+    × Had stanza (pushed k) old (λ now. StepCause stanza now fault)
 
 -- a command is, or what is read behind it
 abbrev pub PartCause : Text → Command → Option Content → StepFault → Type 0
-PartCause stanza command old fault = StepCause stanza old fault ⊎ Had stanza command old (λ now. StepCause stanza now fault)
+PartCause stanza command old fault = StepCause stanza old fault
+    ⊎ Had stanza command old (λ now. StepCause stanza now fault)
 
 -- ---- of the whole
 
@@ -149,4 +152,5 @@ FailsBoth repo new_repo tree new_tree = rose_in (record none { repo = Rises repo
 
 -- the repository, the data folder or the clock, whose counts of faults went so
 abbrev pub Fails : (repo new_repo tree new_tree clock new_clock : ℕ) → Object → Type 0
-Fails repo new_repo tree new_tree clock new_clock = rose_in (record none { repo = Rises repo new_repo; tree = Rises tree new_tree; clock = Rises clock new_clock })
+Fails repo new_repo tree new_tree clock new_clock =
+    rose_in (record none { repo = Rises repo new_repo; tree = Rises tree new_tree; clock = Rises clock new_clock })

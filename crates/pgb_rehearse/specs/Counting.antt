@@ -22,9 +22,13 @@ is_counted Own e = is_none e.reference
 is_counted Filled e = is_none e.reference && nat_lt 0 e.size
 
 abbrev pub amount_of : Counted → List FileEntry → Amount
-amount_of counted files = record { files = length (filter (is_counted counted) files); bytes = size_of (filter (is_counted counted) files) }
+amount_of counted files = record {
+  files = length (filter (is_counted counted) files);
+  bytes = size_of (filter (is_counted counted) files);
+}
 
--- f lists a backup on which a further one would be based, the last of its cluster, and has its manifest, of which this holds
+-- f lists a backup on which a further one would be based, the last of its cluster, and has its manifest, of which this
+-- holds
 pub record HasLast (stanza : Text) (P : Manifest → Type 0) (f : Content) : Type 0 where
   pub list : BackupInfo
   pub read : PairIs IsBackupText f (backup_info stanza) list

@@ -15,15 +15,19 @@ amount_line word a = word ++ (codes " " ++ (decimal a.files ++ (codes " " ++ (de
 
 -- what was made
 abbrev pub made_lines : ℕ → Text
-made_lines number = count_line (codes "files") (file_count number) ++ count_line (codes "segments") (segment_count number)
+made_lines number = count_line (codes "files") (file_count number)
+    ++ count_line (codes "segments") (segment_count number)
 
 -- what each backup stored
 abbrev pub backup_lines : Summary → Text
-backup_lines s = amount_line (codes "full") s.first ++ (amount_line (codes "incr") s.second ++ amount_line (codes "full") s.third)
+backup_lines s = amount_line (codes "full") s.first
+    ++ (amount_line (codes "incr") s.second ++ amount_line (codes "full") s.third)
 
 -- what went, what was kept, what was restored, and what a verification found
 abbrev pub end_lines : Summary → Text
-end_lines s = count_line (codes "expired") s.expired ++ (count_line (codes "kept") s.kept ++ (amount_line (codes "restored") s.restored ++ count_line (codes "findings") s.findings))
+end_lines s = count_line (codes "expired") s.expired
+    ++ (count_line (codes "kept") s.kept
+    ++ (amount_line (codes "restored") s.restored ++ count_line (codes "findings") s.findings))
 
 abbrev pub summary_of : ℕ → Summary → Text
 summary_of number s = made_lines number ++ (backup_lines s ++ end_lines s)

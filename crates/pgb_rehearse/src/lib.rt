@@ -9,13 +9,13 @@
 //! - `rehearse`, while both locks are held: in the log it is one command, which is those that it makes, one behind
 //!   another. A part of it is done after every answer and at each moment, also in all that a crash leaves, all of it at
 //!   Ok, and nothing where it is refused before its first step.
-//! - At Ok the lines are what a verification found, and then the summary. It tells how many files and segments were made.
-//!   Of each backup, which was made behind the steps before it and is of its kind, it tells the files that it stored
-//!   itself and their bytes, as its manifest told them. Then come the backups that the expiry let go, the files that the
-//!   archive has, the files and bytes of the last backup, which is in the data folder, and the findings.
+//! - At Ok the lines are what a verification found, and then the summary. It tells how many files and segments were
+//!   made. Of each backup, which was made behind the steps before it and is of its kind, it tells the files that it
+//!   stored itself and their bytes, as its manifest told them. Then come the backups that the expiry let go, the files
+//!   that the archive has, the files and bytes of the last backup, which is in the data folder, and the findings.
 //! - The findings are those that the repository has: none where it is sound and its members agree.
-//! - Each refusal has its cause: of the first two in what stood before, of a step in what the repository held as the step
-//!   began. `rehearse_status`, `rehearse_message`: for a step those of the command that it makes.
+//! - Each refusal has its cause: of the first two in what stood before, of a step in what the repository held as the
+//!   step began. `rehearse_status`, `rehearse_message`: for a step those of the command that it makes.
 //! - It keeps to its stanza, asks no server, and its calls on the repository are made as they ask. A data folder that
 //!   isn't empty is left as it was.
 //! - The lemmas for that, of any two commands: a part of the first is a part of both, and so are all of the first and a

@@ -151,7 +151,8 @@ pub fn rehearse<D: Disk, T: Tree, V: Wire, C: Clock, K: Locks, L: Link, U: Turns
         (D.state repo.new).view.now (T.state tree.new).nodes) }
     ensures beside { StaysBeside stanza.now (D.state repo.old).view (D.state repo.new).view }
     ensures frame { Frame (D.state repo.old) (D.state repo.new) }
-    // A refusal before its first step leaves the data folder as it was, and so does every answer where that isn't empty.
+    // A refusal before its first step leaves the data folder as it was, and so does every answer where that isn't
+    // empty.
     ensures nodes { IfErr result (IfEarly ((T.state tree.new).nodes ≡ (T.state tree.old).nodes)) }
     ensures left { ((T.state tree.new).nodes ≡ (T.state tree.old).nodes) ⊎ IfSome (T.state tree.old).nodes IsEmpty }
     ensures folder { StaysOpen (T.state tree.old) (T.state tree.new) }

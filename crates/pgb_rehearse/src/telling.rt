@@ -5,8 +5,8 @@ ghost use Rattle.pgb_rehearse.specs.Telling.{count_line, amount_line, made_lines
 use crate::counting::Amount;
 use std::alloc::{AllocError, Global};
 
-/// The files and bytes that each backup stored itself, the labels that the expiry let go, the stored files that it kept,
-/// the files and bytes that were restored, and the findings.
+/// The files and bytes that each backup stored itself, the labels that the expiry let go, the stored files that it
+/// kept, the files and bytes that were restored, and the findings.
 #[derive(Clone, Copy, Debug)]
 pub struct Summary {
     pub first: Amount,

@@ -21,7 +21,8 @@ with_key key value other = other
 abbrev pub archive_data : List ArchivedName → ClusterId → Data
 archive_data archived c =
     let names = segments_under (id_of c) archived in
-    fields ((codes "id", string (id_text (id_of c))) ∷ (codes "max", or_null string (greatest names)) ∷ (codes "min", or_null string (least names)) ∷ [])
+    fields ((codes "id", string (id_text (id_of c))) ∷ (codes "max", or_null string (greatest names))
+    ∷ (codes "min", or_null string (least names)) ∷ [])
 
 -- a backup as `backup.info` lists it, with its label
 abbrev pub backup_data : Entry → Data
@@ -40,7 +41,8 @@ status_message [] = codes "no valid backups"
 status_message (e ∷ es) = codes "ok"
 
 abbrev pub status_data : List Entry → Data
-status_data backups = fields ((codes "code", whole (status_code backups)) ∷ (codes "message", string (status_message backups)) ∷ [])
+status_data backups = fields ((codes "code", whole (status_code backups))
+    ∷ (codes "message", string (status_message backups)) ∷ [])
 
 -- of the clusters in `backup.info` those that the archive has
 abbrev pub stanza_data : Text → ArchiveInfo → BackupInfo → List ArchivedName → Data

@@ -47,7 +47,8 @@ abbrev pub archive_bounds : List ArchivedName → ClusterId → Text
 archive_bounds archived c = let names = segments_under (id_of c) archived in bounds_text (least names) (greatest names)
 
 abbrev pub bounds_line : List ArchivedName → ClusterId → Text
-bounds_line archived c = codes "        wal archive min/max (" ++ (decimal c.version ++ (codes "): " ++ archive_bounds archived c))
+bounds_line archived c = codes "        wal archive min/max ("
+    ++ (decimal c.version ++ (codes "): " ++ archive_bounds archived c))
 
 unfoldable pub cluster_lines : ℕ → List ArchivedName → ClusterId → List Text
 cluster_lines current archived c =
@@ -72,7 +73,8 @@ abbrev pub wal_line : Entry → Text
 wal_line e = codes "            wal start/stop: " ++ wal_text e.span
 
 abbrev pub sizes_line : Entry → Text
-sizes_line e = codes "            database size: " ++ (decimal e.size ++ (codes "B, backup size: " ++ (decimal e.stored ++ codes "B")))
+sizes_line e = codes "            database size: "
+    ++ (decimal e.size ++ (codes "B, backup size: " ++ (decimal e.stored ++ codes "B")))
 
 abbrev pub reference_line : List Label → Text
 reference_line labels = codes "            backup reference list: " ++ join_by label_text (codes ", ") labels

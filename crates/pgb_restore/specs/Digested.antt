@@ -26,7 +26,8 @@ abbrev pub file_of : Candidate → FileEntry
 file_of c = file_entry_of c.file.now
 
 -- the candidate is an ordinary entry at its place, and the listing shows a file of its path and size
-pub record IsCandidate (recovery : Recovery) (es : List FileEntry) (seen : List (Text × Node)) (c : Candidate) : Type 0 where
+pub record IsCandidate (recovery : Recovery) (es : List FileEntry) (seen : List (Text × Node)) (c : Candidate) : Type
+    0 where
   pub at : slice_get es c.place ≡ Some (file_of c)
   pub ordinary : is_ordinary recovery (file_of c) ≡ true
   pub shown : IsShown seen (file_of c)
@@ -61,7 +62,8 @@ AddsCandidate recovery es s old new =
 
 -- each such entry is a candidate
 abbrev pub HasCandidates : Recovery → List FileEntry → List (Text × Node) → List Candidate → Type 0
-HasCandidates recovery es seen cs = (e : FileEntry) → In e es → is_ordinary recovery e ≡ true → IsShown seen e → (k : ℕ) × (c : Candidate) × (slice_get cs k ≡ Some c) × (slice_get es c.place ≡ Some e)
+HasCandidates recovery es seen cs = (e : FileEntry) → In e es → is_ordinary recovery e ≡ true → IsShown seen e
+    → (k : ℕ) × (c : Candidate) × (slice_get cs k ≡ Some c) × (slice_get es c.place ≡ Some e)
 
 -- ---- ends
 
@@ -71,18 +73,22 @@ IsEndOf links e end = (n : ℕ) (sum : Text) → IsWhole end n sum → IsDigeste
 
 -- where all links read these files, and one of them is as the entry tells, it ended so
 abbrev pub IsEndByFile : List LinkState → FileEntry → Option ItemEnd → Type 0
-IsEndByFile links e end = (tree repo : Content) → AllRead tree repo links → (bytes : Text) → tree e.path ≡ Some bytes → AreOf e bytes → IsWhole end e.size e.sum
+IsEndByFile links e end = (tree repo : Content) → AllRead tree repo links → (bytes : Text) → tree e.path ≡ Some bytes
+    → AreOf e bytes → IsWhole end e.size e.sum
 
 -- each candidate's job ended as a link told, and as its file stands
 pub record AreEnds (links : List LinkState) (cs : List Candidate) (ends : List (Option ItemEnd)) : Type 0 where
-  pub told : (k : ℕ) (c : Candidate) (end : Option ItemEnd) → slice_get cs k ≡ Some c → slice_get ends k ≡ Some end → IsEndOf links (file_of c) end
-  pub each : (k : ℕ) (c : Candidate) → slice_get cs k ≡ Some c → IsSomeAnd (slice_get ends k) (IsEndByFile links (file_of c))
+  pub told : (k : ℕ) (c : Candidate) (end : Option ItemEnd) → slice_get cs k ≡ Some c → slice_get ends k ≡ Some end
+      → IsEndOf links (file_of c) end
+  pub each : (k : ℕ) (c : Candidate) → slice_get cs k ≡ Some c
+      → IsSomeAnd (slice_get ends k) (IsEndByFile links (file_of c))
 
 -- the fault of digest jobs, by the name of a candidate's file; or memory ran out
 abbrev pub NamesCandidate : List Candidate → DispatchFault → FillFault → Type 0
 NamesCandidate cs fault (faults.FileDamaged path told found) = ⊥
 NamesCandidate cs fault faults.WorkersLost = fault ≡ dispatch.WorkersLost
-NamesCandidate cs fault (faults.Unread path) = (j item : ℕ) × (c : Candidate) × (fault ≡ dispatch.Unread j item) × (slice_get cs j ≡ Some c) × (string_bytes path ≡ (file_of c).path)
+NamesCandidate cs fault (faults.Unread path) = (j item : ℕ) × (c : Candidate) × (fault ≡ dispatch.Unread j item)
+    × (slice_get cs j ≡ Some c) × (string_bytes path ≡ (file_of c).path)
 NamesCandidate cs fault faults.Tree = ⊥
 NamesCandidate cs fault faults.NoMemory = Unit {0}
 
@@ -112,7 +118,8 @@ IsMarkedBy cs ends marks = (i : ℕ) → mark_at marks i ≡ true → IsEqualAt 
 
 -- and each of them is
 abbrev pub MarksEqual : List Candidate → List (Option ItemEnd) → List Bool → Type 0
-MarksEqual cs ends marks = (k : ℕ) (c : Candidate) (end : Option ItemEnd) → slice_get cs k ≡ Some c → slice_get ends k ≡ Some end → is_equal (file_of c) end ≡ true → mark_at marks c.place ≡ true
+MarksEqual cs ends marks = (k : ℕ) (c : Candidate) (end : Option ItemEnd) → slice_get cs k ≡ Some c
+    → slice_get ends k ≡ Some end → is_equal (file_of c) end ≡ true → mark_at marks c.place ≡ true
 
 -- the marks are those of the candidates of which links told the entry's digest
 pub record AreMarked (links : List LinkState) (cs : List Candidate) (marks : List Bool) : Type 0 where

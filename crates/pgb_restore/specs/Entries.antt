@@ -55,6 +55,7 @@ abbrev pub IsBeside : List FileEntry → Text → Type 0
 IsBeside es q = (e : FileEntry) → In e es → (q ≢ e.path) × (q ≢ temporary_path e.path)
 
 -- these files were written, and nothing else but their temporary names has changed
-pub record Fills (stanza : Text) (own : Label) (links : List LinkState) (es : List FileEntry) (old new : Option Nodes) : Type 0 where
+pub record Fills (stanza : Text) (own : Label) (links : List LinkState) (es : List FileEntry)
+    (old new : Option Nodes) : Type 0 where
   pub each : (e : FileEntry) → In e es → IfSome new (IsFilled stanza own links e)
   pub others : (q : Text) → IsBeside es q → at q new ≡ at q old

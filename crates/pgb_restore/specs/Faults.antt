@@ -42,7 +42,8 @@ found_by (Some Vanished) told = told
 
 -- the fault tells of this file, that it isn't as is wanted
 abbrev pub TellsDamage : Filed → FillFault → Type 0
-TellsDamage f (faults.FileDamaged path told found) = (string_bytes path ≡ f.wanted.path.now) × (told ≡ f.wanted.sum) × (found ≡ found_by f.end f.wanted.sum)
+TellsDamage f (faults.FileDamaged path told found) = (string_bytes path ≡ f.wanted.path.now) × (told ≡ f.wanted.sum)
+    × (found ≡ found_by f.end f.wanted.sum)
 TellsDamage f faults.WorkersLost = ⊥
 TellsDamage f (faults.Unread path) = ⊥
 TellsDamage f faults.Tree = ⊥
@@ -50,7 +51,8 @@ TellsDamage f faults.NoMemory = ⊥
 
 -- one of these files isn't as is wanted, and the fault tells of it; or memory ran out
 abbrev pub TellsWrong : List Filed → FillFault → Type 0
-TellsWrong fs (faults.FileDamaged path told found) = (i : ℕ) × (f : Filed) × (slice_get fs i ≡ Some f) × (is_wanted f.wanted f.end ≡ false) × TellsDamage f (faults.FileDamaged path told found)
+TellsWrong fs (faults.FileDamaged path told found) = (i : ℕ) × (f : Filed) × (slice_get fs i ≡ Some f)
+    × (is_wanted f.wanted f.end ≡ false) × TellsDamage f (faults.FileDamaged path told found)
 TellsWrong fs faults.WorkersLost = ⊥
 TellsWrong fs (faults.Unread path) = ⊥
 TellsWrong fs faults.Tree = ⊥
@@ -67,14 +69,16 @@ HasItsFile dispatch.NoMemory n = Unit {0}
 abbrev pub Names : List Wanted → DispatchFault → FillFault → Type 0
 Names ws fault (faults.FileDamaged path told found) = ⊥
 Names ws fault faults.WorkersLost = fault ≡ dispatch.WorkersLost
-Names ws fault (faults.Unread path) = (j item : ℕ) × (w : Wanted) × (fault ≡ dispatch.Unread j item) × (slice_get ws j ≡ Some w) × (string_bytes path ≡ w.path.now)
+Names ws fault (faults.Unread path) = (j item : ℕ) × (w : Wanted) × (fault ≡ dispatch.Unread j item)
+    × (slice_get ws j ≡ Some w) × (string_bytes path ≡ w.path.now)
 Names ws fault faults.Tree = fault ≡ dispatch.Keep
 Names ws fault faults.NoMemory = Unit {0}
 
 -- ---- why files weren't written
 
 -- a link read bytes of another number or digest than are wanted
-pub record IsWrongFile (links : List LinkState) (jobs : List Job) (ws : List Wanted) (path : Text) (told found : Sum) : Type 0 where
+pub record IsWrongFile (links : List LinkState) (jobs : List Job) (ws : List Wanted) (path : Text)
+    (told found : Sum) : Type 0 where
   pub place : ℕ
   pub wanted : Wanted
   pub wanted_is : slice_get ws place ≡ Some wanted
@@ -90,7 +94,8 @@ pub record IsWrongFile (links : List LinkState) (jobs : List Job) (ws : List Wan
   pub wrong : ¬ ((length bytes ≡ wanted.size) × (sha1 bytes ≡ wanted.sum.0))
 
 -- the worker on the one link that is left couldn't read the file's job
-pub record IsUnreadFile (jobs : List Job) (ws : List Wanted) (links left : List LinkState) (before : List Lost) (path : Text) : Type 0 where
+pub record IsUnreadFile (jobs : List Job) (ws : List Wanted) (links left : List LinkState) (before : List Lost)
+    (path : Text) : Type 0 where
   pub place : ℕ
   pub item : ℕ
   pub wanted : Wanted
@@ -98,17 +103,21 @@ pub record IsUnreadFile (jobs : List Job) (ws : List Wanted) (links left : List 
   pub path_is : path ≡ wanted.path.now
   pub leaves : UnreadLeaves jobs (begun links before) place item (map Some left)
 
-abbrev pub WriteFails : FillFault → List Job → List Wanted → List LinkState → List LinkState → List Lost → List Lost → ℕ → ℕ → Type 0
-WriteFails (faults.FileDamaged path told found) jobs ws links left before after old new = IsWrongFile links jobs ws (string_bytes path) told found
+abbrev pub WriteFails : FillFault → List Job → List Wanted → List LinkState → List LinkState → List Lost → List Lost → ℕ
+    → ℕ → Type 0
+WriteFails (faults.FileDamaged path told found) jobs ws links left before after old new =
+    IsWrongFile links jobs ws (string_bytes path) told found
 WriteFails faults.WorkersLost jobs ws links left before after old new = AllLost jobs (begun links before) after
-WriteFails (faults.Unread path) jobs ws links left before after old new = IsUnreadFile jobs ws links left before (string_bytes path)
+WriteFails (faults.Unread path) jobs ws links left before after old new =
+    IsUnreadFile jobs ws links left before (string_bytes path)
 WriteFails faults.Tree jobs ws links left before after old new = Rises old new
 WriteFails faults.NoMemory jobs ws links left before after old new = Unit {0}
 
 -- ---- why a backup's files weren't
 
 -- a link read other bytes at an entry's place than the entry tells
-pub record IsDamaged (stanza : Text) (own : Label) (links : List LinkState) (es : List FileEntry) (path : Text) (told found : Sum) : Type 0 where
+pub record IsDamaged (stanza : Text) (own : Label) (links : List LinkState) (es : List FileEntry) (path : Text)
+    (told found : Sum) : Type 0 where
   pub entry : FileEntry
   pub listed : In entry es
   pub path_is : path ≡ entry.path
@@ -119,7 +128,8 @@ pub record IsDamaged (stanza : Text) (own : Label) (links : List LinkState) (es 
   pub wrong : ¬ AreOf entry bytes
 
 -- the worker on the one link that is left couldn't read an entry's job
-pub record IsUnread (stanza : Text) (own : Label) (links left : List LinkState) (es : List FileEntry) (path : Text) : Type 0 where
+pub record IsUnread (stanza : Text) (own : Label) (links left : List LinkState) (es : List FileEntry)
+    (path : Text) : Type 0 where
   pub entry : FileEntry
   pub listed : In entry es
   pub path_is : path ≡ entry.path
@@ -138,16 +148,20 @@ pub record AreLost (links : List LinkState) (before after : List Lost) : Type 0 
   pub count : length entries ≡ length links
   pub unsteady : (i : ℕ) (s : LinkState) → slice_get links i ≡ Some s → ¬ IsSteadyWorker s.told
 
-abbrev pub FillFails : FillFault → Text → Label → List FileEntry → List LinkState → List LinkState → List Lost → List Lost → ℕ → ℕ → Type 0
-FillFails (faults.FileDamaged path told found) stanza own es links left before after old new = IsDamaged stanza own links es (string_bytes path) told found
+abbrev pub FillFails : FillFault → Text → Label → List FileEntry → List LinkState → List LinkState → List Lost
+    → List Lost → ℕ → ℕ → Type 0
+FillFails (faults.FileDamaged path told found) stanza own es links left before after old new =
+    IsDamaged stanza own links es (string_bytes path) told found
 FillFails faults.WorkersLost stanza own es links left before after old new = AreLost links before after
-FillFails (faults.Unread path) stanza own es links left before after old new = IsUnread stanza own links left es (string_bytes path)
+FillFails (faults.Unread path) stanza own es links left before after old new =
+    IsUnread stanza own links left es (string_bytes path)
 FillFails faults.Tree stanza own es links left before after old new = Rises old new
 FillFails faults.NoMemory stanza own es links left before after old new = Unit {0}
 
 -- the fault of a file that was written under another name, by its own
 abbrev pub Renames : Text → FillFault → FillFault → Type 0
-Renames path (faults.FileDamaged at told found) (faults.FileDamaged own told' found') = (string_bytes own ≡ path) × (told' ≡ told) × (found' ≡ found)
+Renames path (faults.FileDamaged at told found) (faults.FileDamaged own told' found') = (string_bytes own ≡ path)
+    × (told' ≡ told) × (found' ≡ found)
 Renames path (faults.Unread at) (faults.Unread own) = string_bytes own ≡ path
 Renames path faults.WorkersLost faults.WorkersLost = Unit {0}
 Renames path faults.Tree faults.Tree = Unit {0}

@@ -30,7 +30,8 @@ abbrev pub waiting_path : Text
 waiting_path = temporary_path control_path
 
 -- The tree has a file of the entry's bytes at a path. Where there are any, a link read them at the entry's place.
-pub record HasEntry (stanza : Text) (own : Label) (links : List LinkState) (e : FileEntry) (path : Text) (f : Nodes) : Type 0 where
+pub record HasEntry (stanza : Text) (own : Label) (links : List LinkState) (e : FileEntry) (path : Text)
+    (f : Nodes) : Type 0 where
   pub bytes : Text
   pub file : HasFile path bytes f
   pub are : AreOf e bytes
@@ -45,60 +46,75 @@ abbrev pub HasCome : Text → Label → List LinkState → Options → FileEntry
 HasCome stanza own links o e old f = HasEntry stanza own links e e.path f ⊎ IsKept links o e old f
 
 -- The tree has each file of the manifest, written or kept, the settings of the recovery, the folders, and nothing else.
-pub record IsFinished (stanza : Text) (links : List LinkState) (o : Options) (m : Manifest) (old : Option Nodes) (f : Nodes) : Type 0 where
-  pub file : (e : FileEntry) → In e m.files → is_added o.recovery e.path ≡ false → HasCome stanza m.label links o e old f
+pub record IsFinished (stanza : Text) (links : List LinkState) (o : Options) (m : Manifest) (old : Option Nodes)
+    (f : Nodes) : Type 0 where
+  pub file : (e : FileEntry) → In e m.files → is_added o.recovery e.path ≡ false
+      → HasCome stanza m.label links o e old f
   pub alike : KeepsAlike links o m.files old f
   pub settings : HasAdded stanza m.label links m.files o.recovery f
   pub folder : (path : Text) → In path m.folders → f path ≡ Some folder
-  pub nothing : (path : Text) → ¬ In path m.folders → ((e : FileEntry) → In e m.files → path ≢ e.path) → is_added o.recovery path ≡ false → f path ≡ None
+  pub nothing : (path : Text) → ¬ In path m.folders → ((e : FileEntry) → In e m.files → path ≢ e.path)
+      → is_added o.recovery path ≡ false → f path ≡ None
 
 -- the same, where the marks tell which files were kept
-pub record IsMarked (stanza : Text) (links : List LinkState) (o : Options) (m : Manifest) (marks : List Bool) (old : Option Nodes) (f : Nodes) : Type 0 where
-  pub file : (e : FileEntry) → In e m.files → is_added o.recovery e.path ≡ false → HasCome stanza m.label links o e old f
+pub record IsMarked (stanza : Text) (links : List LinkState) (o : Options) (m : Manifest) (marks : List Bool)
+    (old : Option Nodes) (f : Nodes) : Type 0 where
+  pub file : (e : FileEntry) → In e m.files → is_added o.recovery e.path ≡ false
+      → HasCome stanza m.label links o e old f
   pub kept : (e : FileEntry) → In (e, true) (marked m.files marks) → IsKept links o e old f
   pub settings : HasAdded stanza m.label links m.files o.recovery f
   pub folder : (path : Text) → In path m.folders → f path ≡ Some folder
-  pub nothing : (path : Text) → ¬ In path m.folders → ((e : FileEntry) → In e m.files → path ≢ e.path) → is_added o.recovery path ≡ false → f path ≡ None
+  pub nothing : (path : Text) → ¬ In path m.folders → ((e : FileEntry) → In e m.files → path ≢ e.path)
+      → is_added o.recovery path ≡ false → f path ≡ None
 
 -- ---- steps, over links that earlier steps have left
 
--- Where a tree is listed but for its control file, and links of which these are left told that the marked files are alike, all but the settings
--- and the control file is there.
-abbrev pub Rebuilds : Text → List LinkState → Options → Manifest → List (Text × Node) → List Bool → Option Nodes → Option Nodes → Type 0
+-- Where a tree is listed but for its control file, and links of which these are left told that the marked files are
+-- alike, all but the settings and the control file is there.
+abbrev pub Rebuilds : Text → List LinkState → Options → Manifest → List (Text × Node) → List Bool → Option Nodes
+    → Option Nodes → Type 0
 Rebuilds stanza links o m seen marks old new =
-    (first : List LinkState) (before after : List Lost) → IsLeft first links before after → AllAlike first o seen m.files marks
+    (first : List LinkState) (before after : List Lost) → IsLeft first links before after
+    → AllAlike first o seen m.files marks
     → IfSome new (IsPlain stanza first o m marks old Nothing)
 
 -- where all but the settings and the control file was there, the settings are there as well
 abbrev pub Settles : Text → List LinkState → Options → Manifest → List Bool → Option Nodes → Option Nodes → Type 0
 Settles stanza links o m marks old new =
-    (first : List LinkState) (before after : List Lost) (start : Option Nodes) → IsLeft first links before after → IfSome old (IsPlain stanza first o m marks start Nothing)
+    (first : List LinkState) (before after : List Lost) (start : Option Nodes) → IsLeft first links before after
+    → IfSome old (IsPlain stanza first o m marks start Nothing)
     → IfSome new (IsPlain stanza first o m marks start o.recovery)
 
 -- where all but the control file was there, all of it is
 abbrev pub Finishes : Text → List LinkState → Options → Manifest → List Bool → Option Nodes → Option Nodes → Type 0
 Finishes stanza links o m marks old new =
-    (first : List LinkState) (before after : List Lost) (start : Option Nodes) → IsLeft first links before after → IfSome old (IsPlain stanza first o m marks start o.recovery)
+    (first : List LinkState) (before after : List Lost) (start : Option Nodes) → IsLeft first links before after
+    → IfSome old (IsPlain stanza first o m marks start o.recovery)
     → IfSome new (IsMarked stanza first o m marks start)
 
 -- where all but the settings and the control file was there, all of it is
 abbrev pub Completes : Text → List LinkState → Options → Manifest → List Bool → Option Nodes → Option Nodes → Type 0
 Completes stanza links o m marks old new =
-    (first : List LinkState) (before after : List Lost) (start : Option Nodes) → IsLeft first links before after → IfSome old (IsPlain stanza first o m marks start Nothing)
+    (first : List LinkState) (before after : List Lost) (start : Option Nodes) → IsLeft first links before after
+    → IfSome old (IsPlain stanza first o m marks start Nothing)
     → IfSome new (IsMarked stanza first o m marks start)
 
 -- where the tree is listed but for its control file, all of it is there
-abbrev pub PutsAll : Text → List LinkState → Options → Manifest → List (Text × Node) → List Bool → Option Nodes → Option Nodes → Type 0
+abbrev pub PutsAll : Text → List LinkState → Options → Manifest → List (Text × Node) → List Bool → Option Nodes
+    → Option Nodes → Type 0
 PutsAll stanza links o m seen marks old new =
-    (first : List LinkState) (before after : List Lost) → IsLeft first links before after → AllAlike first o seen m.files marks
+    (first : List LinkState) (before after : List Lost) → IsLeft first links before after
+    → AllAlike first o seen m.files marks
     → IfSome new (IsMarked stanza first o m marks old)
 
 -- ---- the restored tree
 
--- What delta rests on: the links read the files that the data folder held, and a digest tells each of them from the backup's.
+-- What delta rests on: the links read the files that the data folder held, and a digest tells each of them from the
+-- backup's.
 abbrev pub AreTold : Options → Backup → Option Nodes → Content → Type 0
 AreTold o b old tree = o.delta ≡ true → AreFilesOf old tree × HasNoTwin b tree
 
 -- Where all links read a repository of which this is a backup's manifest, the tree is the restored one of that backup.
 abbrev pub Restores : Text → List LinkState → Options → Manifest → Option Nodes → Nodes → Type 0
-Restores stanza links o m old f = (tree repo : Content) (s : Stanza) (b : Backup) → AllRead tree repo links → IsManifestOf stanza repo s b m → AreTold o b old tree → IsRestored b o.recovery f
+Restores stanza links o m old f = (tree repo : Content) (s : Stanza) (b : Backup) → AllRead tree repo links
+    → IsManifestOf stanza repo s b m → AreTold o b old tree → IsRestored b o.recovery f

@@ -38,7 +38,8 @@ marked (e ∷ es) (mark ∷ marks) = (e, mark) ∷ marked es marks
 abbrev pub IsShown : List (Text × Node) → FileEntry → Type 0
 IsShown seen e = (time : ℕ) × In (e.path, File e.size time) seen
 
--- An entry whose file may be kept: delta is asked for, the listing shows such a file, and a link told the entry's digest of it.
+-- An entry whose file may be kept: delta is asked for, the listing shows such a file, and a link told the entry's
+-- digest of it.
 pub record IsAlike (links : List LinkState) (o : Options) (seen : List (Text × Node)) (e : FileEntry) : Type 0 where
   pub delta : o.delta ≡ true
   pub ordinary : is_ordinary o.recovery e ≡ true
@@ -52,13 +53,14 @@ AllAlike links o seen es marks = (e : FileEntry) → In (e, true) (marked es mar
 -- where all links read the same files, each entry whose file in the data folder they read so is marked
 abbrev pub MarksAlike : List LinkState → Options → List (Text × Node) → List FileEntry → List Bool → Type 0
 MarksAlike links o seen es marks =
-    (tree repo : Content) → AllRead tree repo links → o.delta ≡ true → (e : FileEntry) → In e es → is_ordinary o.recovery e ≡ true → IsShown seen e
+    (tree repo : Content) → AllRead tree repo links → o.delta ≡ true → (e : FileEntry) → In e es
+    → is_ordinary o.recovery e ≡ true → IsShown seen e
     → (bytes : Text) → tree e.path ≡ Some bytes → AreOf e bytes → In (e, true) (marked es marks)
 
 -- ---- which files were kept
 
--- The entry's file was kept, as delta allows: it is the one that was there, with its time. It has the entry's size, and a link told the entry's
--- digest of it.
+-- The entry's file was kept, as delta allows: it is the one that was there, with its time. It has the entry's size, and
+-- a link told the entry's digest of it.
 pub record IsKept (links : List LinkState) (o : Options) (e : FileEntry) (old : Option Nodes) (f : Nodes) : Type 0 where
   pub delta : o.delta ≡ true
   pub ordinary : is_ordinary o.recovery e ≡ true
@@ -73,9 +75,10 @@ pub record IsKept (links : List LinkState) (o : Options) (e : FileEntry) (old : 
 abbrev pub AreFilesOf : Option Nodes → Content → Type 0
 AreFilesOf old tree = IfSome old (λ g. (path : Text) → tree path ≡ file_bytes (g path))
 
--- Where each link reads the files that were there, delta keeps each ordinary one that was as its entry tells: the same node is there, with its
--- time.
+-- Where each link reads the files that were there, delta keeps each ordinary one that was as its entry tells: the same
+-- node is there, with its time.
 abbrev pub KeepsAlike : List LinkState → Options → List FileEntry → Option Nodes → Nodes → Type 0
 KeepsAlike links o es old f =
-    (tree repo : Content) → AllRead tree repo links → AreFilesOf old tree → o.delta ≡ true → (e : FileEntry) → In e es → is_ordinary o.recovery e ≡ true
+    (tree repo : Content) → AllRead tree repo links → AreFilesOf old tree → o.delta ≡ true → (e : FileEntry) → In e es
+    → is_ordinary o.recovery e ≡ true
     → IfSome old (λ g. (bytes : Text) → file_bytes (g e.path) ≡ Some bytes → AreOf e bytes → f e.path ≡ g e.path)

@@ -38,15 +38,19 @@ pub record IsPrepared (m : Manifest) (seen : List (Text × Node)) (old new : Opt
   pub mid_is : mid ≡ option_map (λ f. with_folders m.folders (without m seen f)) old
   pub bares : Bares m.files mid new
 
--- All of a restore but the control file: the files without bytes, the ordinary ones by their marks, the settings that are added by now, the
--- folders, and nothing else.
-pub record IsPlain (stanza : Text) (links : List LinkState) (o : Options) (m : Manifest) (marks : List Bool) (old : Option Nodes) (added : Recovery) (f : Nodes) : Type 0 where
+-- All of a restore but the control file: the files without bytes, the ordinary ones by their marks, the settings that
+-- are added by now, the folders, and nothing else.
+pub record IsPlain (stanza : Text) (links : List LinkState) (o : Options) (m : Manifest) (marks : List Bool)
+    (old : Option Nodes) (added : Recovery) (f : Nodes) : Type 0 where
   pub bare : (e : FileEntry) → In e m.files → is_bare e ≡ true → is_added added e.path ≡ false → HasFile e.path [] f
-  pub filled : (e : FileEntry) → In (e, false) (marked m.files marks) → is_ordinary o.recovery e ≡ true → IsFilled stanza m.label links e f
+  pub filled : (e : FileEntry) → In (e, false) (marked m.files marks) → is_ordinary o.recovery e ≡ true
+      → IsFilled stanza m.label links e f
   pub kept : (e : FileEntry) → In (e, true) (marked m.files marks) → IsKept links o e old f
   pub settings : HasAdded stanza m.label links m.files added f
   pub folder : (path : Text) → In path m.folders → f path ≡ Some folder
-  pub nothing : (path : Text) → ¬ In path m.folders → ((e : FileEntry) → In e m.files → path ≢ control_path → path ≢ e.path) → is_added added path ≡ false → f path ≡ None
+  pub nothing : (path : Text) → ¬ In path m.folders
+      → ((e : FileEntry) → In e m.files → path ≢ control_path → path ≢ e.path) → is_added added path ≡ false
+      → f path ≡ None
 
 -- ---- folders
 
@@ -56,4 +60,5 @@ HasFolders folders nodes = (path : Text) → In path folders → IsFolderAt path
 
 -- each of these entries has its folder, which is none of them, nor the temporary name of one
 abbrev pub AreHoused : List FileEntry → Option Nodes → Type 0
-AreHoused es nodes = (e : FileEntry) → In e es → (front last : Text) → e.path ≡ front ⫽ last → ¬ Contains last 47 → IsBeside es front × IsFolderAt front nodes
+AreHoused es nodes = (e : FileEntry) → In e es → (front last : Text) → e.path ≡ front ⫽ last → ¬ Contains last 47
+    → IsBeside es front × IsFolderAt front nodes

@@ -1,4 +1,5 @@
--- How a backup is to be restored, and which of its files that rests on (pgBackRest command reference, "Restore Command", options "delta" and "type").
+-- How a backup is to be restored, and which of its files that rests on (pgBackRest command reference, "Restore
+-- Command", options "delta" and "type").
 use Rattle.std.specs.Prelude.{Bool, false, not, ◌&&◌, ◌||◌, nat_lt, bytes_eq}
 use Rattle.pgb_model.specs.Restored.{Recovery, conf_path, signal_path}
 use Rattle.pgb_model.specs.Restored.Recovery.{ToTheEnd, Nothing}

@@ -18,17 +18,20 @@ use Rattle.pgb_digests.specs.Digests.{IsWhole}
 use Rattle.pgb_restore.specs.Written.{IsReadOf}
 
 -- the bytes are those of the entry, and a link read them at its place where there are any
-pub record IsBytesOf (stanza : Text) (own : Label) (links : List LinkState) (e : FileEntry) (bytes : Text) : Type 0 where
+pub record IsBytesOf (stanza : Text) (own : Label) (links : List LinkState) (e : FileEntry) (bytes : Text) : Type
+    0 where
   pub are : AreOf e bytes
   pub read : 0 < e.size → IsReadOf links (source stanza own e) bytes
 
 -- what the backup's file of a path held, where the backup has such a file
 abbrev pub WasHeld : Text → Label → List LinkState → List FileEntry → Text → Option Text → Type 0
 WasHeld stanza own links es path None = (e : FileEntry) → In e es → e.path ≢ path
-WasHeld stanza own links es path (Some bytes) = (e : FileEntry) × In e es × (e.path ≡ path) × IsBytesOf stanza own links e bytes
+WasHeld stanza own links es path (Some bytes) = (e : FileEntry) × In e es × (e.path ≡ path)
+    × IsBytesOf stanza own links e bytes
 
 -- the settings are there, behind what the backup's file held, and an empty file that asks the server to recover
-pub record HasSettings (stanza : Text) (own : Label) (links : List LinkState) (es : List FileEntry) (fetch : Text) (f : Nodes) : Type 0 where
+pub record HasSettings (stanza : Text) (own : Label) (links : List LinkState) (es : List FileEntry) (fetch : Text)
+    (f : Nodes) : Type 0 where
   pub held : Option Text
   pub was : WasHeld stanza own links es conf_path held
   pub conf : HasFile conf_path (with_block fetch held) f
@@ -43,11 +46,13 @@ HasAdded stanza own links es Nothing f = Unit {0}
 
 -- these are the bytes of the backup's file, or none where the backup has no such file
 abbrev pub HoldsConf : Text → Label → List LinkState → List FileEntry → Text → Type 0
-HoldsConf stanza own links es bytes = (held : Option Text) × WasHeld stanza own links es conf_path held × (bytes ≡ unwrap_or held [])
+HoldsConf stanza own links es bytes = (held : Option Text) × WasHeld stanza own links es conf_path held
+    × (bytes ≡ unwrap_or held [])
 
 -- these are the bytes of the first item, which ended with the entry's number and digest
 abbrev pub IsFirstOf : FileEntry → List Ended → Text → Type 0
-IsFirstOf e ended bytes = (first : Ended) × (rest : List Ended) × (ended ≡ first ∷ rest) × IsWhole (Some first.how) e.size e.sum × (bytes ≡ first.bytes.items)
+IsFirstOf e ended bytes = (first : Ended) × (rest : List Ended) × (ended ≡ first ∷ rest)
+    × IsWhole (Some first.how) e.size e.sum × (bytes ≡ first.bytes.items)
 
 -- the first item ended with another number or digest, and the fault tells of it
 pub record IsWrongItem (e : FileEntry) (ended : List Ended) (path : Text) (told found : Sum) : Type 0 where

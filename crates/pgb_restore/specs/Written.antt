@@ -37,8 +37,8 @@ pub record IsReadOf (links : List LinkState) (item : Item) (bytes : Text) : Type
 
 -- ---- how the files ended
 
--- The file's item ended with the number and the digest of bytes that a link read. Where they are those that are wanted, the file has these
--- bytes, and nothing is left under its temporary name.
+-- The file's item ended with the number and the digest of bytes that a link read. Where they are those that are wanted,
+-- the file has these bytes, and nothing is left under its temporary name.
 pub record IsWritten (links : List LinkState) (nodes : Option Nodes) (job : Job) (f : Filed) : Type 0 where
   pub item : Item
   pub items : job.items ≡ item ∷ []
@@ -49,12 +49,15 @@ pub record IsWritten (links : List LinkState) (nodes : Option Nodes) (job : Job)
   pub number : n ≡ length bytes
   pub digest : sum ≡ sha1 bytes
   pub read : IsReadOf links item bytes
-  pub put : n ≡ f.wanted.size → sum ≡ f.wanted.sum.0 → IfSome nodes (λ g. HasFile f.wanted.path.now bytes g × (g (temporary_path f.wanted.path.now) ≡ None))
+  pub put : n ≡ f.wanted.size → sum ≡ f.wanted.sum.0
+      → IfSome nodes (λ g. HasFile f.wanted.path.now bytes g × (g (temporary_path f.wanted.path.now) ≡ None))
 
 -- each of them did
-pub record AllWritten (links : List LinkState) (nodes : Option Nodes) (jobs : List Job) (ws : List Wanted) (fs : List Filed) : Type 0 where
+pub record AllWritten (links : List LinkState) (nodes : Option Nodes) (jobs : List Job) (ws : List Wanted)
+    (fs : List Filed) : Type 0 where
   pub wanted : map (λ f. f.wanted) fs ≡ ws
-  pub each : (i : ℕ) (j : Job) (f : Filed) → slice_get jobs i ≡ Some j → slice_get fs i ≡ Some f → IsWritten links nodes j f
+  pub each : (i : ℕ) (j : Job) (f : Filed) → slice_get jobs i ≡ Some j → slice_get fs i ≡ Some f
+      → IsWritten links nodes j f
 
 -- each of them as is wanted
 abbrev pub AllRight : List Filed → Type 0
@@ -62,7 +65,8 @@ AllRight fs = (i : ℕ) (f : Filed) → slice_get fs i ≡ Some f → is_wanted 
 
 -- ---- the files that are there
 
--- The tree has a file of the number and the digest that are wanted, with bytes that a link read, and nothing under its temporary name.
+-- The tree has a file of the number and the digest that are wanted, with bytes that a link read, and nothing under its
+-- temporary name.
 pub record IsFetched (links : List LinkState) (j : Job) (w : Wanted) (f : Nodes) : Type 0 where
   pub bytes : Text
   pub file : HasFile w.path.now bytes f
@@ -75,4 +79,5 @@ pub record IsFetched (links : List LinkState) (j : Job) (w : Wanted) (f : Nodes)
 
 -- each of these files, by its job
 abbrev pub AllFetched : List LinkState → Option Nodes → List Job → List Wanted → Type 0
-AllFetched links nodes jobs ws = (i : ℕ) (j : Job) (w : Wanted) → slice_get jobs i ≡ Some j → slice_get ws i ≡ Some w → IfSome nodes (IsFetched links j w)
+AllFetched links nodes jobs ws = (i : ℕ) (j : Job) (w : Wanted) → slice_get jobs i ≡ Some j → slice_get ws i ≡ Some w
+    → IfSome nodes (IsFetched links j w)

@@ -1,4 +1,5 @@
--- Which backups an expiry takes away (pgBackRest configuration reference, "repo-retention-full", "repo-retention-full-type" and "repo-retention-diff").
+-- Which backups an expiry takes away (pgBackRest configuration reference, "repo-retention-full",
+-- "repo-retention-full-type" and "repo-retention-diff").
 use Rattle.std.specs.Prelude.{ℕ, ◌+◌, ◌-◌, ◌*◌, nat_le, Bool, false, not, ◌&&◌, ◌||◌, List, [], ◌∷◌, length, take, filter, Option, Some, None, if◌then◌else◌}
 use Rattle.std.specs.Option.{option_map_or}
 use Rattle.pgb_model.specs.declared.labels.Kind.TheVariants.{Full, Diff}
@@ -51,17 +52,20 @@ diffs_gone (Some n) es = filter is_diff (all_but_last n (filter is_counted es))
 -- these labels, and those of all backups that depend on them by prior: a prior stands before
 abbrev pub with_dependents : (Label → Bool) → List Entry → Label → Bool
 with_dependents goes [] l = goes l
-with_dependents goes (e ∷ es) l = with_dependents (λ k. goes k || (is_label e.label k && option_map_or goes e.prior false)) es l
+with_dependents goes (e ∷ es) l = with_dependents
+    (λ k. goes k || (is_label e.label k && option_map_or goes e.prior false)) es l
 
 -- by the rule on full backups
 abbrev pub is_condemned_full : Rules → ℕ → List Entry → Label → Bool
-is_condemned_full rules now es = with_dependents (has_label (labels_of (full_gone rules.full now (filter is_full es)))) es
+is_condemned_full rules now es = with_dependents (has_label (labels_of (full_gone rules.full now (filter is_full es))))
+    es
 
 -- by that, or by the rule on differentials among what is then left
 abbrev pub is_condemned : Rules → ℕ → List Entry → Label → Bool
 is_condemned rules now es =
     let full = is_condemned_full rules now es in
-    with_dependents (λ l. full l || has_label (labels_of (diffs_gone rules.diff (filter (λ e. not (full e.label)) es))) l) es
+    with_dependents (λ l. full l || has_label (labels_of (diffs_gone rules.diff (filter (λ e. not (full e.label)) es)))
+    l) es
 
 abbrev pub condemned_labels : Rules → ℕ → List Entry → List Label
 condemned_labels rules now es = filter (is_condemned rules now es) (labels_of es)

@@ -16,7 +16,8 @@ listed_in backups = map (λ b. b.entry) backups
 -- Each label is there once, and no prior is the label of the backup itself or of one behind it.
 abbrev pub AreInLine : List Entry → Type 0
 AreInLine [] = Unit {0}
-AreInLine (e ∷ es) = ((x : Entry) → In x es → x.label ≢ e.label) × ((l : Label) → e.prior ≡ Some l → (e.label ≢ l) × ((x : Entry) → In x es → x.label ≢ l)) × AreInLine es
+AreInLine (e ∷ es) = ((x : Entry) → In x es → x.label ≢ e.label)
+    × ((l : Label) → e.prior ≡ Some l → (e.label ≢ l) × ((x : Entry) → In x es → x.label ≢ l)) × AreInLine es
 
 -- one of the two rules counts the label's backup among those that go
 abbrev pub is_told : Rules → ℕ → List Entry → Label → Bool
@@ -25,9 +26,12 @@ is_told rules now es l = has_label (labels_of (full_gone rules.full now (filter 
 
 -- a told label is an ancestor of a backup of this label
 abbrev pub HasTold : List Backup → (Label → Bool) → Label → Type 0
-HasTold backups told l = (b : Backup) × In b backups × (b.entry.label ≡ l) × ((a : Label) × (told a ≡ true) × IsAncestor backups a b)
+HasTold backups told l = (b : Backup) × In b backups × (b.entry.label ≡ l)
+    × ((a : Label) × (told a ≡ true) × IsAncestor backups a b)
 
 -- these labels are those of the listed backups that are told to go, or have an ancestor that is
 abbrev pub Descends : Rules → ℕ → List Backup → List Label → Type 0
 Descends rules now backups labels = (l : Label) →
-    In l labels ↔ (In l (labels_of (listed_in backups)) × ((is_told rules now (listed_in backups) l ≡ true) ⊎ HasTold backups (is_told rules now (listed_in backups)) l))
+    In l labels ↔ (In l (labels_of (listed_in backups))
+    × ((is_told rules now (listed_in backups) l ≡ true)
+    ⊎ HasTold backups (is_told rules now (listed_in backups)) l))

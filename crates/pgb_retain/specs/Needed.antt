@@ -1,4 +1,5 @@
--- Which files of the archive the backups that are left need (pgBackRest configuration reference, "repo-retention-archive" and "repo-retention-archive-type").
+-- Which files of the archive the backups that are left need (pgBackRest configuration reference,
+-- "repo-retention-archive" and "repo-retention-archive-type").
 use Rattle.std.specs.Prelude.{ℕ, ◌-◌, nat_lt, nat_eq, min, Bool, true, false, not, ◌&&◌, ◌||◌, List, [], ◌∷◌, length, drop, map, filter, Option, Some, None}
 use Rattle.std.specs.Option.{option_map_or}
 use Rattle.std.specs.List.{flat_map}
@@ -42,9 +43,11 @@ number_by Diff full diff k = diff
 number_by Incr full diff k = None
 
 abbrev pub archive_number : Rules → ℕ → Option ℕ
-archive_number rules k = option_map_or (λ (n : ℕ). Some n) rules.archive (number_by rules.archive_kind rules.full rules.diff k)
+archive_number rules k = option_map_or (λ (n : ℕ). Some n) rules.archive
+    (number_by rules.archive_kind rules.full rules.diff k)
 
--- what is kept of a cluster's files: all; or what isn't before a segment, where there is one, and what lies within spans
+-- what is kept of a cluster's files: all; or what isn't before a segment, where there is one, and what lies within
+-- spans
 pub record Keeping : Type 0 where
   pub all : Bool
   pub from : Option Segment
@@ -79,7 +82,8 @@ abbrev pub is_within : Segment → Span → Bool
 is_within s w = is_at_or_after w.start s && is_at_or_after s w.stop
 
 abbrev pub keeps_segment : Keeping → Segment → Bool
-keeps_segment k s = k.all || (option_map_or (λ (f : Segment). is_at_or_after f s) k.from false || has_some (is_within s) k.spans)
+keeps_segment k s = k.all || (option_map_or (λ (f : Segment). is_at_or_after f s) k.from false
+    || has_some (is_within s) k.spans)
 
 -- history files are always kept
 abbrev pub keeps_file : Keeping → ArchiveName → Bool

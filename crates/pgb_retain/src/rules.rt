@@ -1,8 +1,8 @@
 // What is to be kept (pgBackRest configuration reference, "Repository Options").
 use pgb_model::{ArchiveId, Kind, Segment, Span};
 
-/// How long full backups are kept (`repo-retention-full`, `repo-retention-full-type`): for ever; the last `Count`; or all
-/// from the last one on that ended at least `Days` days ago.
+/// How long full backups are kept (`repo-retention-full`, `repo-retention-full-type`): for ever; the last `Count`; or
+/// all from the last one on that ended at least `Days` days ago.
 #[derive(Clone, Copy, Debug, PartialEq, Eq)]
 pub enum FullRule {
     Unset,

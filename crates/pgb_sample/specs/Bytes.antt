@@ -1,4 +1,5 @@
--- The files of a sample cluster, and the segments of its log. Own; the control file's front as PostgreSQL 16 writes it (PostgreSQL manual, "pg_controldata").
+-- The files of a sample cluster, and the segments of its log. Own; the control file's front as PostgreSQL 16 writes it
+-- (PostgreSQL manual, "pg_controldata").
 use Rattle.std.specs.Prelude.{ℕ, zero, suc, ◌+◌, ◌*◌, ◌%◌, [], ◌∷◌, ◌++◌, codes, decimal, replicate}
 use Rattle.pgb_model.specs.Text.{Text}
 
@@ -43,7 +44,8 @@ control_bytes = control_front ++ zeros 8176
 
 -- a long header of the same system and 1 MiB
 abbrev pub segment_front : Text
-segment_front = 0 ∷ 0 ∷ 2 ∷ 0 ∷ 0 ∷ 0 ∷ 0 ∷ 0 ∷ 0 ∷ 0 ∷ 0 ∷ 0 ∷ 0 ∷ 0 ∷ 0 ∷ 0 ∷ 0 ∷ 0 ∷ 0 ∷ 0 ∷ 0 ∷ 0 ∷ 0 ∷ 0 ∷ 1 ∷ 0 ∷ 0 ∷ 0 ∷ 0 ∷ 0 ∷ 0 ∷ 96 ∷ 0 ∷ 0 ∷ 16 ∷ 0 ∷ []
+segment_front = 0 ∷ 0 ∷ 2 ∷ 0 ∷ 0 ∷ 0 ∷ 0 ∷ 0 ∷ 0 ∷ 0 ∷ 0 ∷ 0 ∷ 0 ∷ 0 ∷ 0 ∷ 0 ∷ 0 ∷ 0 ∷ 0 ∷ 0 ∷ 0 ∷ 0 ∷ 0 ∷ 0 ∷ 1 ∷ 0
+    ∷ 0 ∷ 0 ∷ 0 ∷ 0 ∷ 0 ∷ 96 ∷ 0 ∷ 0 ∷ 16 ∷ 0 ∷ []
 
 -- a segment of 1 MiB with this last byte
 unfoldable pub segment_bytes : ℕ → Text

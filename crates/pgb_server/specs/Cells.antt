@@ -12,14 +12,18 @@ pub record Left : Type 0 where
   pub rest : List ℕ
 
 abbrev pub text_cell : Left → ℕ → List ℕ → List ℕ → Result Left Fault
-text_cell l n text rest = if is_utf8 text then Ok (record { cells = l.cells ++ Some text ∷ []; at = l.at + 4 + n; rest = rest }) else Err (form (l.at + 4))
+text_cell l n text rest = if is_utf8 text then Ok
+    (record { cells = l.cells ++ Some text ∷ []; at = l.at + 4 + n; rest = rest }) else Err (form (l.at + 4))
 
 -- a length of -1 is NULL
 abbrev pub sized_cell : Left → ℕ → List ℕ → Result Left Fault
-sized_cell l n s = if n == 4294967295 then Ok (record { cells = l.cells ++ None ∷ []; at = l.at + 4; rest = s }) else if nat_lt (length s) n then Err (form l.at) else text_cell l n (take n s) (drop n s)
+sized_cell l n s = if n == 4294967295 then Ok
+    (record { cells = l.cells ++ None ∷ []; at = l.at + 4; rest = s }) else if nat_lt (length s) n then Err
+    (form l.at) else text_cell l n (take n s) (drop n s)
 
 abbrev pub next_cell : Left → Result Left Fault
-next_cell l = if nat_lt (length l.rest) 4 then Err (form l.at) else sized_cell l (from_be_bytes w32 (take 4 l.rest)) (drop 4 l.rest)
+next_cell l = if nat_lt (length l.rest) 4 then Err (form l.at) else sized_cell l (from_be_bytes w32 (take 4 l.rest))
+    (drop 4 l.rest)
 
 -- so many more columns, and nothing behind them
 abbrev pub cells_of : ℕ → Left → Result (List (Option Text)) Fault
@@ -28,4 +32,5 @@ cells_of (suc n) l = next_cell l >>= λ m. cells_of n m
 
 -- the columns of a row that has so many
 abbrev pub cells : ℕ → ℕ → List ℕ → Result (List (Option Text)) Fault
-cells columns at body = if nat_lt (length body) 2 then Err (form at) else if from_be_bytes w16 (take 2 body) == columns then cells_of columns (record { cells = []; at = at + 2; rest = drop 2 body }) else Err (form at)
+cells columns at body = if nat_lt (length body) 2 then Err (form at) else if from_be_bytes w16 (take 2 body)
+    == columns then cells_of columns (record { cells = []; at = at + 2; rest = drop 2 body }) else Err (form at)

@@ -1,4 +1,5 @@
--- Texts in a body, each ended by 0, and the fields of an error: a byte and a text each, then 0 (PostgreSQL manual, "Error and Notice Message Fields").
+-- Texts in a body, each ended by 0, and the fields of an error: a byte and a text each, then 0 (PostgreSQL manual,
+-- "Error and Notice Message Fields").
 use Rattle.std.specs.Prelude.{ℕ, ◌+◌, ◌&&◌, ◌==◌, Bool, true, List, [], ◌∷◌, length, take, position, unwrap_or, if◌then◌else◌}
 use Rattle.std.specs.Str.{is_utf8}
 use Rattle.pgb_model.specs.Text.{Text}
@@ -14,7 +15,8 @@ is_one_text bytes = length (until_zero bytes) + 1 == length bytes
 -- the bytes behind the first field of this kind's own byte; the flag says that a field begins here
 abbrev pub from_field : ℕ → Bool → List ℕ → List ℕ
 from_field kind starts [] = []
-from_field kind starts (b ∷ bs) = if starts && (b == kind) then bs else if starts && (b == 0) then [] else from_field kind (b == 0) bs
+from_field kind starts (b ∷ bs) = if starts && (b == kind) then bs else if starts
+    && (b == 0) then [] else from_field kind (b == 0) bs
 
 -- bytes that aren't UTF-8 are told as the empty text
 abbrev pub or_empty : List ℕ → Text

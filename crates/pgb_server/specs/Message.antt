@@ -48,15 +48,19 @@ is_length kind n = if kind == 90 then n == 5 else nat_le (least kind) n
 
 -- a kind, and how many bytes its body has: at most 16 MiB with the length's own
 abbrev pub body_count : ℕ → ℕ → ℕ → Result (ℕ × ℕ) Fault
-body_count at kind n = if is_length kind n then (if nat_lt 16777216 n then Err (too_long n) else Ok (kind, n - 4)) else Err (form (at + 1))
+body_count at kind n = if is_length kind
+    n then (if nat_lt 16777216 n then Err (too_long n) else Ok (kind, n - 4)) else Err (form (at + 1))
 
 -- the five bytes in front of a body
 abbrev pub header_of : Phase → ℕ → List ℕ → Result (ℕ × ℕ) Fault
 header_of phase at [] = Err (ended at)
-header_of phase at (kind ∷ h) = if is_allowed phase kind then (if length h == 4 then body_count at kind (from_be_bytes w32 h) else Err (ended (at + length (kind ∷ h)))) else Err (form at)
+header_of phase at (kind ∷ h) = if is_allowed phase
+    kind then (if length h == 4 then body_count at kind (from_be_bytes w32 h) else Err
+    (ended (at + length (kind ∷ h)))) else Err (form at)
 
 abbrev pub body_of : ℕ → ℕ → ℕ → List ℕ → Result Message Fault
-body_of at kind count body = if length body == count then Ok (record { kind = kind; body = body }) else Err (ended (at + 5 + length body))
+body_of at kind count body = if length body
+    == count then Ok (record { kind = kind; body = body }) else Err (ended (at + 5 + length body))
 
 -- so many bytes at the front, fewer only where no more come
 abbrev pub take_at : ℕ → List ℕ → Result (List ℕ × List ℕ) Fault

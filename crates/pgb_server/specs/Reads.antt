@@ -35,7 +35,8 @@ IsOutside (faults.TooLong length) = ⊥
 IsOutside (faults.TooMany limit) = ⊥
 
 -- the same of what was pending, where that is told: after an Ok what stands behind is pending
-abbrev pub Reads : {X Y : Type 0} → (X → Y) → Result X ServerFault → Option (List ℕ) → Option (List ℕ) → (List ℕ → Result (Y × List ℕ) Fault) → Type 0
+abbrev pub Reads : {X Y : Type 0} → (X → Y) → Result X ServerFault → Option (List ℕ) → Option (List ℕ)
+    → (List ℕ → Result (Y × List ℕ) Fault) → Type 0
 Reads view (Ok x) old new read = option_map read old ≡ option_map (λ rest. Ok (view x, rest)) new
 Reads view (Err e) old new read = IfSome (option_map read old) (Fails e)
 

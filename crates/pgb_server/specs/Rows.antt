@@ -1,4 +1,5 @@
--- What the rows of the queries tell (PostgreSQL manual, "System Information Functions" and "System Administration Functions").
+-- What the rows of the queries tell (PostgreSQL manual, "System Information Functions" and "System Administration
+-- Functions").
 use Rattle.std.specs.Prelude.{◌≡◌, ◌≢◌, ◌<◌, ◌^◌, ◌⊎◌, ℕ, Bool, true, false, List, [], ◌∷◌, Option, Some, unwrap_or, IfSome, Result, Ok, Err, codes, decimal}
 use Rattle.pgb_model.specs.Text.{Text}
 use Rattle.pgb_model.specs.declared.wal.Segment.{Segment}
@@ -73,12 +74,15 @@ Told view (Ok x) Tells = Tells (Ok (view x))
 Told {Y} view (Err e) Tells = IsOutside e ⊎ ((outcome : Result Y Fault) × Tells outcome × Fails e outcome)
 
 -- a fault of the talk, or one that its row tells
-pub data Refuses {Y : Type 0} (e : ServerFault) (read : Result (Talk × List ℕ) Fault) (Tells : Talk → Result Y Fault → Type 0) : Type 0 where
+pub data Refuses {Y : Type 0} (e : ServerFault) (read : Result (Talk × List ℕ) Fault)
+    (Tells : Talk → Result Y Fault → Type 0) : Type 0 where
   by_talk : Fails e read → Refuses e read Tells
-  by_row : (t : Talk) (rest : List ℕ) → read ≡ Ok (t, rest) → (outcome : Result Y Fault) → Tells t outcome → Fails e outcome → Refuses e read Tells
+  by_row : (t : Talk) (rest : List ℕ) → read ≡ Ok (t, rest) → (outcome : Result Y Fault) → Tells t outcome
+      → Fails e outcome → Refuses e read Tells
 
 -- the row of a talk, behind which this much was taken and this is pending
-pub record Rows {Y : Type 0} (read : Result (Talk × List ℕ) Fault) (taken : Taken) (new : Option (List ℕ)) (Tells : Talk → Result Y Fault → Type 0) (outcome : Result Y Fault) : Type 0 where
+pub record Rows {Y : Type 0} (read : Result (Talk × List ℕ) Fault) (taken : Taken) (new : Option (List ℕ))
+    (Tells : Talk → Result Y Fault → Type 0) (outcome : Result Y Fault) : Type 0 where
   pub talk : Talk
   pub rest : List ℕ
   pub is : read ≡ Ok (talk, rest)
@@ -87,6 +91,7 @@ pub record Rows {Y : Type 0} (read : Result (Talk × List ℕ) Fault) (taken : T
   pub tells : Tells talk outcome
 
 -- an answer to a query, by what was pending, where that is told
-abbrev pub Answers : {X Y : Type 0} → (X → Y) → Result X ServerFault → Taken → Option (List ℕ) → Option (List ℕ) → (List ℕ → Result (Talk × List ℕ) Fault) → (Talk → Result Y Fault → Type 0) → Type 0
+abbrev pub Answers : {X Y : Type 0} → (X → Y) → Result X ServerFault → Taken → Option (List ℕ) → Option (List ℕ)
+    → (List ℕ → Result (Talk × List ℕ) Fault) → (Talk → Result Y Fault → Type 0) → Type 0
 Answers view (Ok x) taken old new read Tells = IfSome old (λ s. Rows (read s) taken new Tells (Ok (view x)))
 Answers view (Err e) taken old new read Tells = IfSome old (λ s. Refuses e (read s) Tells)

@@ -5,7 +5,8 @@ use Rattle.pgb_model.specs.Text.{Text}
 
 -- protocol 3.0, then user and database: names and values that end with 0, and a last 0
 abbrev pub startup_body : Text → Text → List ℕ
-startup_body user database = to_be_bytes w32 196608 ++ (117 ∷ 115 ∷ 101 ∷ 114 ∷ 0 ∷ []) ++ user ++ (0 ∷ 100 ∷ 97 ∷ 116 ∷ 97 ∷ 98 ∷ 97 ∷ 115 ∷ 101 ∷ 0 ∷ []) ++ database ++ (0 ∷ 0 ∷ [])
+startup_body user database = to_be_bytes w32 196608 ++ (117 ∷ 115 ∷ 101 ∷ 114 ∷ 0 ∷ []) ++ user
+    ++ (0 ∷ 100 ∷ 97 ∷ 116 ∷ 97 ∷ 98 ∷ 97 ∷ 115 ∷ 101 ∷ 0 ∷ []) ++ database ++ (0 ∷ 0 ∷ [])
 
 -- the first message has no kind
 unfoldable pub startup_of : Text → Text → List ℕ

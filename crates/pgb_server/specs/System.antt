@@ -15,11 +15,15 @@ questions user database = startup_of user database ++ (query_of system_query ++ 
 abbrev pub system_at : Taken → List ℕ → Result (Talk × List ℕ) Fault
 system_at taken s = answer_at 2 taken s
 
--- What all the bytes of a server tell, where this system is kept, whatever the pieces in which they come: the size of its segments, or the first fault.
+-- What all the bytes of a server tell, where this system is kept, whatever the pieces in which they come: the size of
+-- its segments, or the first fault.
 pub data Tells (kept : ℕ) (bytes : List ℕ) : Result ℕ Fault → Type 0 where
   -- it grants no session
   unopened : (fault : Fault) → start_at bytes ≡ Err fault → Tells kept bytes (Err fault)
   -- what follows is no row
-  unanswered : (taken : Taken) (rest : List ℕ) (fault : Fault) → start_at bytes ≡ Ok (taken, rest) → system_at taken rest ≡ Err fault → Tells kept bytes (Err fault)
+  unanswered : (taken : Taken) (rest : List ℕ) (fault : Fault) → start_at bytes ≡ Ok (taken, rest)
+      → system_at taken rest ≡ Err fault → Tells kept bytes (Err fault)
   -- a row
-  answered : (taken : Taken) (rest behind : List ℕ) (talk : Talk) (outcome : Result ℕ Fault) → start_at bytes ≡ Ok (taken, rest) → system_at taken rest ≡ Ok (talk, behind) → SystemOutcome kept talk outcome → Tells kept bytes outcome
+  answered : (taken : Taken) (rest behind : List ℕ) (talk : Talk) (outcome : Result ℕ Fault)
+      → start_at bytes ≡ Ok (taken, rest) → system_at taken rest ≡ Ok (talk, behind) → SystemOutcome kept talk outcome
+      → Tells kept bytes outcome

@@ -31,7 +31,9 @@ goes_on t phase taken = record { phase = phase; row = t.row; row_end = t.row_end
 
 -- code 0 asks for no password, and stands alone; a shorter body was refused by its length
 abbrev pub granted : Talk → List ℕ → Result Taken Fault
-granted t body = if nat_lt (length body) 4 then Err (form (t.taken.bytes + 1)) else if from_be_bytes w32 (take 4 body) == 0 then (if length body == 4 then Ok (behind t.taken body) else Err (form (t.taken.bytes + 9))) else Err (auth (from_be_bytes w32 (take 4 body)))
+granted t body = if nat_lt (length body) 4 then Err (form (t.taken.bytes + 1)) else if from_be_bytes w32 (take 4 body)
+    == 0 then (if length body == 4 then Ok (behind t.taken body) else Err (form (t.taken.bytes + 9))) else Err
+    (auth (from_be_bytes w32 (take 4 body)))
 
 abbrev pub hear_granted : Talk → List ℕ → Result Talk Fault
 hear_granted t body = granted t body >>= λ taken. Ok (goes_on t Settled taken)
@@ -40,14 +42,17 @@ abbrev pub hear_due : ℕ → Phase → Talk → Message → Result Talk Fault
 hear_due columns Granted t m = hear_granted t m.body
 hear_due columns Settled t m = Ok (goes_on t Over (behind t.taken m.body))
 hear_due columns Heading t m = Ok (goes_on t Row (behind t.taken m.body))
-hear_due columns Row t m = cells columns (t.taken.bytes + 5) m.body >>= λ row. Ok (record { phase = Complete; row = row; row_end = t.taken.bytes + 5 + length m.body; taken = behind t.taken m.body })
-hear_due columns Complete t m = if is_one_text m.body then Ok (goes_on t Ready (behind t.taken m.body)) else Err (form (t.taken.bytes + 5))
+hear_due columns Row t m = cells columns (t.taken.bytes + 5) m.body >>= λ row. Ok
+    (record { phase = Complete; row = row; row_end = t.taken.bytes + 5 + length m.body; taken = behind t.taken m.body })
+hear_due columns Complete t m = if is_one_text m.body then Ok (goes_on t Ready (behind t.taken m.body)) else Err
+    (form (t.taken.bytes + 5))
 hear_due columns Ready t m = Ok (goes_on t Over (behind t.taken m.body))
 hear_due columns Over t m = Err (form t.taken.bytes)
 
 -- one message more: E ends the talk with its code (C) and its text (M)
 abbrev pub hear : ℕ → Talk → Message → Result Talk Fault
-hear columns t m = if is_aside t.phase m.kind then Ok (goes_on t t.phase (behind t.taken m.body)) else if m.kind == 69 then Err (said (field 67 m.body) (field 77 m.body)) else hear_due columns t.phase t m
+hear columns t m = if is_aside t.phase m.kind then Ok (goes_on t t.phase (behind t.taken m.body)) else if m.kind
+    == 69 then Err (said (field 67 m.body) (field 77 m.body)) else hear_due columns t.phase t m
 
 abbrev pub is_over : Phase → Bool
 is_over Granted = false
@@ -61,7 +66,8 @@ is_over Over = true
 -- the talk of at most so many messages, and what stands behind it
 unfoldable pub run : ℕ → ℕ → Talk → List ℕ → Result (Talk × List ℕ) Fault
 run zero columns t s = if is_over t.phase then Ok (t, s) else Err (too_many 1000000)
-run (suc n) columns t s = if is_over t.phase then Ok (t, s) else (message_at t.phase t.taken.bytes s >>= λ m. hear columns t m.0 >>= λ u. run n columns u m.1)
+run (suc n) columns t s = if is_over t.phase then Ok
+    (t, s) else (message_at t.phase t.taken.bytes s >>= λ m. hear columns t m.0 >>= λ u. run n columns u m.1)
 
 abbrev pub talk_from : Phase → Taken → Talk
 talk_from phase taken = record { phase = phase; row = []; row_end = 0; taken = taken }

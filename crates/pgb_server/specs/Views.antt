@@ -26,7 +26,17 @@ abbrev pub session_view : code_session.Session → Taken
 session_view s = record { bytes = s.taken; messages = s.messages }
 
 abbrev pub talk_view : code_talk.Talk → Talk
-talk_view t = record { phase = t.phase; row = cells_view t.row.items; row_end = t.row_end; taken = session_view t.session }
+talk_view t = record {
+  phase = t.phase;
+  row = cells_view t.row.items;
+  row_end = t.row_end;
+  taken = session_view t.session;
+}
 
 abbrev pub stopped_view : code_stopped.Stopped → Stop
-stopped_view s = record { lsn = s.lsn.0; segment = s.segment; label_file = string_bytes s.label_file; map_file = string_bytes s.map_file }
+stopped_view s = record {
+  lsn = s.lsn.0;
+  segment = s.segment;
+  label_file = string_bytes s.label_file;
+  map_file = string_bytes s.map_file;
+}

@@ -14,7 +14,8 @@ pub enum ServerFault {
     ServerSaid { code: String, text: String },
     /// The server asks for a password of this kind.
     AuthUnsupported { code: u32 },
-    /// The first byte of the first field that breaks a rule: of a kind, a length, a count, a column's length or text, or of bytes behind the last.
+    /// The first byte of the first field that breaks a rule: of a kind, a length, a count, a column's length or text,
+    /// or of bytes behind the last.
     ServerForm { at: u64 },
     /// The connection ended here.
     ServerEnded { at: u64 },

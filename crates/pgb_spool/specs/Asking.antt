@@ -27,13 +27,16 @@ IsMarkName stanza name n = (n ≡ receipt_name stanza name) ⊎ (n ≡ refusal_n
 
 -- f has the mark that the file was refused so
 abbrev pub HasRefusal : Text → Content → ArchiveName → ℕ → Text → Type 0
-HasRefusal stanza f name code line = (code < 2 ^ 32) × (is_utf8 line ≡ true) × (f (refusal_name stanza name) ≡ Some (refusal_text code line))
+HasRefusal stanza f name code line = (code < 2 ^ 32) × (is_utf8 line ≡ true)
+    × (f (refusal_name stanza name) ≡ Some (refusal_text code line))
 
 -- what f says of a file with this sum: a receipt of it comes first, and then a refusal
 abbrev pub Answers : Text → Content → ArchiveName → Text → Asked → Type 0
 Answers stanza f name sum Done = HasReceipt stanza f name sum
-Answers stanza f name sum NotYet = ¬ HasReceipt stanza f name sum × ((code : ℕ) (line : Text) → ¬ HasRefusal stanza f name code line)
-Answers stanza f name sum (Reported code text) = ¬ HasReceipt stanza f name sum × HasRefusal stanza f name code (string_bytes text)
+Answers stanza f name sum NotYet = ¬ HasReceipt stanza f name sum
+    × ((code : ℕ) (line : Text) → ¬ HasRefusal stanza f name code line)
+Answers stanza f name sum (Reported code text) = ¬ HasReceipt stanza f name sum
+    × HasRefusal stanza f name code (string_bytes text)
 
 -- the limit is 1 MiB, and at one of these names stand more bytes
 abbrev pub IsLong : (Name → Type 0) → Option Content → Name → ℕ → Type 0

@@ -42,6 +42,7 @@ AddsMarks stanza files n v = (name : ArchiveName) → IsWalName name → n ≡ r
 abbrev pub IsNoReceipt : Text → Name → Type 0
 IsNoReceipt stanza n = (name : ArchiveName) → IsWalName name → n ≢ receipt_name stanza name
 
--- At each moment what a crash leaves at the name of a receipt is what it might have left before, nothing, or the receipt of one of these files. No receipt becomes loose.
+-- At each moment what a crash leaves at the name of a receipt is what it might have left before, nothing, or the
+-- receipt of one of these files. No receipt becomes loose.
 abbrev pub GivesMarks : Text → List Named → View → View → Type 0
 GivesMarks stanza files old new = Goes (AddsMarks stanza files) (IsNoReceipt stanza) old new

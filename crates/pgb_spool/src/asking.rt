@@ -25,7 +25,8 @@ use std::alloc::Global;
 // A mark has at most 1 MiB.
 const MARK_LIMIT: u64 = 1 << 20;
 
-/// What the spool says of a file: it was stored with this sum, nothing yet, or it was refused with this status and line.
+/// What the spool says of a file: it was stored with this sum, nothing yet, or it was refused with this status and
+/// line.
 #[derive(Debug, PartialEq, Eq, Drop)]
 pub enum Asked {
     Done,

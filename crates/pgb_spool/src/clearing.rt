@@ -103,7 +103,8 @@ fn clear_each<S: Disk>(
     Ok(())
 }
 
-/// Takes away each refusal, and each receipt of a file that isn't among these. It settles nothing: a crash may leave them.
+/// Takes away each refusal, and each receipt of a file that isn't among these. It settles nothing: a crash may leave
+/// them.
 pub fn clear_marks<S: Disk>(
     alloc: Global,
     spool: &mut S,

@@ -40,7 +40,8 @@ turns_of other = Reading
 
 -- g stands for a sound repository, r after a part of the command's steps
 abbrev pub IsPart : Text → Command → Repository → Content → Type 0
-IsPart stanza command r g = (done : List Step) × IsPartOf done (steps_of command r) × Stands stanza g (after r done) × IsSound (after r done)
+IsPart stanza command r g = (done : List Step) × IsPartOf done (steps_of command r) × Stands stanza g (after r done)
+    × IsSound (after r done)
 
 -- ---- where names were settled before
 
@@ -50,30 +51,36 @@ PartEach stanza command f g = (r : Repository) → Stands stanza f r → IsSound
 
 -- g stands for a sound repository, r after all of the command's steps
 abbrev pub IsWhole : Text → Command → Repository → Content → Type 0
-IsWhole stanza command r g = Stands stanza g (after r (all_of (steps_of command r))) × IsSound (after r (all_of (steps_of command r)))
+IsWhole stanza command r g = Stands stanza g (after r (all_of (steps_of command r)))
+    × IsSound (after r (all_of (steps_of command r)))
 
 abbrev pub WholeEach : Text → Command → Content → Content → Type 0
 WholeEach stanza command f g = (r : Repository) → Stands stanza f r → IsSound r → IsWhole stanza command r g
 
 -- all that a crash leaves has the value of the archive pair that the disk has
 abbrev pub PairAlike : Text → View → Type 0
-PairAlike stanza v = (f g : Content) (x : ArchiveInfo) → v.now ≡ Some f → Leaves v v.moment g → HasValue stanza f x → HasValue stanza g x
+PairAlike stanza v = (f g : Content) (x : ArchiveInfo) → v.now ≡ Some f → Leaves v v.moment g → HasValue stanza f x
+    → HasValue stanza g x
 
--- What a command begins from that settles what it looks at alone: no name that is looked at is loose, the disk stands for a repository, and all that a crash leaves has its archive pair.
+-- What a command begins from that settles what it looks at alone: no name that is looked at is loose, the disk stands
+-- for a repository, and all that a crash leaves has its archive pair.
 pub record IsLookedAt (stanza : Text) (v : View) : Type 0 where
   pub tight : IsTight stanza v
   pub now : StandsNow stanza v
   pub pair : PairAlike stanza v
 
--- At each moment all that may be left comes by a part of the command: from the one repository, or each from what might have been left before.
+-- At each moment all that may be left comes by a part of the command: from the one repository, or each from what might
+-- have been left before.
 abbrev pub Goes : Settling → Text → Command → View → View → Type 0
-Goes Whole stanza command repo new_repo = (r : Repository) → IsSome repo.now → IsSteady stanza r repo → IsSound r → Moves stanza (IsPart stanza command r) repo new_repo
+Goes Whole stanza command repo new_repo = (r : Repository) → IsSome repo.now → IsSteady stanza r repo → IsSound r
+    → Moves stanza (IsPart stanza command r) repo new_repo
 Goes Looked stanza command repo new_repo = IsLookedAt stanza repo → Walks stanza (PartEach stanza command) repo new_repo
 
 -- at the end it comes by all of the command
 abbrev pub Comes : Settling → Text → Command → View → View → Type 0
 Comes Whole stanza command repo new_repo =
-    (r : Repository) → IsSome repo.now → IsSteady stanza r repo → IsSound r → IsSteady stanza (after r (all_of (steps_of command r))) new_repo × IsSound (after r (all_of (steps_of command r)))
+    (r : Repository) → IsSome repo.now → IsSteady stanza r repo → IsSound r
+    → IsSteady stanza (after r (all_of (steps_of command r))) new_repo × IsSound (after r (all_of (steps_of command r)))
 Comes Looked stanza command repo new_repo = IsLookedAt stanza repo → Ends (WholeEach stanza command) repo new_repo
 
 -- a part of the command, at each moment
@@ -86,8 +93,10 @@ pub record DoesWhole (how : Settling) (stanza : Text) (command : Command) (repo 
   pub done : NowDoes stanza command true repo.now new_repo.now
   pub ends : Comes how stanza command repo new_repo
 
--- What a command's own part does to the repository: a part of its steps; all of them where it comes to its end; and none but its turns where it is refused before its first step.
-pub record Does (how : Settling) (stanza : Text) (command : Command) (reached : Reached) (repo new_repo : View) : Type 0 where
+-- What a command's own part does to the repository: a part of its steps; all of them where it comes to its end; and
+-- none but its turns where it is refused before its first step.
+pub record Does (how : Settling) (stanza : Text) (command : Command) (reached : Reached) (repo new_repo : View) : Type
+    0 where
   pub part : DoesPart how stanza command repo new_repo
   pub whole : OnAll reached (DoesWhole how stanza command repo new_repo)
   pub turned : OnNone reached (DoesPart how stanza (turns_of command) repo new_repo)
@@ -100,30 +109,41 @@ pub record Past (old new : View) : Type 0 where
   pub kept : (t : ℕ) (n : Name) (v : Value) → t ≤ old.moment → new.kept t n v → old.kept t n v
   pub loose : (t : ℕ) (n : Name) → t ≤ old.moment → new.loose t n ≡ old.loose t n
 
--- what the repository's disk is as a command's own part begins: steady at one repository that the log reaches; or it keeps the log
+-- what the repository's disk is as a command's own part begins: steady at one repository that the log reaches; or it
+-- keeps the log
 abbrev pub BeginsWith : Settling → Text → Repository → List Done → View → Type 0
 BeginsWith Whole stanza q log repo = IsBegun stanza q log repo
 BeginsWith Looked stanza q log repo = KeepsRepository stanza q log repo
 
--- Where the two disks begin with a log, the spool keeps it with the command; and at each moment each receipt that the spool has, or a stop leaves, is of a file that the log with a part of the command has stored.
-pub record SpoolGoes (how : Settling) (stanza : Text) (command : Command) (whole : Bool) (repo spool new_spool : View) : Type 0 where
+-- Where the two disks begin with a log, the spool keeps it with the command; and at each moment each receipt that the
+-- spool has, or a stop leaves, is of a file that the log with a part of the command has stored.
+pub record SpoolGoes (how : Settling) (stanza : Text) (command : Command) (whole : Bool)
+    (repo spool new_spool : View) : Type 0 where
   pub told : IsSome spool.now → IsSome new_spool.now
   pub past : Past spool new_spool
-  pub keeps : (q : Repository) (log : List Done) → IsSome repo.now → IsSome spool.now → BeginsWith how stanza q log repo → KeepsSpool stanza q log spool → KeepsSpool stanza q (record { command = command; acknowledged = whole } ∷ log) new_spool
-  pub between : (q : Repository) (log : List Done) → IsSome repo.now → IsSome spool.now → BeginsWith how stanza q log repo → KeepsSpool stanza q log spool → LeavesOnly (HasReceiptsOf stanza q (record { command = command; acknowledged = false } ∷ log)) spool new_spool
+  pub keeps : (q : Repository) (log : List Done) → IsSome repo.now → IsSome spool.now → BeginsWith how stanza q log repo
+      → KeepsSpool stanza q log spool → KeepsSpool stanza q (record { command = command; acknowledged = whole } ∷ log)
+      new_spool
+  pub between : (q : Repository) (log : List Done) → IsSome repo.now → IsSome spool.now
+      → BeginsWith how stanza q log repo → KeepsSpool stanza q log spool
+      → LeavesOnly (HasReceiptsOf stanza q (record { command = command; acknowledged = false } ∷ log)) spool new_spool
 
 -- a part of the command, at each moment
-pub record RunsPart (how : Settling) (stanza : Text) (command : Command) (repo spool new_repo new_spool : View) : Type 0 where
+pub record RunsPart (how : Settling) (stanza : Text) (command : Command) (repo spool new_repo new_spool : View) : Type
+    0 where
   pub does : DoesPart how stanza command repo new_repo
   pub marks : SpoolGoes how stanza command false repo spool new_spool
 
 -- all of it
-pub record RunsWhole (how : Settling) (stanza : Text) (command : Command) (repo spool new_repo new_spool : View) : Type 0 where
+pub record RunsWhole (how : Settling) (stanza : Text) (command : Command) (repo spool new_repo new_spool : View) : Type
+    0 where
   pub does : DoesWhole how stanza command repo new_repo
   pub marks : SpoolGoes how stanza command true repo spool new_spool
 
--- What a command's own part does: a part of its steps; all of them where it comes to its end; and none but its turns where it is refused.
-pub record Runs (how : Settling) (stanza : Text) (command : Command) (reached : Reached) (repo spool new_repo new_spool : View) : Type 0 where
+-- What a command's own part does: a part of its steps; all of them where it comes to its end; and none but its turns
+-- where it is refused.
+pub record Runs (how : Settling) (stanza : Text) (command : Command) (reached : Reached)
+    (repo spool new_repo new_spool : View) : Type 0 where
   pub part : RunsPart how stanza command repo spool new_repo new_spool
   pub whole : OnAll reached (RunsWhole how stanza command repo spool new_repo new_spool)
   pub turned : OnNone reached (RunsPart how stanza (turns_of command) repo spool new_repo new_spool)
@@ -132,30 +152,39 @@ pub record Runs (how : Settling) (stanza : Text) (command : Command) (reached : 
 
 -- where a log is kept, all that may be left at each moment stands for the log with a part of the command
 pub record Passes (stanza : Text) (command : Command) (old new : View) : Type 0 where
-  pub between : (q : Repository) (log : List Done) → IsSome old.now → KeepsRepository stanza q log old → Past old new × LeavesOnly (StandsAfter stanza q (record { command = command; acknowledged = false } ∷ log)) old new
+  pub between : (q : Repository) (log : List Done) → IsSome old.now → KeepsRepository stanza q log old
+      → Past old new × LeavesOnly (StandsAfter stanza q (record { command = command; acknowledged = false } ∷ log)) old
+      new
 
--- where the two disks keep a log, all that a stop leaves of the spool at each moment has receipts of the log with a part of the command
+-- where the two disks keep a log, all that a stop leaves of the spool at each moment has receipts of the log with a
+-- part of the command
 pub record PassesReceipts (stanza : Text) (command : Command) (repo spool new_spool : View) : Type 0 where
   pub past : Past spool new_spool
-  pub between : (q : Repository) (log : List Done) → IsSome repo.now → IsSome spool.now → Keeps stanza q log repo spool → LeavesOnly (HasReceiptsOf stanza q (record { command = command; acknowledged = false } ∷ log)) spool new_spool
+  pub between : (q : Repository) (log : List Done) → IsSome repo.now → IsSome spool.now → Keeps stanza q log repo spool
+      → LeavesOnly (HasReceiptsOf stanza q (record { command = command; acknowledged = false } ∷ log)) spool new_spool
 
 -- what the disks hold and all that a stop leaves go on by this
-pub record Leads (stanza : Text) (command : Command) (whole : Bool) (repo spool new_repo new_spool : View) : Type 0 where
+pub record Leads (stanza : Text) (command : Command) (whole : Bool) (repo spool new_repo new_spool : View) : Type
+    0 where
   pub now : NowDoes stanza command whole repo.now new_repo.now
   pub spool_told : IsSome spool.now → IsSome new_spool.now
   pub keeps : IsSome spool.now → KeepsOn stanza command whole repo spool new_repo new_spool
 
--- where a log is kept, the disk is steady at one repository, which the log with the whole command reaches: all that a stop leaves stands for it
+-- where a log is kept, the disk is steady at one repository, which the log with the whole command reaches: all that a
+-- stop leaves stands for it
 pub record EndsAtOne (stanza : Text) (command : Command) (old new : View) : Type 0 where
-  pub begun : (q : Repository) (log : List Done) → IsSome old.now → KeepsRepository stanza q log old → IsBegun stanza q (record { command = command; acknowledged = true } ∷ log) new
+  pub begun : (q : Repository) (log : List Done) → IsSome old.now → KeepsRepository stanza q log old
+      → IsBegun stanza q (record { command = command; acknowledged = true } ∷ log) new
 
 -- this holds where the whole stanza was settled
 abbrev pub OnWhole : Settling → Type 0 → Type 0
 OnWhole Whole P = P
 OnWhole Looked P = Unit {0}
 
--- What a command does: a part of its steps after every answer and at each moment, all of them where it came to its end, and none but its turns where it was refused.
-pub record Takes (how : Settling) (stanza : Text) (command : Command) (reached : Reached) (repo spool new_repo new_spool : View) : Type 0 where
+-- What a command does: a part of its steps after every answer and at each moment, all of them where it came to its end,
+-- and none but its turns where it was refused.
+pub record Takes (how : Settling) (stanza : Text) (command : Command) (reached : Reached)
+    (repo spool new_repo new_spool : View) : Type 0 where
   pub part : Leads stanza command false repo spool new_repo new_spool
   pub between : Passes stanza command repo new_repo
   pub receipts : PassesReceipts stanza command repo spool new_spool
@@ -169,18 +198,23 @@ pub record Takes (how : Settling) (stanza : Text) (command : Command) (reached :
 pub record Quiet (stanza : Text) (old new : View) : Type 0 where
   pub now : NowDoes stanza Reading true old.now new.now
   pub beside : StaysBeside stanza old new
-  pub keeps : (q : Repository) (log : List Done) → IsSome old.now → KeepsRepository stanza q log old → KeepsRepository stanza q log new
-  pub between : (q : Repository) (log : List Done) → IsSome old.now → KeepsRepository stanza q log old → Past old new × LeavesOnly (StandsAfter stanza q log) old new
+  pub keeps : (q : Repository) (log : List Done) → IsSome old.now → KeepsRepository stanza q log old
+      → KeepsRepository stanza q log new
+  pub between : (q : Repository) (log : List Done) → IsSome old.now → KeepsRepository stanza q log old
+      → Past old new × LeavesOnly (StandsAfter stanza q log) old new
 
--- What the reading or healing of the pairs does: whatever each content that may be left came from stood for, it stands for it. It keeps to the stanza.
+-- What the reading or healing of the pairs does: whatever each content that may be left came from stood for, it stands
+-- for it. It keeps to the stanza.
 pub record Mends (stanza : Text) (old new : View) : Type 0 where
   pub now : NowDoes stanza Reading true old.now new.now
   pub beside : StaysBeside stanza old new
   pub walks : IsLookedAt stanza old → Walks stanza (StandsStill stanza) old new
 
--- What a command's own part can begin from, behind the stages: a disk that is steady at one repository, or one of which all that a crash leaves has the same archive pair.
+-- What a command's own part can begin from, behind the stages: a disk that is steady at one repository, or one of which
+-- all that a crash leaves has the same archive pair.
 abbrev pub Begins : Settling → Text → View → View → Type 0
-Begins Whole stanza old new = (q : Repository) (log : List Done) → KeepsRepository stanza q log old → IsSome old.now → IsBegun stanza q log new
+Begins Whole stanza old new = (q : Repository) (log : List Done) → KeepsRepository stanza q log old → IsSome old.now
+    → IsBegun stanza q log new
 Begins Looked stanza old new = IsTight stanza old → IsSome old.now → PairAlike stanza new
 
 -- ---- which command

@@ -1,5 +1,6 @@
-//! Stands in for a server, for tests: it serves one connection on the Unix socket of the path that it is given, by fixed
-//! answers. It writes the line `ready` once it listens, and ends with 0 where its client ended the talk, else with 1.
+//! Stands in for a server, for tests: it serves one connection on the Unix socket of the path that it is given, by
+//! fixed answers. It writes the line `ready` once it listens, and ends with 0 where its client ended the talk, else
+//! with 1.
 //!
 //! What is proved, by the contract of the function that is named:
 //!

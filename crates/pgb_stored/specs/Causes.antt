@@ -51,16 +51,22 @@ limit_of (Backup segment offset) = 2 ^ 20
 
 -- f stores the file with one sum alone, at this path, and it is longer than the limit
 abbrev pub StoresLong : Text → ArchiveId → ArchiveName → Content → Text → ℕ → Type 0
-StoresLong stanza id name f path limit = (sum : Text) × StoresOnly stanza id name f sum × (path ≡ archive_path stanza id name sum) × IsSomeAnd (f path) (λ bytes. limit < length bytes)
+StoresLong stanza id name f path limit = (sum : Text) × StoresOnly stanza id name f sum
+    × (path ≡ archive_path stanza id name sum) × IsSomeAnd (f path) (λ bytes. limit < length bytes)
 
 -- why a file isn't stored, from its bytes, from what the disk held, and from whether the disk's count of faults rose
 abbrev pub PushCause : Text → ArchiveId → ArchiveName → ℕ → Text → Option Content → Type 0 → ArchiveFault → Type 0
 PushCause stanza id name system bytes now rose (HeaderForm info) = HeaderCause name bytes system (HeaderForm info)
-PushCause stanza id name system bytes now rose (SegmentSize told found) = HeaderCause name bytes system (SegmentSize told found)
-PushCause stanza id name system bytes now rose (HeaderMismatch kept found) = HeaderCause name bytes system (HeaderMismatch kept found)
-PushCause stanza id name system bytes now rose (Ambiguous first second) = IsFileOf name bytes system × IfSome now (λ f. StoresTwo stanza id name f (string_bytes first) (string_bytes second))
-PushCause stanza id name system bytes now rose (Duplicate kept found) = IsFileOf name bytes system × (found.0 ≡ sha1 bytes) × (found.0 ≢ kept.0) × IfSome now (λ f. StoresOnly stanza id name f kept.0)
-PushCause stanza id name system bytes now rose (TooLong path limit) = ¬ HasHeader name × (limit ≡ limit_of name) × IfSome now (λ f. StoresLong stanza id name f (string_bytes path) limit)
+PushCause stanza id name system bytes now rose (SegmentSize told found) =
+    HeaderCause name bytes system (SegmentSize told found)
+PushCause stanza id name system bytes now rose (HeaderMismatch kept found) =
+    HeaderCause name bytes system (HeaderMismatch kept found)
+PushCause stanza id name system bytes now rose (Ambiguous first second) = IsFileOf name bytes system
+    × IfSome now (λ f. StoresTwo stanza id name f (string_bytes first) (string_bytes second))
+PushCause stanza id name system bytes now rose (Duplicate kept found) = IsFileOf name bytes system
+    × (found.0 ≡ sha1 bytes) × (found.0 ≢ kept.0) × IfSome now (λ f. StoresOnly stanza id name f kept.0)
+PushCause stanza id name system bytes now rose (TooLong path limit) = ¬ HasHeader name × (limit ≡ limit_of name)
+    × IfSome now (λ f. StoresLong stanza id name f (string_bytes path) limit)
 PushCause stanza id name system bytes now rose Disk = IsFileOf name bytes system × rose
 PushCause stanza id name system bytes now rose NoMemory = IsFileOf name bytes system
 PushCause stanza id name system bytes now rose fault = ⊥
@@ -68,7 +74,8 @@ PushCause stanza id name system bytes now rose fault = ⊥
 -- ---- a file that is got
 
 -- f stores the file with one sum alone, and at its path these bytes
-pub record StoresBytes (stanza : Text) (id : ArchiveId) (name : ArchiveName) (f : Content) (sum bytes : Text) : Type 0 where
+pub record StoresBytes (stanza : Text) (id : ArchiveId) (name : ArchiveName) (f : Content) (sum bytes : Text) : Type
+    0 where
   pub only : StoresOnly stanza id name f sum
   pub lies : f (archive_path stanza id name sum) ≡ Some bytes
 
@@ -78,10 +85,13 @@ IsDamaged stanza id name f told found = (bytes : Text) × StoresBytes stanza id 
 
 -- why a file isn't got
 abbrev pub GetCause : Text → ArchiveId → ArchiveName → Option Content → Type 0 → ArchiveFault → Type 0
-GetCause stanza id name now rose (Ambiguous first second) = IfSome now (λ f. StoresTwo stanza id name f (string_bytes first) (string_bytes second))
+GetCause stanza id name now rose (Ambiguous first second) =
+    IfSome now (λ f. StoresTwo stanza id name f (string_bytes first) (string_bytes second))
 GetCause stanza id name now rose NotFound = IfSome now (StoresNone stanza id name)
-GetCause stanza id name now rose (SegmentDamaged told found) = (found.0 ≢ told.0) × IfSome now (λ f. IsDamaged stanza id name f told.0 found.0)
-GetCause stanza id name now rose (TooLong path limit) = (limit ≡ limit_of name) × IfSome now (λ f. StoresLong stanza id name f (string_bytes path) limit)
+GetCause stanza id name now rose (SegmentDamaged told found) = (found.0 ≢ told.0)
+    × IfSome now (λ f. IsDamaged stanza id name f told.0 found.0)
+GetCause stanza id name now rose (TooLong path limit) = (limit ≡ limit_of name)
+    × IfSome now (λ f. StoresLong stanza id name f (string_bytes path) limit)
 GetCause stanza id name now rose Disk = rose
 GetCause stanza id name now rose NoMemory = Unit {0}
 GetCause stanza id name now rose fault = ⊥
@@ -93,8 +103,10 @@ IsUnarchived id name files = (a : Archived) → In a files → a.id ≡ id → a
 -- why a path that was found isn't read
 abbrev pub ReadCause : Kept → Option Content → Type 0 → ArchiveFault → Type 0
 ReadCause kept now rose NotFound = IfSome now (λ f. f (string_bytes kept.path) ≡ None)
-ReadCause kept now rose (SegmentDamaged told found) = (told.0 ≡ kept.sum.0) × (found.0 ≢ told.0) × IfSome now (λ f. IsSomeAnd (f (string_bytes kept.path)) (λ bytes. sha1 bytes ≡ found.0))
-ReadCause kept now rose (TooLong path limit) = (string_bytes path ≡ string_bytes kept.path) × (limit ≡ 2 ^ 30) × IfSome now (λ f. IsSomeAnd (f (string_bytes kept.path)) (λ bytes. limit < length bytes))
+ReadCause kept now rose (SegmentDamaged told found) = (told.0 ≡ kept.sum.0) × (found.0 ≢ told.0)
+    × IfSome now (λ f. IsSomeAnd (f (string_bytes kept.path)) (λ bytes. sha1 bytes ≡ found.0))
+ReadCause kept now rose (TooLong path limit) = (string_bytes path ≡ string_bytes kept.path) × (limit ≡ 2 ^ 30)
+    × IfSome now (λ f. IsSomeAnd (f (string_bytes kept.path)) (λ bytes. limit < length bytes))
 ReadCause kept now rose Disk = rose
 ReadCause kept now rose NoMemory = Unit {0}
 ReadCause kept now rose fault = ⊥
@@ -103,8 +115,10 @@ ReadCause kept now rose fault = ⊥
 
 -- why it isn't told whether a file is stored
 abbrev pub PresentCause : Text → ArchiveId → ArchiveName → Option Content → Type 0 → ArchiveFault → Type 0
-PresentCause stanza id name now rose (Ambiguous first second) = IfSome now (λ f. StoresTwo stanza id name f (string_bytes first) (string_bytes second))
-PresentCause stanza id name now rose (TooLong path limit) = ¬ HasHeader name × (limit ≡ limit_of name) × IfSome now (λ f. StoresLong stanza id name f (string_bytes path) limit)
+PresentCause stanza id name now rose (Ambiguous first second) =
+    IfSome now (λ f. StoresTwo stanza id name f (string_bytes first) (string_bytes second))
+PresentCause stanza id name now rose (TooLong path limit) = ¬ HasHeader name × (limit ≡ limit_of name)
+    × IfSome now (λ f. StoresLong stanza id name f (string_bytes path) limit)
 PresentCause stanza id name now rose Disk = rose
 PresentCause stanza id name now rose NoMemory = Unit {0}
 PresentCause stanza id name now rose fault = ⊥
@@ -115,7 +129,8 @@ most_files = 4000000
 
 -- why the stored files aren't told
 abbrev pub AllCause : Text → Option Content → Type 0 → ArchiveFault → Type 0
-AllCause stanza now rose (TooMany limit) = (limit ≡ most_files) × IfSome now (λ f. (files : List Stored) × AreStored stanza f files × (limit < length files))
+AllCause stanza now rose (TooMany limit) = (limit ≡ most_files)
+    × IfSome now (λ f. (files : List Stored) × AreStored stanza f files × (limit < length files))
 AllCause stanza now rose Disk = rose
 AllCause stanza now rose NoMemory = Unit {0}
 AllCause stanza now rose fault = ⊥

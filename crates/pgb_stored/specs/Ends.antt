@@ -18,11 +18,14 @@ use Rattle.pgb_stored.specs.Paths.{below_folder}
 abbrev pub StoresWhole : Text → ArchiveId → Content → Segment → Type 0
 StoresWhole stanza id f s = IsSegment s × ((sum : Text) × Stores stanza id (Whole s) f sum)
 
--- They are stored whole segments. For each that is stored one of them is at or before it in byte order, and one at or after it.
+-- They are stored whole segments. For each that is stored one of them is at or before it in byte order, and one at or
+-- after it.
 pub record AreEnds (stanza : Text) (id : ArchiveId) (f : Content) (found : List Segment) : Type 0 where
   pub each : (s : Segment) → In s found → StoresWhole stanza id f s
-  pub first : (s : Segment) → StoresWhole stanza id f s → (t : Segment) × In t found × (is_before (segment_text s) (segment_text t) ≡ false)
-  pub last : (s : Segment) → StoresWhole stanza id f s → (t : Segment) × In t found × (is_before (segment_text t) (segment_text s) ≡ false)
+  pub first : (s : Segment) → StoresWhole stanza id f s
+      → (t : Segment) × In t found × (is_before (segment_text s) (segment_text t) ≡ false)
+  pub last : (s : Segment) → StoresWhole stanza id f s
+      → (t : Segment) × In t found × (is_before (segment_text t) (segment_text s) ≡ false)
 
 -- ---- one folder of the log
 
@@ -46,7 +49,8 @@ abbrev pub PassesWhole : Text → ArchiveId → Found → Type 0
 PassesWhole front id found = (s : Segment) → ¬ IsPathOf front id (string_bytes found.name) s
 
 -- the stored whole segments of this folder of the log
-pub record AreWholeIn (stanza : Text) (id : ArchiveId) (f : Content) (folder : Text) (found : List Segment) : Type 0 where
+pub record AreWholeIn (stanza : Text) (id : ArchiveId) (f : Content) (folder : Text) (found : List Segment) : Type
+    0 where
   pub each : (s : Segment) → In s found → StoresWhole stanza id f s × (segment_folder s ≡ folder)
   pub all : (s : Segment) → StoresWhole stanza id f s → segment_folder s ≡ folder → In s found
 
@@ -68,6 +72,8 @@ pub record IsAhead (folders : List (String Global)) (k : ℕ) (folder : Text) (f
   pub other : segment_folder segment ≢ folder
 
 -- stored whole segments: of those in these folders all of the first folder that has any
-pub record AreOfFirst (stanza : Text) (id : ArchiveId) (f : Content) (folders : List (String Global)) (found : List Segment) : Type 0 where
+pub record AreOfFirst (stanza : Text) (id : ArchiveId) (f : Content) (folders : List (String Global))
+    (found : List Segment) : Type 0 where
   pub each : (s : Segment) → In s found → StoresWhole stanza id f s
-  pub all : (s : Segment) (k : ℕ) (name : String Global) → StoresWhole stanza id f s → StandsAt folders k name → string_bytes name ≡ segment_folder s → In s found ⊎ IsAhead folders k (segment_folder s) found
+  pub all : (s : Segment) (k : ℕ) (name : String Global) → StoresWhole stanza id f s → StandsAt folders k name
+      → string_bytes name ≡ segment_folder s → In s found ⊎ IsAhead folders k (segment_folder s) found

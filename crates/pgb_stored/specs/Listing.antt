@@ -15,7 +15,8 @@ abbrev pub Picks : {X Y : Type 0} → (X → Y → Type 0) → (X → Type 0) �
 Picks Tells Passes [] [] = Unit {0}
 Picks Tells Passes [] (y ∷ ys) = ⊥
 Picks Tells Passes (x ∷ xs) [] = Passes x × Picks Tells Passes xs []
-Picks Tells Passes (x ∷ xs) (y ∷ ys) = (Tells x y × Picks Tells Passes xs ys) ⊎ (Passes x × Picks Tells Passes xs (y ∷ ys))
+Picks Tells Passes (x ∷ xs) (y ∷ ys) = (Tells x y × Picks Tells Passes xs ys)
+    ⊎ (Passes x × Picks Tells Passes xs (y ∷ ys))
 
 -- ---- all archive files below a folder of ids, which ends in a slash
 
@@ -27,7 +28,8 @@ pub record TellsFile (folder : Text) (found : Found) (file : Stored) : Type 0 wh
   pub fits : (sum : Text) → IsSum sum → IsArchivePlace file.id file.name sum
 
 abbrev pub PassesFile : Text → Found → Type 0
-PassesFile folder found = (id : ArchiveId) (name : ArchiveName) (sum : Text) → IsArchivePlace id name sum → string_bytes found.name ≢ below_folder folder id name sum
+PassesFile folder found = (id : ArchiveId) (name : ArchiveName) (sum : Text) → IsArchivePlace id name sum
+    → string_bytes found.name ≢ below_folder folder id name sum
 
 -- ---- the paths of one segment, which all begin so
 

@@ -80,7 +80,8 @@ IsOne kept (Two first second) = ⊥
 abbrev pub IsTwo : Kept → Kept → Look → Type 0
 IsTwo first second Free = ⊥
 IsTwo first second (One kept) = ⊥
-IsTwo first second (Two one other) = (string_bytes one ≡ string_bytes first.path) × (string_bytes other ≡ string_bytes second.path)
+IsTwo first second (Two one other) = (string_bytes one ≡ string_bytes first.path)
+    × (string_bytes other ≡ string_bytes second.path)
 
 -- what is told of the paths that were kept, in byte order
 abbrev pub LooksLike : List Kept → Look → Type 0
@@ -104,7 +105,8 @@ IsStop fault = (fault ≡ Disk) ⊎ (fault ≡ NoMemory)
 
 -- why a look fails: a file without a sum is read, and is longer than its limit
 abbrev pub LookCause : FileNames → Option Content → Type 0 → ArchiveFault → Type 0
-LookCause names now rose (TooLong path limit) = (names.has_sum ≡ false) × (string_bytes path ≡ string_bytes names.front) × (limit ≡ 2 ^ 20)
+LookCause names now rose (TooLong path limit) = (names.has_sum ≡ false) × (string_bytes path ≡ string_bytes names.front)
+    × (limit ≡ 2 ^ 20)
     × IfSome now (λ f. IsSomeAnd (f (string_bytes names.front)) (λ bytes. limit < length bytes))
 LookCause names now rose Disk = rose
 LookCause names now rose NoMemory = Unit {0}

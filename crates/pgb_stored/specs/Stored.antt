@@ -25,7 +25,8 @@ archived_file id name bytes = record { id = id; name = name; bytes = bytes }
 abbrev pub archive_path : Text → ArchiveId → ArchiveName → Text → Text
 archive_path stanza id name sum = archive_name stanza id name (sum_text sum)
 
--- What stands at the name is the file with this sum. A segment's name tells its sum, whatever the bytes; of another file the bytes tell it.
+-- What stands at the name is the file with this sum. A segment's name tells its sum, whatever the bytes; of another
+-- file the bytes tell it.
 abbrev pub HasSum : ArchiveName → Option Text → Text → Type 0
 HasSum (Whole segment) value sum = IsSum sum × IsSome value
 HasSum (Partial segment) value sum = IsSum sum × IsSome value
@@ -46,7 +47,8 @@ pub record StoresOnly (stanza : Text) (id : ArchiveId) (name : ArchiveName) (f :
   pub only : (other : Text) → Stores stanza id name f other → other ≡ sum
 
 -- f stores it under these two names, and under none before the second but the first
-pub record StoresTwo (stanza : Text) (id : ArchiveId) (name : ArchiveName) (f : Content) (first second : Text) : Type 0 where
+pub record StoresTwo (stanza : Text) (id : ArchiveId) (name : ArchiveName) (f : Content) (first second : Text) : Type
+    0 where
   pub first_sum : Text
   pub second_sum : Text
   pub first_stored : Stores stanza id name f first_sum
@@ -54,7 +56,8 @@ pub record StoresTwo (stanza : Text) (id : ArchiveId) (name : ArchiveName) (f : 
   pub first_is : first ≡ archive_path stanza id name first_sum
   pub second_is : second ≡ archive_path stanza id name second_sum
   pub order : is_before first second ≡ true
-  pub before : (sum : Text) → Stores stanza id name f sum → is_before (archive_path stanza id name sum) second ≡ true → sum ≡ first_sum
+  pub before : (sum : Text) → Stores stanza id name f sum → is_before (archive_path stanza id name sum) second ≡ true
+      → sum ≡ first_sum
 
 -- ---- what is told of stored files
 
@@ -76,7 +79,8 @@ pub record IsStoredFile (stanza : Text) (f : Content) (file : Stored) : Type 0 w
 -- each archive file of the stanza that f has, once, in byte order of the paths
 pub record AreStored (stanza : Text) (f : Content) (files : List Stored) : Type 0 where
   pub each : (file : Stored) → In file files → IsStoredFile stanza f file
-  pub all : (name : Text) → IsArchiveFile stanza name → IsSome (f name) → (file : Stored) × In file files × (string_bytes file.path ≡ name)
+  pub all : (name : Text) → IsArchiveFile stanza name → IsSome (f name)
+      → (file : Stored) × In file files × (string_bytes file.path ≡ name)
   pub order : are_in_order (map (λ (file : Stored). string_bytes file.path) files) ≡ true
 
 -- f stores the file with one sum alone, and this is told of it; or f doesn't store it

@@ -142,9 +142,9 @@ fn sorted_folders<D: Disk>(
     Ok(folders)
 }
 
-/// Stored whole segments under this id that bound all of them: of each that is stored one is at or before it in byte order of
-/// the names, and one at or after it. There are none only where none is stored. One may be told twice. Besides the folders
-/// of the log that hold no whole segment only the first and the last are listed.
+/// Stored whole segments under this id that bound all of them: of each that is stored one is at or before it in byte
+/// order of the names, and one at or after it. There are none only where none is stored. One may be told twice. Besides
+/// the folders of the log that hold no whole segment only the first and the last are listed.
 pub fn ends<D: Disk>(
     alloc: Global,
     d: &mut D,

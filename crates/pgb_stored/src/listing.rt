@@ -36,7 +36,8 @@ fn files_among(alloc: Global, found: &[Found], folder: &str) -> Result<Vec<Store
     Ok(files)
 }
 
-/// All stored files of the stanza, in byte order of their paths. Other names below its folder of the archive are passed over.
+/// All stored files of the stanza, in byte order of their paths. Other names below its folder of the archive are passed
+/// over.
 pub fn all<D: Disk>(alloc: Global, d: &mut D, stanza: &str) -> Result<Vec<Stored>, ArchiveFault>
     ensures all { IfOk result (λ files. IfSome (D.state d.old).view.now (λ f. AreStored stanza.now f files.items)) }
     ensures within { IfOk result (λ files. length files.items ≤ most_files) }

@@ -19,5 +19,7 @@ pub record StaysBeside (stanza : Text) (old new : View) : Type 0 where
 
 -- Of every other stanza the disk keeps the log that it kept, and at each moment all that a stop leaves stands for it.
 pub record KeepsOthers (stanza : Text) (old new : View) : Type 0 where
-  pub keeps : (other : Text) → IsStanza other → other ≢ stanza → (q : Repository) (log : List Done) → IsSome old.now → KeepsRepository other q log old → KeepsRepository other q log new
-  pub between : (other : Text) → IsStanza other → other ≢ stanza → (q : Repository) (log : List Done) → IsSome old.now → KeepsRepository other q log old → LeavesOnly (StandsAfter other q log) old new
+  pub keeps : (other : Text) → IsStanza other → other ≢ stanza → (q : Repository) (log : List Done) → IsSome old.now
+      → KeepsRepository other q log old → KeepsRepository other q log new
+  pub between : (other : Text) → IsStanza other → other ≢ stanza → (q : Repository) (log : List Done) → IsSome old.now
+      → KeepsRepository other q log old → LeavesOnly (StandsAfter other q log) old new

@@ -45,12 +45,14 @@ AreTold d = IsSome d.repo.now × IsSome d.spool.now
 
 -- each receipt that f has is of a file that a repository has stored which the log reaches
 abbrev pub HasReceiptsOf : Text → Repository → List Done → Content → Type 0
-HasReceiptsOf stanza q log f = (name : ArchiveName) (sum : Text) → IsWalName name → HasReceipt stanza f name sum → (r : Repository) × Reaches q log r × IsDrained r name sum
+HasReceiptsOf stanza q log f = (name : ArchiveName) (sum : Text) → IsWalName name → HasReceipt stanza f name sum
+    → (r : Repository) × Reaches q log r × IsDrained r name sum
 
 -- At each moment of the command all that a stop leaves of the spool has receipts of the log with a part of it.
 pub record PassesReceipts (stanza : Text) (command : Command) (old new : Disks) : Type 0 where
   pub between : (q : Repository) (log : List Done) → AreTold old → Keeps stanza q log old.repo old.spool
-      → LeavesOnly (HasReceiptsOf stanza q (record { command = command; acknowledged = false } ∷ log)) old.spool new.spool
+      → LeavesOnly (HasReceiptsOf stanza q (record { command = command; acknowledged = false } ∷ log)) old.spool
+      new.spool
 
 -- What a call of the program does, from the two disks as they were to the two as they are.
 pub record Does (c : Call) (old new : Disks) : Type 0 where
@@ -59,9 +61,11 @@ pub record Does (c : Call) (old new : Disks) : Type 0 where
   pub told : IsSome old.repo.now → IsSome new.repo.now
   pub spool_told : IsSome old.spool.now → IsSome new.spool.now
   -- disks that keep a log of its stanza keep it with the command
-  pub keeps : (q : Repository) (log : List Done) → AreTold old → Keeps c.stanza q log old.repo old.spool → Keeps c.stanza q (c.done ∷ log) new.repo new.spool
+  pub keeps : (q : Repository) (log : List Done) → AreTold old → Keeps c.stanza q log old.repo old.spool
+      → Keeps c.stanza q (c.done ∷ log) new.repo new.spool
   -- at each moment all that a stop leaves is of the log with a part of the command
-  pub between : (q : Repository) (log : List Done) → AreTold old → Keeps c.stanza q log old.repo old.spool → LeavesOnly (StandsAfter c.stanza q ((stopped c).done ∷ log)) old.repo new.repo
+  pub between : (q : Repository) (log : List Done) → AreTold old → Keeps c.stanza q log old.repo old.spool
+      → LeavesOnly (StandsAfter c.stanza q ((stopped c).done ∷ log)) old.repo new.repo
   pub receipts : PassesReceipts c.stanza c.done.command old new
   -- and it keeps to its stanza
   pub beside : StaysBeside c.stanza old.repo new.repo
@@ -109,13 +113,16 @@ pub data Story : List Call → Disks → Type 1 where
   -- both were empty
   begins : (d : Disks) → IsReopened nothing d.repo → IsReopened nothing d.spool → Story [] d
   -- a call ended
-  calls : (before : List Call) (old new : Disks) (c : Call) → Story before old → AreFair old → Does c old new → Story (c ∷ before) new
+  calls : (before : List Call) (old new : Disks) (c : Call) → Story before old → AreFair old → Does c old new
+      → Story (c ∷ before) new
   -- a call was stopped at some moment, and the disks were opened anew
-  stops : (before : List Call) (old new opened : Disks) (c : Call) → Story before old → AreFair old → Does c old new → AreLeft old new opened → Story (stopped c ∷ before) opened
+  stops : (before : List Call) (old new opened : Disks) (c : Call) → Story before old → AreFair old → Does c old new
+      → AreLeft old new opened → Story (stopped c ∷ before) opened
   -- a call was refused before it did anything
   refuses : (before : List Call) (old new : Disks) → Story before old → AreStill old new → Story before new
   -- such a call was stopped, or a stop came between two calls
-  reopens : (before : List Call) (old new opened : Disks) → Story before old → AreStill old new → AreLeft old new opened → Story before opened
+  reopens : (before : List Call) (old new opened : Disks) → Story before old → AreStill old new → AreLeft old new opened
+      → Story before opened
 
 -- ---- what a story leads to
 
@@ -132,4 +139,5 @@ pub record StandAll (before : List Call) (f g : Content) : Type 0 where
 
 -- So does all that a stop leaves, of each disk at a moment of its own.
 abbrev pub LeaveAll : List Call → Disks → Disks → Type 0
-LeaveAll before old new = (t u : ℕ) (f g : Content) → IsWithin old.repo new.repo t → IsImage new.repo t f → IsWithin old.spool new.spool u → IsImage new.spool u g → StandAll before f g
+LeaveAll before old new = (t u : ℕ) (f g : Content) → IsWithin old.repo new.repo t → IsImage new.repo t f
+    → IsWithin old.spool new.spool u → IsImage new.spool u g → StandAll before f g

@@ -21,8 +21,9 @@ struct Started {
     output: BufReader<ChildStdout>,
 }
 
-/// A worker process, which reads frames from its standard input and writes its replies to its standard output. It is started
-/// as the first frame is sent, and ends as its input does, when the link is let go. It tells nothing of its answers.
+/// A worker process, which reads frames from its standard input and writes its replies to its standard output. It is
+/// started as the first frame is sent, and ends as its input does, when the link is let go. It tells nothing of its
+/// answers.
 #[derive(Drop)]
 pub struct RealLink {
     rt: HostRuntime,

@@ -1,4 +1,5 @@
--- The options, a row for each: its name, the commands that use it, where it may stand, its values, and what holds where none is given.
+-- The options, a row for each: its name, the commands that use it, where it may stand, its values, and what holds where
+-- none is given.
 use Rattle.std.specs.Prelude.{◌≡◌, ◌⊎◌, ◌==◌, ℕ, Bool, true, false, List, [], ◌∷◌, ◌++◌, codes, Option, Some, None}
 use Rattle.std.specs.List.{list_any}
 use Rattle.pgb_model.specs.Text.{Text}
@@ -41,11 +42,13 @@ pub record Row : Type 0 where
 
 -- an option that may stand in the words and in the configuration
 abbrev pub option : Text → List Verb → Kind → Fallback → Row
-option name commands kind fallback = record { name = name; commands = commands; place = Anywhere; kind = kind; fallback = fallback }
+option name commands kind fallback =
+    record { name = name; commands = commands; place = Anywhere; kind = kind; fallback = fallback }
 
 -- one that may stand in the words alone
 abbrev pub word_option : Text → List Verb → Kind → Fallback → Row
-word_option name commands kind fallback = record { name = name; commands = commands; place = CommandLine; kind = kind; fallback = fallback }
+word_option name commands kind fallback =
+    record { name = name; commands = commands; place = CommandLine; kind = kind; fallback = fallback }
 
 -- the commands that have an option, by letters; p and g have their asynchronous form too
 abbrev pub c : List Verb
@@ -90,10 +93,12 @@ row Repo1Type = option (codes "repo1-type") every (words (codes "posix" ∷ []))
 row Repo1CipherType = option (codes "repo1-cipher-type") every (words (codes "none" ∷ [])) (is (codes "none"))
 row CompressType = option (codes "compress-type") (p ++ b) (words (codes "none" ∷ [])) (is (codes "none"))
 row Repo1RetentionFull = option (codes "repo1-retention-full") (b ++ e) (number 1 9999999) unset
-row Repo1RetentionFullType = option (codes "repo1-retention-full-type") (b ++ e) (words (codes "count" ∷ codes "time" ∷ [])) (is (codes "count"))
+row Repo1RetentionFullType = option (codes "repo1-retention-full-type") (b ++ e)
+    (words (codes "count" ∷ codes "time" ∷ [])) (is (codes "count"))
 row Repo1RetentionDiff = option (codes "repo1-retention-diff") (b ++ e) (number 1 9999999) unset
 row Repo1RetentionArchive = option (codes "repo1-retention-archive") (b ++ e) (number 1 9999999) unset
-row Repo1RetentionArchiveType = option (codes "repo1-retention-archive-type") (b ++ e) (words (codes "full" ∷ codes "diff" ∷ codes "incr" ∷ [])) (is (codes "full"))
+row Repo1RetentionArchiveType = option (codes "repo1-retention-archive-type") (b ++ e)
+    (words (codes "full" ∷ codes "diff" ∷ codes "incr" ∷ [])) (is (codes "full"))
 row Repo1Bundle = option (codes "repo1-bundle") b flag (is (codes "n"))
 row Repo1BundleSize = option (codes "repo1-bundle-size") b (size 1048576 1073741824) (is (codes "20MiB"))
 row Repo1BundleLimit = option (codes "repo1-bundle-limit") b (size 8192 1073741824) (is (codes "2MiB"))
@@ -115,7 +120,9 @@ row Number = option (codes "number") h (number 1 64) required
 row Config = word_option (codes "config") every file unset
 row LogLevelConsole = option (codes "log-level-console") every anything unset
 row LogLevelFile = option (codes "log-level-file") every anything unset
-row LogLevelStderr = option (codes "log-level-stderr") every (words (codes "off" ∷ codes "error" ∷ codes "warn" ∷ codes "info" ∷ codes "detail" ∷ codes "debug" ∷ codes "trace" ∷ [])) unset
+row LogLevelStderr = option (codes "log-level-stderr") every
+    (words (codes "off" ∷ codes "error" ∷ codes "warn" ∷ codes "info" ∷ codes "detail" ∷ codes "debug" ∷ codes "trace"
+    ∷ [])) unset
 row LogPath = option (codes "log-path") every anything unset
 row LogTimestamp = option (codes "log-timestamp") every flag unset
 row BufferSize = option (codes "buffer-size") every anything unset
@@ -134,7 +141,8 @@ abbrev pub IsOfRepository : Opt → Type 0
 IsOfRepository o = (o ≡ Repo1Path) ⊎ (o ≡ Repo1Type) ⊎ (o ≡ Repo1CipherType) ⊎ (o ≡ CompressType)
 
 abbrev pub IsOfRetention : Opt → Type 0
-IsOfRetention o = (o ≡ Repo1RetentionFull) ⊎ (o ≡ Repo1RetentionFullType) ⊎ (o ≡ Repo1RetentionDiff) ⊎ (o ≡ Repo1RetentionArchive) ⊎ (o ≡ Repo1RetentionArchiveType)
+IsOfRetention o = (o ≡ Repo1RetentionFull) ⊎ (o ≡ Repo1RetentionFullType) ⊎ (o ≡ Repo1RetentionDiff)
+    ⊎ (o ≡ Repo1RetentionArchive) ⊎ (o ≡ Repo1RetentionArchiveType)
 
 abbrev pub IsOfBundle : Opt → Type 0
 IsOfBundle o = (o ≡ Repo1Bundle) ⊎ (o ≡ Repo1BundleSize) ⊎ (o ≡ Repo1BundleLimit)
@@ -149,7 +157,9 @@ abbrev pub IsOfCommand : Opt → Type 0
 IsOfCommand o = (o ≡ Set) ⊎ (o ≡ ExpireAuto) ⊎ (o ≡ Output) ⊎ (o ≡ Number) ⊎ (o ≡ Config) ⊎ (o ≡ LogLevelStderr)
 
 abbrev pub IsIgnored : Opt → Type 0
-IsIgnored o = (o ≡ LogLevelConsole) ⊎ (o ≡ LogLevelFile) ⊎ (o ≡ LogPath) ⊎ (o ≡ LogTimestamp) ⊎ (o ≡ BufferSize) ⊎ (o ≡ CompressLevel) ⊎ (o ≡ CompressLevelNetwork) ⊎ (o ≡ DbTimeout) ⊎ (o ≡ ProtocolTimeout) ⊎ (o ≡ IoTimeout) ⊎ (o ≡ ArchiveModeCheck)
+IsIgnored o = (o ≡ LogLevelConsole) ⊎ (o ≡ LogLevelFile) ⊎ (o ≡ LogPath) ⊎ (o ≡ LogTimestamp) ⊎ (o ≡ BufferSize)
+    ⊎ (o ≡ CompressLevel) ⊎ (o ≡ CompressLevelNetwork) ⊎ (o ≡ DbTimeout) ⊎ (o ≡ ProtocolTimeout) ⊎ (o ≡ IoTimeout)
+    ⊎ (o ≡ ArchiveModeCheck)
 
 abbrev pub verb_word : Verb → Text
 verb_word StanzaCreate = codes "stanza-create"

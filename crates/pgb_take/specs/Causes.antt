@@ -25,7 +25,8 @@ use Rattle.pgb_take.specs.declared.fault.TakeFault.TheVariants.{HistoryDiffers, 
 use Rattle.pgb_take.specs.Beginning.{most_backups, server_path, AreLost}
 use Rattle.pgb_take.specs.Making.{CannotRead, IsPast}
 
--- What stands before: the repository and the data folder, the least second that the clock may tell, and the links that are used.
+-- What stands before: the repository and the data folder, the least second that the clock may tell, and the links that
+-- are used.
 pub record Before : Type 0 where
   pub stanza : Text
   pub told : Control
@@ -55,18 +56,21 @@ OfDraft IsIt P = (d : Draft) × IsIt d × P d
 
 -- f lists so many backups that there is no room for one more
 abbrev pub IsFull : Text → Content → Type 0
-IsFull stanza f = (list : BackupInfo) × PairIs IsBackupText f (backup_info stanza) list × (most_backups ≤ length list.backups)
+IsFull stanza f = (list : BackupInfo) × PairIs IsBackupText f (backup_info stanza) list
+    × (most_backups ≤ length list.backups)
 
 -- why a backup is refused that is made by a draft of this kind
 abbrev pub CauseBy : Before → (Draft → Type 0) → TakeFault → Type 0
 CauseBy b IsIt (HistoryDiffers at) = IfSome b.repo (λ f. HistoriesDiffer b.stanza f at)
 CauseBy b IsIt (StanzaMismatch kept found) = IfSome b.repo (λ f. HasOther b.stanza b.told f kept found)
 CauseBy b IsIt Running = IfSome b.nodes (λ f. IsSome (f server_path))
-CauseBy b IsIt (TooMany limit) = ((limit ≡ most_backups) × IfSome b.repo (IsFull b.stanza)) ⊎ Refuses b (plans.TooMany limit)
+CauseBy b IsIt (TooMany limit) = ((limit ≡ most_backups) × IfSome b.repo (IsFull b.stanza))
+    ⊎ Refuses b (plans.TooMany limit)
 CauseBy b IsIt (WorkersLost lost) = AreLost b.used lost
 CauseBy b IsIt (ClockBehind latest now) = (now + 10 < latest) × (b.least ≤ now)
 CauseBy b IsIt (LinkFound path) = Refuses b (plans.LinkFound path)
-CauseBy b IsIt (NameRefused path) = Shows b (λ seen. (fault : NameFault) × IsRefused (kept false seen) (plans.NameRefused path fault))
+CauseBy b IsIt (NameRefused path) = Shows b
+    (λ seen. (fault : NameFault) × IsRefused (kept false seen) (plans.NameRefused path fault))
 CauseBy b IsIt ListingUnordered = b.nodes ≡ None
 CauseBy b IsIt (ControlMissing path) = Refuses b (plans.ControlMissing path)
     ⊎ OfDraft IsIt (λ d. WhereDone d b.used (λ ends. IsMissing (string_bytes path) (files_with d ends)))

@@ -24,12 +24,16 @@ use Rattle.pgb_take.specs.declared.fault.TakeFault.TheVariants.{WorkersLost, Con
 use Rattle.pgb_take.specs.Faults.{IsHaltOf}
 
 -- the command's end by that of the backup's making: with this line, or with its fault
-pub data IsEndWith (d : Draft) (line : Text) : Result (Unit {0}) MakeFault → Result Outcome (Halt TakeFault) → Type 0 where
-  Well : (u : Unit {0}) (lines : String Global) → string_bytes lines ≡ line → IsEndWith d line (Ok u) (Ok (Finished lines))
-  Ill : (lost : ℕ) (fault : MakeFault) (halt : Halt TakeFault) → IsHaltOf (stanza_of d) d.label lost fault halt → IsEndWith d line (Err fault) (Err halt)
+pub data IsEndWith (d : Draft) (line : Text) : Result (Unit {0}) MakeFault → Result Outcome (Halt TakeFault)
+    → Type 0 where
+  Well : (u : Unit {0}) (lines : String Global) → string_bytes lines ≡ line
+      → IsEndWith d line (Ok u) (Ok (Finished lines))
+  Ill : (lost : ℕ) (fault : MakeFault) (halt : Halt TakeFault) → IsHaltOf (stanza_of d) d.label lost fault halt
+      → IsEndWith d line (Err fault) (Err halt)
 
 -- The draft's backup was made of what these links read, and the command ended so; or it wasn't.
-pub record Finishes (d : Draft) (line : Text) (links : List LinkState) (old new : View) (result : Result Outcome (Halt TakeFault)) : Type 0 where
+pub record Finishes (d : Draft) (line : Text) (links : List LinkState) (old new : View)
+    (result : Result Outcome (Halt TakeFault)) : Type 0 where
   pub made : Result (Unit {0}) MakeFault
   pub outcome : backup.Outcome made d links old new
   pub end : IsEndWith d line made result
@@ -51,8 +55,10 @@ pub record CannotRead (d : Draft) (links : List LinkState) (path : String Global
 -- the manifest, or the list with the backup, would have more bytes than the limit
 abbrev pub IsPast : Draft → List LinkState → String Global → ℕ → Type 0
 IsPast d links name limit =
-    ((string_bytes name ≡ pair_of d) × (limit ≡ manifest_limit) × WhereDone d links (λ ends. (n : ℕ) × IsManifestTooLong d ends n))
-    ⊎ ((string_bytes name ≡ main_of d) × (limit ≡ info_limit) × WhereDone d links (λ ends. (n : ℕ) × IsListTooLong d ends n))
+    ((string_bytes name ≡ pair_of d) × (limit ≡ manifest_limit)
+    × WhereDone d links (λ ends. (n : ℕ) × IsManifestTooLong d ends n))
+    ⊎ ((string_bytes name ≡ main_of d) × (limit ≡ info_limit)
+    × WhereDone d links (λ ends. (n : ℕ) × IsListTooLong d ends n))
 
 -- each link was lost; with those that were lost before they are so many
 pub record LosesAll (d : Draft) (links : List LinkState) (before : List Lost) (lost : ℕ) : Type 0 where
@@ -63,7 +69,8 @@ pub record LosesAll (d : Draft) (links : List LinkState) (before : List Lost) (l
 -- why the draft's backup isn't made over these links
 abbrev pub MakeCause : Draft → List LinkState → List Lost → TakeFault → Type 0
 MakeCause d links before (WorkersLost lost) = LosesAll d links before lost
-MakeCause d links before (ControlMissing path) = WhereDone d links (λ ends. IsMissing (string_bytes path) (files_with d ends))
+MakeCause d links before (ControlMissing path) =
+    WhereDone d links (λ ends. IsMissing (string_bytes path) (files_with d ends))
 MakeCause d links before (Unread path) = CannotRead d links path
 MakeCause d links before (TooLong name limit) = IsPast d links name limit
 MakeCause d links before other = ⊥

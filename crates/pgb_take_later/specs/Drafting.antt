@@ -27,9 +27,10 @@ pub record MayBase (base : Option Entry) (old : List FileEntry) : Type 0 where
   pub rules : KeepRules old
   pub none : base ≡ None → old ≡ []
 
--- It is of these files and folders, is based on the backup of this list that its kind asks for, and leaves what is as these entries tell. The
--- marks say of which files the digest is that of the entry.
-pub record IsLaterBy (stanza : Text) (o : LaterOrder) (list : BackupInfo) (old : List FileEntry) (second : ℕ) (equal : List Bool) (listing : Listing) (d : Draft) : Type 0 where
+-- It is of these files and folders, is based on the backup of this list that its kind asks for, and leaves what is as
+-- these entries tell. The marks say of which files the digest is that of the entry.
+pub record IsLaterBy (stanza : Text) (o : LaterOrder) (list : BackupInfo) (old : List FileEntry) (second : ℕ)
+    (equal : List Bool) (listing : Listing) (d : Draft) : Type 0 where
   pub stanza_is : stanza_of d ≡ stanza
   pub label : d.label ≡ made_label o.kind (base_in o.kind list) second
   pub prior : d.prior ≡ base_label o.kind list
@@ -41,15 +42,18 @@ pub record IsLaterBy (stanza : Text) (o : LaterOrder) (list : BackupInfo) (old :
   pub delta : d.choices.delta ≡ o.settings.delta
   pub planned : d.plan.choices.items ≡ (layout o.settings (old_in d) (taken_in d) equal).choices
 
--- Its files have marks, which with delta say of which of them these links told the digest of the entry, and it leaves what is as the entries tell.
+-- Its files have marks, which with delta say of which of them these links told the digest of the entry, and it leaves
+-- what is as the entries tell.
 pub record IsPlannedBy (links : List LinkState) (o : LaterOrder) (d : Draft) : Type 0 where
   pub equal : List Bool
   pub same : length equal ≡ length (taken_in d)
   pub marked : o.settings.delta ≡ true → AreMarked links (old_in d) (taken_in d) equal
   pub planned : d.plan.choices.items ≡ (layout o.settings (old_in d) (taken_in d) equal).choices
 
--- It is of all that a backup takes of the listing, of a running server or a stopped one, is based on the backup of this list that its kind asks for, and leaves what is as these files tell.
-pub record IsLaterOf (online : Bool) (stanza : Text) (o : LaterOrder) (seen : List ListedNode) (list : BackupInfo) (old : List FileEntry) (second : ℕ) (d : Draft) : Type 0 where
+-- It is of all that a backup takes of the listing, of a running server or a stopped one, is based on the backup of this
+-- list that its kind asks for, and leaves what is as these files tell.
+pub record IsLaterOf (online : Bool) (stanza : Text) (o : LaterOrder) (seen : List ListedNode) (list : BackupInfo)
+    (old : List FileEntry) (second : ℕ) (d : Draft) : Type 0 where
   pub stanza_is : stanza_of d ≡ stanza
   pub label : d.label ≡ made_label o.kind (base_in o.kind list) second
   pub prior : d.prior ≡ base_label o.kind list
@@ -66,13 +70,16 @@ pub record IsLaterOf (online : Bool) (stanza : Text) (o : LaterOrder) (seen : Li
 -- so it is of each listing of which a backup takes these files and folders
 abbrev pub IsLaterWith : Text → LaterOrder → List Taken → List Text → BackupInfo → List FileEntry → ℕ → Draft → Type 0
 IsLaterWith stanza o files folders list old second d =
-    (online : Bool) (seen : List ListedNode) → Takes online seen files folders → IsLaterOf online stanza o seen list old second d
+    (online : Bool) (seen : List ListedNode) → Takes online seen files folders
+    → IsLaterOf online stanza o seen list old second d
 
 -- It is one of a stopped server, with marks that these links told.
-pub record IsDraftedBy (stanza : Text) (o : LaterOrder) (seen : List ListedNode) (list : BackupInfo) (old : List FileEntry) (second : ℕ) (links : List LinkState) (d : Draft) : Type 0 where
+pub record IsDraftedBy (stanza : Text) (o : LaterOrder) (seen : List ListedNode) (list : BackupInfo)
+    (old : List FileEntry) (second : ℕ) (links : List LinkState) (d : Draft) : Type 0 where
   pub later : IsLaterOf false stanza o seen list old second d
   pub planned : IsPlannedBy links o d
 
 -- the listing is refused, or the clock is behind; or the links didn't tell the digests
 abbrev pub StopCause : List ListedNode → ℕ → List LinkState → List Lost → List FileEntry → TakeFault → Type 0
-StopCause seen least links before old fault = DraftCause seen least fault ⊎ EqualCause links before old (files_of (kept false seen)) fault
+StopCause seen least links before old fault = DraftCause seen least fault
+    ⊎ EqualCause links before old (files_of (kept false seen)) fault

@@ -34,8 +34,10 @@ use Rattle.pgb_take_later.specs.Equal.{IsEntryBy}
 use Rattle.pgb_take_later.specs.Folder.{TellsFrom}
 use Rattle.pgb_take_later.specs.Texts.{later_lines}
 
--- The list is that of the pairs that the disk holds, and these are the files of the manifest, which it holds too, of the backup on which one of this order is based.
-pub record BeginsFrom (stanza : Text) (o : LaterOrder) (now : Option Content) (list : BackupInfo) (old : List FileEntry) : Type 0 where
+-- The list is that of the pairs that the disk holds, and these are the files of the manifest, which it holds too, of
+-- the backup on which one of this order is based.
+pub record BeginsFrom (stanza : Text) (o : LaterOrder) (now : Option Content) (list : BackupInfo)
+    (old : List FileEntry) : Type 0 where
   pub archive : ArchiveInfo
   pub backup : BackupInfo
   pub archive_read : IfSome now (λ f. HasValue stanza f archive)
@@ -49,16 +51,21 @@ pub record BeginsFrom (stanza : Text) (o : LaterOrder) (now : Option Content) (l
 abbrev pub RefersTo : Stanza → Backup → Type 0
 RefersTo s b = (l : Label) → In l b.entry.references → IsAncestor s.backups l b × IsListed s.backups l
 
--- The disk has the backup's manifest. Of its entries those of files that are the prior backup's refer to others, and no others do.
-pub record HasEntries (stanza : Text) (o : LaterOrder) (seen : List ListedNode) (list : BackupInfo) (links : List LinkState) (old new : Option Content) (b : Backup) : Type 0 where
+-- The disk has the backup's manifest. Of its entries those of files that are the prior backup's refer to others, and no
+-- others do.
+pub record HasEntries (stanza : Text) (o : LaterOrder) (seen : List ListedNode) (list : BackupInfo)
+    (links : List LinkState) (old new : Option Content) (b : Backup) : Type 0 where
   pub base : Option Manifest
   pub reads : ReadsBase stanza old (base_label o.kind list) base
   pub manifest : Manifest
   pub held : IsSome old → IfSome new (λ f. PairIs IsManifestText f (manifest_name stanza b.entry.label) manifest)
-  pub each : (e : FileEntry) → In e manifest.files → IsEntryBy links o.settings.delta (old_files base) (files_of (kept false seen)) e
+  pub each : (e : FileEntry) → In e manifest.files
+      → IsEntryBy links o.settings.delta (old_files base) (files_of (kept false seen)) e
 
--- One backup more is made, which these lines tell: it is based on the backup of the list that its kind asks for, of what the links read and of what that backup has.
-pub record IsMade (stanza : Text) (o : LaterOrder) (list : BackupInfo) (seen : List ListedNode) (links : List LinkState) (old new : Option Content) (lines : Text) : Type 0 where
+-- One backup more is made, which these lines tell: it is based on the backup of the list that its kind asks for, of
+-- what the links read and of what that backup has.
+pub record IsMade (stanza : Text) (o : LaterOrder) (list : BackupInfo) (seen : List ListedNode) (links : List LinkState)
+    (old new : Option Content) (lines : Text) : Type 0 where
   pub backup : Backup
   pub second : ℕ
   pub later : AreBefore (labels_of list.backups) second
@@ -70,13 +77,16 @@ pub record IsMade (stanza : Text) (o : LaterOrder) (list : BackupInfo) (seen : L
   pub entries : HasEntries stanza o seen list links old new backup
   pub refers : (s : Stanza) → IsSome old → NowStands stanza (Some s) old → RefersTo s backup
   pub adds : AddsBackup stanza backup old new
-  -- where the links read the folder that was listed, it is the folder's, as far as files that are left can be told from others
-  pub folder : (f : Nodes) (repo : Content) → IsTreeListing f seen → IsSome old → AllRead (bytes_in f) repo links → ((l : Label) → backup.entry.prior ≡ Some l → TellsFrom stanza old o.settings.delta f l) → IsOfFolder f backup
+  -- where the links read the folder that was listed, it is the folder's, as far as files that are left can be told from
+  -- others
+  pub folder : (f : Nodes) (repo : Content) → IsTreeListing f seen → IsSome old → AllRead (bytes_in f) repo links
+      → ((l : Label) → backup.entry.prior ≡ Some l → TellsFrom stanza old o.settings.delta f l) → IsOfFolder f backup
   -- both members of the backup pair are alike
   pub alike : IsSome old → IfSome new (AgreeAt (backup_info stanza))
 
 -- a draft of this order isn't made over those of these links that are left
-pub record DraftFails (stanza : Text) (o : LaterOrder) (seen : List ListedNode) (list : BackupInfo) (old : List FileEntry) (links : List LinkState) (before : List Lost) (fault : TakeFault) : Type 0 where
+pub record DraftFails (stanza : Text) (o : LaterOrder) (seen : List ListedNode) (list : BackupInfo)
+    (old : List FileEntry) (links : List LinkState) (before : List Lost) (fault : TakeFault) : Type 0 where
   pub draft : Draft
   pub second : ℕ
   pub later : IsDraftedBy stanza o seen list old second links draft
@@ -86,5 +96,7 @@ pub record DraftFails (stanza : Text) (o : LaterOrder) (seen : List ListedNode) 
   pub cause : MakeCause draft now lost fault
 
 -- there is no draft of it, or it isn't made
-abbrev pub MakingCause : Text → LaterOrder → List ListedNode → BackupInfo → List FileEntry → ℕ → List LinkState → List Lost → TakeFault → Type 0
-MakingCause stanza o seen list old least links before fault = StopCause seen least links before old fault ⊎ DraftFails stanza o seen list old links before fault
+abbrev pub MakingCause : Text → LaterOrder → List ListedNode → BackupInfo → List FileEntry → ℕ → List LinkState
+    → List Lost → TakeFault → Type 0
+MakingCause stanza o seen list old least links before fault = StopCause seen least links before old fault
+    ⊎ DraftFails stanza o seen list old links before fault

@@ -32,22 +32,34 @@ use Rattle.pgb_take_later.specs.Texts.{later_lines}
 use Rattle.pgb_take_online.specs.Doing.{Heard, TakesTurns}
 use Rattle.pgb_take_online.specs.Told.{TellsOnline}
 
--- The repository has the backup behind what these turns pushed, and is sound with both where it was; and each segment of the backup's part of the log is archived in it.
-pub record AddsOnline (stanza : Text) (turns : List Turn) (b : Backup) (o : Online) (cluster : Cluster) (old new : Option Content) : Type 0 where
-  pub adds : (s : Stanza) → IsSome old → NowStands stanza (Some s) old → NowStands stanza (after (Some s) (all_of (steps_of (MakeBackup turns b None) (Some s)))) new
-  pub sound : (s : Stanza) → IsSome old → NowStands stanza (Some s) old → IsSoundStanza s → IsSound (after (Some s) (all_of (steps_of (MakeBackup turns b None) (Some s))))
-  pub archived : (s : Stanza) → IsSome old → NowStands stanza (Some s) old → (t : Stanza) → after (Some s) (all_of (steps_of (MakeBackup turns b None) (Some s))) ≡ Some t → Archives (id_of cluster) o.part t
+-- The repository has the backup behind what these turns pushed, and is sound with both where it was; and each segment
+-- of the backup's part of the log is archived in it.
+pub record AddsOnline (stanza : Text) (turns : List Turn) (b : Backup) (o : Online) (cluster : Cluster)
+    (old new : Option Content) : Type 0 where
+  pub adds : (s : Stanza) → IsSome old → NowStands stanza (Some s) old
+      → NowStands stanza (after (Some s) (all_of (steps_of (MakeBackup turns b None) (Some s)))) new
+  pub sound : (s : Stanza) → IsSome old → NowStands stanza (Some s) old → IsSoundStanza s
+      → IsSound (after (Some s) (all_of (steps_of (MakeBackup turns b None) (Some s))))
+  pub archived : (s : Stanza) → IsSome old → NowStands stanza (Some s) old → (t : Stanza)
+      → after (Some s) (all_of (steps_of (MakeBackup turns b None) (Some s))) ≡ Some t
+      → Archives (id_of cluster) o.part t
 
--- The disk has the backup's manifest. An entry is that of the label file, or of a listed file: of these, those of files that are the prior backup's refer to others, and no others do.
-pub record HasOnlineEntries (stanza : Text) (o : LaterOrder) (seen : List ListedNode) (list : BackupInfo) (links : List LinkState) (online : Online) (old new : Option Content) (b : Backup) : Type 0 where
+-- The disk has the backup's manifest. An entry is that of the label file, or of a listed file: of these, those of files
+-- that are the prior backup's refer to others, and no others do.
+pub record HasOnlineEntries (stanza : Text) (o : LaterOrder) (seen : List ListedNode) (list : BackupInfo)
+    (links : List LinkState) (online : Online) (old new : Option Content) (b : Backup) : Type 0 where
   pub base : Option Manifest
   pub reads : ReadsBase stanza old (base_label o.kind list) base
   pub manifest : Manifest
   pub held : IsSome old → IfSome new (λ f. PairIs IsManifestText f (manifest_name stanza b.entry.label) manifest)
-  pub each : (e : FileEntry) → In e manifest.files → (e ≡ label_entry online.label_file b.entry.stop) ⊎ IsEntryBy links o.settings.delta (old_files base) (files_of (kept true seen)) e
+  pub each : (e : FileEntry) → In e manifest.files
+      → (e ≡ label_entry online.label_file b.entry.stop)
+      ⊎ IsEntryBy links o.settings.delta (old_files base) (files_of (kept true seen)) e
 
--- Ok of a running server's backup, with its lines: it is based on the backup of the list that its kind asks for, and is a full one without one; it is of what the links read, of what that backup has, and of what the server told.
-pub record IsTakenOnline (stanza : Text) (told : Control) (o : LaterOrder) (nodes : Option Nodes) (heard : Heard) (used : List LinkState) (turned : List Turned) (old new : Option Content) (lines : Text) : Type 0 where
+-- Ok of a running server's backup, with its lines: it is based on the backup of the list that its kind asks for, and is
+-- a full one without one; it is of what the links read, of what that backup has, and of what the server told.
+pub record IsTakenOnline (stanza : Text) (told : Control) (o : LaterOrder) (nodes : Option Nodes) (heard : Heard)
+    (used : List LinkState) (turned : List Turned) (old new : Option Content) (lines : Text) : Type 0 where
   pub list : BackupInfo
   pub seen : List ListedNode
   pub listing : IfSome nodes (λ f. IsTreeListing f seen)
@@ -74,6 +86,8 @@ pub record IsTakenOnline (stanza : Text) (told : Control) (o : LaterOrder) (node
   pub alike : IsSome old → IfSome new (AgreeAt (backup_info stanza))
 
 -- it waited the turns that the account tells of this stanza
-abbrev pub TakesOnline : Text → Control → LaterOrder → Option Nodes → Heard → List LinkState → Option Account → Option Account → Option Content → Option Content → Text → Type 0
+abbrev pub TakesOnline : Text → Control → LaterOrder → Option Nodes → Heard → List LinkState → Option Account
+    → Option Account → Option Content → Option Content → Text → Type 0
 TakesOnline stanza told o nodes heard used old_account account old new lines = IfSome account (λ k. k.stanza ≡ stanza
-    → (turned : List Turned) × TakesTurns turned old_account k × IsTakenOnline stanza told o nodes heard used turned old new lines)
+    → (turned : List Turned) × TakesTurns turned old_account k
+    × IsTakenOnline stanza told o nodes heard used turned old new lines)

@@ -88,8 +88,8 @@ fn what_moments_keep(rt: HostRuntime) {
     check_moment(&rt, alloc, &disk, 6, "", "- ", "a ");
 }
 
-// The image at a moment, as `name:size` of each name, where these positions of kept values and these bytes of loose names are
-// chosen.
+// The image at a moment, as `name:size` of each name, where these positions of kept values and these bytes of loose
+// names are chosen.
 fn image_then(
     alloc: Global,
     disk: &MemDisk,

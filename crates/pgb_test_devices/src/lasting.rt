@@ -13,8 +13,8 @@ fn push_history(alloc: Global, disk: &mut MemDisk) -> Result<Pushed, ArchiveFaul
     push(alloc, disk, "main", &ID, &HISTORY, SYSTEM, b"hello")
 }
 
-// A rename that isn't settled may be undone by a stop. The next push finds the file, settles the names of its folder, and
-// answers that it is stored: from then on each stop leaves it.
+// A rename that isn't settled may be undone by a stop. The next push finds the file, settles the names of its folder,
+// and answers that it is stored: from then on each stop leaves it.
 #[test]
 fn a_push_behind_a_failed_one_lasts(rt: HostRuntime) {
     let alloc = rt.alloc();

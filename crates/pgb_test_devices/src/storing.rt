@@ -27,8 +27,8 @@ fn put_two<D: Disk>(alloc: Global, disk: &mut D) -> Result<u64, StoreFault> {
     Ok(length)
 }
 
-/// A put by the number of its failing call: the length that is told, what the name holds then, whether it is loose, and how many
-/// values it keeps.
+/// A put by the number of its failing call: the length that is told, what the name holds then, whether it is loose, and
+/// how many values it keeps.
 struct Put {
     fail: u64,
     told: Option<u64>,

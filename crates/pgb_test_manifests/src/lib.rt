@@ -1,4 +1,5 @@
-//! Tests of manifests: their texts, the faults of other texts, the two members, and the places of files. By values from outside.
+//! Tests of manifests: their texts, the faults of other texts, the two members, and the places of files. By values from
+//! outside.
 #![tactic(auto)]
 
 #[cfg(test)]

@@ -56,8 +56,8 @@ struct Waited {
     turns: u64,
 }
 
-// A wait for the segments from one to another, of a disk with these names. Others push the second segment in the turn with
-// this number.
+// A wait for the segments from one to another, of a disk with these names. Others push the second segment in the turn
+// with this number.
 fn wait(
     rt: &impl Abort,
     alloc: Global,

@@ -1,5 +1,5 @@
-//! Which nodes of a listing a backup takes, and why a listing is refused (PostgreSQL manual, "Making a Base Backup Using the
-//! Low Level API").
+//! Which nodes of a listing a backup takes, and why a listing is refused (PostgreSQL manual, "Making a Base Backup
+//! Using the Low Level API").
 
 use crate::same::same_of;
 use pgb_outside::{Node, Seen};

@@ -104,7 +104,8 @@ const FULL: &[Full] = &[
     ),
 ];
 
-/// One file beside that of a prior backup, whether its digest is that one's, how it is copied, and what is done about it.
+/// One file beside that of a prior backup, whether its digest is that one's, how it is copied, and what is done about
+/// it.
 type Beside = (&'static str, File, File, bool, PlanSettings, Choice);
 
 const BESIDE: &[Beside] = &[

@@ -1,4 +1,5 @@
-//! Tests of what is told of a stanza: info texts with their values, reports, and the talk with a server. By values from outside.
+//! Tests of what is told of a stanza: info texts with their values, reports, and the talk with a server. By values from
+//! outside.
 #![tactic(auto)]
 
 #[cfg(test)]

@@ -104,8 +104,8 @@ pub(crate) fn act(
     })
 }
 
-// One worker, which reads a repository in whose backup of this label a version file of these bytes lies, or none, and of whose
-// link the calls with these numbers fail.
+// One worker, which reads a repository in whose backup of this label a version file of these bytes lies, or none, and
+// of whose link the calls with these numbers fail.
 fn reader(
     alloc: Global,
     label: &str,

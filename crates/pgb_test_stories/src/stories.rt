@@ -99,8 +99,8 @@ fn check_held(rt: &impl Abort, disks: &Disks, wanted: &[(&str, Held)]) {
     }
 }
 
-// Behind so many of these calls the next one is stopped at each of its moments. All others end with 0, and the repository
-// then has this.
+// Behind so many of these calls the next one is stopped at each of its moments. All others end with 0, and the
+// repository then has this.
 fn check_stops(
     rt: &impl Abort,
     alloc: Global,
@@ -165,8 +165,8 @@ fn backups_go_on_behind_a_stop(rt: HostRuntime) {
     );
 }
 
-// The incremental backup that follows one that is stopped is made beside the full one, stores nothing that this has, and
-// nothing deviates.
+// The incremental backup that follows one that is stopped is made beside the full one, stores nothing that this has,
+// and nothing deviates.
 #[test]
 fn later_backups_go_on_behind_a_stop(rt: HostRuntime) {
     check_stops(
@@ -230,8 +230,8 @@ fn expiries_behind_backups_go_on(rt: HostRuntime) {
     );
 }
 
-// Each call of the disk fails in turn in a backup with an expiry behind it. A backup that is listed then stays, and the next
-// expiry removes the rest; else it is removed itself.
+// Each call of the disk fails in turn in a backup with an expiry behind it. A backup that is listed then stays, and the
+// next expiry removes the rest; else it is removed itself.
 #[test]
 fn a_backup_stays_whose_expiry_fails(rt: HostRuntime) {
     let alloc = rt.alloc();
@@ -265,8 +265,8 @@ fn a_backup_stays_whose_expiry_fails(rt: HostRuntime) {
     panic!(&rt; "no backup with an expiry behind it ends without a fault");
 }
 
-// With these words, into a folder that holds this file, by a worker that reads these bytes of the version file, and of whose link
-// these calls fail: how a restore ends.
+// With these words, into a folder that holds this file, by a worker that reads these bytes of the version file, and of
+// whose link these calls fail: how a restore ends.
 type Restore<'a> = (&'a str, Option<&'a str>, Option<&'a [u8]>, &'a [u64], u8);
 
 const RESTORES: &[Restore] = &[

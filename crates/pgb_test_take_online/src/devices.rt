@@ -68,7 +68,8 @@ pub(crate) enum Device {
     Worker,
 }
 
-/// Which kind is asked for, and whether by digests, what the data folder holds, what the server and the others tell, and which call fails.
+/// Which kind is asked for, and whether by digests, what the data folder holds, what the server and the others tell,
+/// and which call fails.
 #[derive(Clone, Copy)]
 pub(crate) struct Case {
     pub kind: Kind,

@@ -4,8 +4,8 @@ ghost use Rattle.std.specs.Prelude.{◌≡◌, None};
 use pgb_outside::{Disk, Stop};
 use pgb_turn::{Aside, TurnStop};
 
-/// They look at the spool, make a file of this name in the turn with this number, the first being 1, and tell nothing of
-/// it.
+/// They look at the spool, make a file of this name in the turn with this number, the first being 1, and tell nothing
+/// of it.
 #[derive(Drop)]
 pub(crate) struct Storing {
     name: &'static str,

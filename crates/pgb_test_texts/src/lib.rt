@@ -1,4 +1,5 @@
-//! Tests of the texts: digits and sums, info texts and configurations, options, paths, names of write-ahead log. By values from outside.
+//! Tests of the texts: digits and sums, info texts and configurations, options, paths, names of write-ahead log. By
+//! values from outside.
 #![tactic(auto)]
 
 #[cfg(test)]

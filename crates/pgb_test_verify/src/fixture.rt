@@ -1,5 +1,5 @@
-// A stanza with a full backup of segments 2 and 3 and an incremental one of segment 4, which has two files of the first.
-// Checksums of texts and digests of files are by `sha1sum`.
+// A stanza with a full backup of segments 2 and 3 and an incremental one of segment 4, which has two files of the
+// first. Checksums of texts and digests of files are by `sha1sum`.
 use pgb_memory::{MemDisk, named_bytes};
 use std::alloc::{AllocError, Global};
 

@@ -1,5 +1,5 @@
-//! Tests of verification over a disk in memory: a full backup and an incremental one with their log, of which each part is
-//! lost or broken in turn. By values from outside.
+//! Tests of verification over a disk in memory: a full backup and an incremental one with their log, of which each part
+//! is lost or broken in turn. By values from outside.
 #![tactic(auto)]
 
 #[cfg(test)]

@@ -1,4 +1,5 @@
--- What the long header of a segment's first page tells (PostgreSQL manual, "WAL Internals"; the bytes: PostgreSQL's `xlog_internal.h`).
+-- What the long header of a segment's first page tells (PostgreSQL manual, "WAL Internals"; the bytes: PostgreSQL's
+-- `xlog_internal.h`).
 use Rattle.std.specs.Prelude.{◌≡◌, ◌≢◌, ℕ, ◌≤◌, nat_lt, length, take, drop, if◌then◌else◌}
 use Rattle.std.specs.Int.{IsBitSet}
 use Rattle.pgb_model.specs.Text.{Text, little_endian}
@@ -43,5 +44,7 @@ pub record BeginsWith (first : Text) (count : ℕ) (bytes : Text) : Type 0 where
 -- why they are none: the form comes first, then the size
 abbrev pub IsRefused : Text → ℕ → HeaderFault → Type 0
 IsRefused bytes system (Form found info) = (found ≡ length bytes) × (info ≡ page_info bytes) × ¬ HasLongHeader bytes
-IsRefused bytes system (Size told found) = HasLongHeader bytes × (told ≡ told_size bytes) × (found ≡ length bytes) × ¬ HasToldSize bytes
-IsRefused bytes system (System kept found) = HasLongHeader bytes × HasToldSize bytes × (kept ≡ system) × (found ≡ told_system bytes) × (found ≢ kept)
+IsRefused bytes system (Size told found) = HasLongHeader bytes × (told ≡ told_size bytes) × (found ≡ length bytes)
+    × ¬ HasToldSize bytes
+IsRefused bytes system (System kept found) = HasLongHeader bytes × HasToldSize bytes × (kept ≡ system)
+    × (found ≡ told_system bytes) × (found ≢ kept)

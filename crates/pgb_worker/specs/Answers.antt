@@ -22,7 +22,8 @@ Fills (Some bytes) at new answer = IsSomeAnd answer (λ n. take n new ≡ take (
 -- the same of the next part of an item, of which so many bytes are told, behind the room for its head
 abbrev pub FillsPart : Value → Item → ℕ → Text → Option ℕ → Type 0
 FillsPart None item told room answer = answer ≡ None
-FillsPart (Some bytes) item told room answer = IsSomeAnd answer (λ n. take n (drop 5 room) ≡ take part_size (drop told (payload item bytes)))
+FillsPart (Some bytes) item told room answer =
+    IsSomeAnd answer (λ n. take n (drop 5 room) ≡ take part_size (drop told (payload item bytes)))
 
 -- the next part of these bytes, where one shorter than a part may be was the last
 abbrev pub IsNextPart : Text → ℕ → Text → ℕ → Type 0
@@ -42,15 +43,20 @@ pub record IsStopped (whole frames : List Frame) : Type 0 where
   pub count : ℕ
   pub is : frames ≡ take count whole ++ Unread ∷ []
 
--- The frames that answer an item, and whether the reply goes on behind them. They are its reply, unless a call on its root failed.
+-- The frames that answer an item, and whether the reply goes on behind them. They are its reply, unless a call on its
+-- root failed.
 abbrev pub AnswersItem : JobKind → Item → Value → Type 0 → Bool → List Frame → Type 0
 AnswersItem kind i value failed true frames = (frames ≡ item_reply kind i value []) × GoesOn i.root value
-AnswersItem kind i value failed false frames = ((frames ≡ item_reply kind i value []) × (value ≡ None) × (i.root ≡ Repo)) ⊎ (failed × IsStopped (item_reply kind i value []) frames)
+AnswersItem kind i value failed false frames =
+    ((frames ≡ item_reply kind i value []) × (value ≡ None) × (i.root ≡ Repo))
+    ⊎ (failed × IsStopped (item_reply kind i value []) frames)
 
 -- At `Ok` the frames that answer an item were written. At an `Err` a first part of their bytes was.
 abbrev pub ToldItem : JobKind → Item → Value → Type 0 → Result Bool ServeFault → Option Text → Option Text → Type 0
-ToldItem kind i value failed (Ok goes) old new = (frames : List Frame) × AnswersItem kind i value failed goes frames × IsWritten old (flat_map spell frames) new
-ToldItem kind i value failed (Err e) old new = (goes : Bool) × (frames : List Frame) × AnswersItem kind i value failed goes frames × IsFrontWritten old (flat_map spell frames) new
+ToldItem kind i value failed (Ok goes) old new = (frames : List Frame) × AnswersItem kind i value failed goes frames
+    × IsWritten old (flat_map spell frames) new
+ToldItem kind i value failed (Err e) old new = (goes : Bool) × (frames : List Frame)
+    × AnswersItem kind i value failed goes frames × IsFrontWritten old (flat_map spell frames) new
 
 -- At `Ok` the answer is whether the reply goes on.
 abbrev pub Tells : List Frame → Bool → Result Bool ServeFault → Option Text → Option Text → Type 0
@@ -76,7 +82,8 @@ of_root Repo tree repo = repo
 abbrev pub value_of : Content → Content → Item → Value
 value_of tree repo i = files_of i.root tree repo i.path
 
--- The answer breaks off at an item: the reply to the items before it, some first frames of its own reply, and `U`. A call on its root failed.
+-- The answer breaks off at an item: the reply to the items before it, some first frames of its own reply, and `U`. A
+-- call on its root failed.
 pub record BreaksOff (job : Job) (tree repo : Content) (Failed : Root → Type 0) (frames : List Frame) : Type 0 where
   pub past : List Item
   pub item : Item
@@ -90,10 +97,12 @@ pub record BreaksOff (job : Job) (tree repo : Content) (Failed : Root → Type 0
 
 -- the frames that answer a job: its reply, unless a call failed
 abbrev pub AnswersJob : Job → Content → Content → (Root → Type 0) → List Frame → Type 0
-AnswersJob job tree repo Failed frames = (frames ≡ replies job.kind job.items tree repo) ⊎ BreaksOff job tree repo Failed frames
+AnswersJob job tree repo Failed frames = (frames ≡ replies job.kind job.items tree repo)
+    ⊎ BreaksOff job tree repo Failed frames
 
 -- At `Ok` the frames that answer a job were written. At an `Err` a first part of their bytes was.
-pub record ToldJob (job : Job) (tree repo : Content) (Failed : Root → Type 0) (result : Result (Unit {0}) ServeFault) (old new : Option Text) : Type 0 where
+pub record ToldJob (job : Job) (tree repo : Content) (Failed : Root → Type 0) (result : Result (Unit {0}) ServeFault)
+    (old new : Option Text) : Type 0 where
   pub frames : List Frame
   pub answers : AnswersJob job tree repo Failed frames
   pub writes : Writes result frames old new

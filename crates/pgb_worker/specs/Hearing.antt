@@ -21,15 +21,20 @@ abbrev pub IsNotOutput : ServeFault → Type 0
 IsNotOutput Sink = ⊥
 IsNotOutput other = Unit {0}
 
--- Where a frame of this type is to come, the field that begins there is at fault: the type is another one, or reading finds it.
+-- Where a frame of this type is to come, the field that begins there is at fault: the type is another one, or reading
+-- finds it.
 abbrev pub IsFormAt : ℕ → Text → ℕ → Type 0
-IsFormAt letter rest at = ((slice_index rest 0 ≢ letter) × (at ≡ 0)) ⊎ ((slice_index rest 0 ≡ letter) × (frame_at rest ≡ Err (faults.Form at)))
+IsFormAt letter rest at = ((slice_index rest 0 ≢ letter) × (at ≡ 0))
+    ⊎ ((slice_index rest 0 ≡ letter) × (frame_at rest ≡ Err (faults.Form at)))
 
--- Why no frame of this type is heard from what is left, of which so many bytes came before. A place past 64 bits is told as their end.
+-- Why no frame of this type is heard from what is left, of which so many bytes came before. A place past 64 bits is
+-- told as their end.
 abbrev pub StopsAt : ℕ → ℕ → Text → ServeFault → Type 0
-StopsAt letter start rest (Form at) = (0 < length rest) × ((k : ℕ) × (at ≡ min (start + k) (2 ^ 64 - 1)) × IsFormAt letter rest k)
+StopsAt letter start rest (Form at) = (0 < length rest)
+    × ((k : ℕ) × (at ≡ min (start + k) (2 ^ 64 - 1)) × IsFormAt letter rest k)
 StopsAt letter start rest (TooLong n) = (slice_index rest 0 ≡ letter) × (frame_at rest ≡ Err (faults.TooLong n))
-StopsAt letter start rest (Ended at) = (0 < length rest) × (slice_index rest 0 ≡ letter) × (frame_at rest ≡ Err faults.Short) × (at ≡ min (start + length rest) (2 ^ 64 - 1))
+StopsAt letter start rest (Ended at) = (0 < length rest) × (slice_index rest 0 ≡ letter)
+    × (frame_at rest ≡ Err faults.Short) × (at ≡ min (start + length rest) (2 ^ 64 - 1))
 StopsAt letter start rest (TooMany limit) = ⊥
 StopsAt letter start rest Sink = ⊥
 StopsAt letter start rest Read = Unit {0}
@@ -51,7 +56,8 @@ Hears view letter start rest (Err e) left = StopsAt letter start rest e
 
 -- what looking at the front of a frame finds
 abbrev pub FaultAt : ℕ → Text → ServeFault → Type 0
-FaultAt start bytes (Form at) = (more : Text) → (k : ℕ) × (at ≡ min (start + k) (2 ^ 64 - 1)) × (frame_at (bytes ++ more) ≡ Err (faults.Form k))
+FaultAt start bytes (Form at) = (more : Text)
+    → (k : ℕ) × (at ≡ min (start + k) (2 ^ 64 - 1)) × (frame_at (bytes ++ more) ≡ Err (faults.Form k))
 FaultAt start bytes (TooLong n) = (more : Text) → frame_at (bytes ++ more) ≡ Err (faults.TooLong n)
 FaultAt start bytes NoMemory = Unit {0}
 FaultAt start bytes other = ⊥

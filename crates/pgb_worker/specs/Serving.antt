@@ -60,14 +60,19 @@ pub record IsLater (old new : Counts) : Type 0 where
 abbrev pub Rose : Counts → Counts → Root → Type 0
 Rose old new root = Rises (count_of root old) (count_of root new)
 
--- Jobs were answered one after the other, and the counts of faults went up meanwhile. An answer that breaks off at an item has a rise of its own, unless the item's root couldn't be opened.
+-- Jobs were answered one after the other, and the counts of faults went up meanwhile. An answer that breaks off at an
+-- item has a rise of its own, unless the item's root couldn't be opened.
 abbrev pub AnswersAll : Content → Content → (Root → Type 0) → Counts → Counts → List Job → List Frame → Type 0
 AnswersAll tree repo Closed old new [] frames = (frames ≡ []) × IsLater old new
 AnswersAll tree repo Closed old new (job ∷ jobs) frames =
-    (mid : Counts) × (one : List Frame) × (others : List Frame) × (frames ≡ one ++ others) × IsLater old mid × AnswersJob job tree repo (λ root. Closed root ⊎ Rose old mid root) one × AnswersAll tree repo Closed mid new jobs others
+    (mid : Counts) × (one : List Frame) × (others : List Frame) × (frames ≡ one ++ others) × IsLater old mid
+    × AnswersJob job tree repo (λ root. Closed root ⊎ Rose old mid root) one
+    × AnswersAll tree repo Closed mid new jobs others
 
--- The input begins with this talk, and the jobs are answered so. The roots' counts of faults were other ones once the roots were opened.
-pub record Talked (tree repo : Content) (input : Text) (entry exit : Counts) (talk : Talk) (rest : Text) (answers : List Frame) : Type 0 where
+-- The input begins with this talk, and the jobs are answered so. The roots' counts of faults were other ones once the
+-- roots were opened.
+pub record Talked (tree repo : Content) (input : Text) (entry exit : Counts) (talk : Talk) (rest : Text)
+    (answers : List Frame) : Type 0 where
   pub heard : input ≡ bytes_heard talk ++ rest
   pub fits : AllByRecursion FitsFrame (frames_heard talk)
   pub opened : Counts
@@ -77,7 +82,8 @@ pub record Talked (tree repo : Content) (input : Text) (entry exit : Counts) (ta
 -- why it ended there, where this was left of the input
 abbrev pub EndsAt : Talk → Text → Result ℕ ServeFault → Type 0
 EndsAt talk rest (Ok jobs) = (rest ≡ []) × (jobs ≡ length (jobs_heard talk))
-EndsAt talk rest (Err (TooMany limit)) = (0 < length rest) × (limit ≡ frame_limit) × (limit ≡ length (frames_heard talk))
+EndsAt talk rest (Err (TooMany limit)) = (0 < length rest) × (limit ≡ frame_limit)
+    × (limit ≡ length (frames_heard talk))
 EndsAt talk rest (Err Sink) = Unit {0}
 EndsAt talk rest (Err fault) = StopsAt (next_letter talk) (length (bytes_heard talk)) rest fault
 
@@ -89,11 +95,13 @@ WroteAnswers other old text new = IsWritten old text new
 
 -- where a job was heard, each root was opened at its place in the setup, or failed to open
 abbrev pub OpenedAt : Talk → Counts → Counts → Text → Text → Type 0
-OpenedAt (Heard roots (job ∷ jobs)) entry exit tree repo = ((tree ≡ roots.tree) ⊎ Rises entry.tree exit.tree) × ((repo ≡ roots.repo) ⊎ Rises entry.repo exit.repo)
+OpenedAt (Heard roots (job ∷ jobs)) entry exit tree repo = ((tree ≡ roots.tree) ⊎ Rises entry.tree exit.tree)
+    × ((repo ≡ roots.repo) ⊎ Rises entry.repo exit.repo)
 OpenedAt other entry exit tree repo = Unit {0}
 
 -- what came of serving
-pub record Served (tree repo : Content) (input : Text) (entry exit : Counts) (tree_place repo_place : Text) (result : Result ℕ ServeFault) (old new : Option Text) : Type 0 where
+pub record Served (tree repo : Content) (input : Text) (entry exit : Counts) (tree_place repo_place : Text)
+    (result : Result ℕ ServeFault) (old new : Option Text) : Type 0 where
   pub talk : Talk
   pub rest : Text
   pub answers : List Frame
@@ -102,12 +110,17 @@ pub record Served (tree repo : Content) (input : Text) (entry exit : Counts) (tr
   pub wrote : WroteAnswers result old (flat_map spell answers) new
   pub places : OpenedAt talk entry exit tree_place repo_place
 
--- What came of serving the next job, where so many bytes came before what is left of the input: nothing more where it is over; else the job was heard and answered. At an `Err` none was heard, or a first part of its answer was written.
-abbrev pub ServedNext : Content → Content → (Root → Type 0) → ℕ → Text → Result (Option ℕ) ServeFault → Option Text → Option Text → Option Text → Type 0
+-- What came of serving the next job, where so many bytes came before what is left of the input: nothing more where it
+-- is over; else the job was heard and answered. At an `Err` none was heard, or a first part of its answer was written.
+abbrev pub ServedNext : Content → Content → (Root → Type 0) → ℕ → Text → Result (Option ℕ) ServeFault → Option Text
+    → Option Text → Option Text → Type 0
 ServedNext tree repo Failed start rest (Ok None) left old new = (rest ≡ []) × (left ≡ Some []) × (new ≡ old)
-ServedNext tree repo Failed start rest (Ok (Some size)) left old new = (job : Job) × IsHeard (Task job) size rest left × ToldJob job tree repo Failed (Ok tt) old new
+ServedNext tree repo Failed start rest (Ok (Some size)) left old new = (job : Job) × IsHeard (Task job) size rest left
+    × ToldJob job tree repo Failed (Ok tt) old new
 ServedNext tree repo Failed start rest (Err fault) left old new =
-    (StopsAt 74 start rest fault × (new ≡ old)) ⊎ ((job : Job) × (size : ℕ) × IsHeard (Task job) size rest left × ToldJob job tree repo Failed (Err fault) old new × IsOutputFault fault)
+    (StopsAt 74 start rest fault × (new ≡ old))
+    ⊎ ((job : Job) × (size : ℕ) × IsHeard (Task job) size rest left × ToldJob job tree repo Failed (Err fault) old new
+    × IsOutputFault fault)
 
 -- why serving jobs ended, where so many were heard and so many bytes came before what was left of the input
 abbrev pub JobsEnd : ℕ → ℕ → Text → Result ℕ ServeFault → Type 0
@@ -117,7 +130,8 @@ JobsEnd count start rest (Err Sink) = Unit {0}
 JobsEnd count start rest (Err fault) = StopsAt 74 start rest fault
 
 -- what came of serving all the jobs that were left of the input
-pub record ServedJobs (tree repo : Content) (Closed : Root → Type 0) (entry exit : Counts) (start : ℕ) (input : Text) (result : Result ℕ ServeFault) (old new : Option Text) : Type 0 where
+pub record ServedJobs (tree repo : Content) (Closed : Root → Type 0) (entry exit : Counts) (start : ℕ) (input : Text)
+    (result : Result ℕ ServeFault) (old new : Option Text) : Type 0 where
   pub jobs : List Job
   pub rest : Text
   pub heard : input ≡ flat_map spell (map Task jobs) ++ rest

@@ -89,7 +89,8 @@ fn hash_part(digest: &mut Sha1, room: &[u8], count: usize)
     digest.update(&room[HEAD_SIZE..HEAD_SIZE + count]);
 }
 
-// Answers an item whose first part stands behind the room for its head: the parts, where they are asked for, and the end.
+// Answers an item whose first part stands behind the room for its head: the parts, where they are asked for, and the
+// end.
 fn answer_bytes<O: Sink, F: Files>(
     alloc: Global,
     out: &mut O,

@@ -101,8 +101,8 @@ pub(crate) fn fill_part<F: Files>(
     Ok(read)
 }
 
-/// Reads the part behind one of so many bytes. None is behind a shorter one than a part may be: a file that grows meanwhile
-/// had ended.
+/// Reads the part behind one of so many bytes. None is behind a shorter one than a part may be: a file that grows
+/// meanwhile had ended.
 pub(crate) fn next_part<F: Files>(
     files: &mut F,
     item: &Item,

@@ -171,8 +171,8 @@ fn new_room(alloc: Global) -> Result<Vec<u8>, ServeFault>
     Ok(vec![in alloc; 0u8; HEAD_SIZE + PART_SIZE]?)
 }
 
-/// All that a worker does: it answers each job of the input by its reply, until the input ends, and returns the number of
-/// jobs. The first frame is the setup. The input is read where it stands.
+/// All that a worker does: it answers each job of the input by its reply, until the input ends, and returns the number
+/// of jobs. The first frame is the setup. The input is read where it stands.
 pub fn serve<I: Source, O: Sink, F: Files, G: Files>(
     alloc: Global,
     input: &mut I,

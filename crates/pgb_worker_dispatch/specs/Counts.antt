@@ -44,6 +44,7 @@ NoneFull = AllByRecursion (λ s. s.reads ≢ 2 ^ 64 - 1)
 abbrev pub AllSteady : List LinkState → Type 0
 AllSteady = AllByRecursion (λ s. IsSteadyWorker s.told)
 
--- where each link is a steady worker, and no count stands at its end, the counts rose together by the number of read jobs
+-- where each link is a steady worker, and no count stands at its end, the counts rose together by the number of read
+-- jobs
 abbrev pub ReadsRise : List Job → List LinkState → List LinkState → Type 0
 ReadsRise jobs links now = AllSteady links → NoneFull now → reads_of now ≡ reads_of links + read_jobs jobs

@@ -17,8 +17,8 @@ use Rattle.pgb_worker_reply.specs.Reads.{Reads, IsSumOf, file_of}
 abbrev pub AllRead : Content → Content → List LinkState → Type 0
 AllRead tree repo = AllByRecursion (λ s. IsSomeAnd s.told (Reads tree repo))
 
--- An item ended as its file stands. Of a file that is there a read job holds the bytes that it asks for, and each job got their number and
--- digest. An absent file is one of the data folder.
+-- An item ended as its file stands. Of a file that is there a read job holds the bytes that it asks for, and each job
+-- got their number and digest. An absent file is one of the data folder.
 abbrev pub EndsByFile : JobKind → Item → Value → Held → ItemEnd → Type 0
 EndsByFile Read i (Some file) held (Whole n sum) = Holds held (payload i file) × IsSumOf n sum.0 (payload i file)
 EndsByFile Digest i (Some file) held (Whole n sum) = Holds held [] × IsSumOf n sum.0 (payload i file)
@@ -31,8 +31,10 @@ abbrev pub AllEndByFile : JobKind → Content → Content → List Item → List
 AllEndByFile kind tree repo [] [] = Unit {0}
 AllEndByFile kind tree repo [] (d ∷ ds) = ⊥
 AllEndByFile kind tree repo (i ∷ is) [] = ⊥
-AllEndByFile kind tree repo (i ∷ is) (d ∷ ds) = EndsByFile kind i (file_of i tree repo) d.held d.end × AllEndByFile kind tree repo is ds
+AllEndByFile kind tree repo (i ∷ is) (d ∷ ds) = EndsByFile kind i (file_of i tree repo) d.held d.end
+    × AllEndByFile kind tree repo is ds
 
 -- where all links read the same files, each item of each job ended as its file stands
 abbrev pub AllByFile : List Job → List LinkState → List Kept → Type 0
-AllByFile jobs links kept = (tree repo : Content) → AllRead tree repo links → (j : ℕ) (job : Job) → slice_get jobs j ≡ Some job → IsSomeAnd (slice_get kept j) (λ k. AllEndByFile job.kind tree repo job.items k.done)
+AllByFile jobs links kept = (tree repo : Content) → AllRead tree repo links → (j : ℕ) (job : Job)
+    → slice_get jobs j ≡ Some job → IsSomeAnd (slice_get kept j) (λ k. AllEndByFile job.kind tree repo job.items k.done)

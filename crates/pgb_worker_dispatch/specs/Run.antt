@@ -25,7 +25,8 @@ use Rattle.pgb_worker_dispatch.specs.declared.fault.Lost.{Lost as Entry}
 use Rattle.pgb_worker_dispatch.specs.declared.fault.DispatchFault.{DispatchFault}
 use Rattle.pgb_worker_dispatch.specs.declared.fault.DispatchFault.TheVariants as faults
 
--- all that a run changes: which link has which job, the links that are left in their places, how far each reply was heard, what is held, and the lost links
+-- all that a run changes: which link has which job, the links that are left in their places, how far each reply was
+-- heard, what is held, and the lost links
 pub record State : Type 0 where
   pub core : Dispatch
   pub seats : List (Option LinkState)
@@ -34,10 +35,13 @@ pub record State : Type 0 where
   pub lost : List Entry
 
 -- the state that the values of a program stand for
-abbrev pub state : {A : Type 0} → (A → LinkState) → Dispatch → List (Option A) → List Hearing → KeepState → List Entry → State
-state of core seats hears kept lost = record { core = core; seats = map (option_map of) seats; hears = hears; kept = kept; lost = lost }
+abbrev pub state : {A : Type 0} → (A → LinkState) → Dispatch → List (Option A) → List Hearing → KeepState → List Entry
+    → State
+state of core seats hears kept lost =
+    record { core = core; seats = map (option_map of) seats; hears = hears; kept = kept; lost = lost }
 
--- what a run began with: its links, the links that were lost before, and whether each idle link was given a job or none waited
+-- what a run began with: its links, the links that were lost before, and whether each idle link was given a job or none
+-- waited
 pub record Began : Type 0 where
   pub links : List LinkState
   pub lost : List Entry
@@ -65,7 +69,8 @@ pub record HeardSince (job : Job) (from now : LinkState) (heard : ℕ) : Type 0 
   pub hears : HasHeard 0 heard begun now
 
 -- a busy link replies to its job
-pub record Replies (jobs : List Job) (places : List JobPlace) (ks : List Kept) (from : LinkState) (i j : ℕ) (h : Hearing) (now : LinkState) : Type 0 where
+pub record Replies (jobs : List Job) (places : List JobPlace) (ks : List Kept) (from : LinkState) (i j : ℕ)
+    (h : Hearing) (now : LinkState) : Type 0 where
   pub place : slice_get places j ≡ Some (With i)
   pub job : Job
   pub job_is : slice_get jobs j ≡ Some job
@@ -78,7 +83,8 @@ pub record Replies (jobs : List Job) (places : List JobPlace) (ks : List Kept) (
   pub since : HeardSince job from now h.heard
 
 -- how a link stands by its place: the seat of a lost one is empty
-abbrev pub LinkGoes : List Job → Began → List JobPlace → List Kept → LinkState → ℕ → LinkPlace → Hearing → Option LinkState → Type 0
+abbrev pub LinkGoes : List Job → Began → List JobPlace → List Kept → LinkState → ℕ → LinkPlace → Hearing
+    → Option LinkState → Type 0
 LinkGoes jobs b places ks from i Lost h None = Unit {0}
 LinkGoes jobs b places ks from i Lost h (Some now) = ⊥
 LinkGoes jobs b places ks from i Idle h None = ⊥
@@ -101,8 +107,8 @@ pub record BeginsOne (jobs : List Job) (from begun : LinkState) : Type 0 where
   pub job_is : slice_get jobs number ≡ Some job
   pub tells : TellsItems job.kind job.items from.told begun.told
 
--- The cause held of a link as it was lost. Its count of faults rose; or so many bytes of its reply to one of the jobs were heard, and they
--- end or are no reply; or two sums differ.
+-- The cause held of a link as it was lost. Its count of faults rose; or so many bytes of its reply to one of the jobs
+-- were heard, and they end or are no reply; or two sums differ.
 abbrev pub HoldsOf : List Job → LostCause → LinkState → LinkState → LinkState → Type 0
 HoldsOf jobs causes.Device from begun last = Rises begun.faults last.faults
 HoldsOf jobs (causes.Ended at) from begun last = BeginsOne jobs from begun × HasHeard 0 at begun last
@@ -117,8 +123,8 @@ pub record IsSeen (jobs : List Job) (cause : LostCause) (from : LinkState) : Typ
   pub faults : begun.faults ≡ from.faults
   pub holds : HoldsOf jobs cause from begun last
 
--- The entry names a link that isn't a steady worker, with a cause that held. An honest link is lost only because a call on it failed or its
--- bytes ended.
+-- The entry names a link that isn't a steady worker, with a cause that held. An honest link is lost only because a call
+-- on it failed or its bytes ended.
 pub record IsLoss (jobs : List Job) (links : List LinkState) (e : Entry) : Type 0 where
   pub from : LinkState
   pub is : slice_get links e.place ≡ Some from
@@ -141,11 +147,13 @@ live (Idle ∷ ls) = suc (live ls)
 live (Busy j ∷ ls) = suc (live ls)
 
 -- the lost links are those of the later entries, each once
-pub record Losses (jobs : List Job) (links : List LinkState) (before after : List Entry) (places : List LinkPlace) : Type 0 where
+pub record Losses (jobs : List Job) (links : List LinkState) (before after : List Entry)
+    (places : List LinkPlace) : Type 0 where
   pub entries : List Entry
   pub is : after ≡ before ++ entries
   pub each : AllByRecursion (IsLoss jobs links) entries
-  pub has : (l : ℕ) → slice_get places l ≡ Some Lost → (k : ℕ) × (e : Entry) × (slice_get entries k ≡ Some e) × (e.place ≡ l)
+  pub has : (l : ℕ) → slice_get places l ≡ Some Lost
+      → (k : ℕ) × (e : Entry) × (slice_get entries k ≡ Some e) × (e.place ≡ l)
   pub count : length entries + live places ≡ length places
 
 -- ---- a run
@@ -180,9 +188,12 @@ pub record Going (jobs : List Job) (b : Began) (s : State) : Type 0 where
   pub even : withs s.core.jobs ≡ busies s.core.links
   pub losses : Losses jobs b.links b.lost s.lost s.core.links
   pub some : AllEnded s.core.jobs → 0 < length b.links → 0 < live s.core.links
-  pub reads : live s.core.links ≡ length s.core.links → NoneFull (somes s.seats) → reads_of (somes s.seats) ≡ reads_of b.links + sent_reads jobs s.core.jobs
-  pub each_job : (j : ℕ) (job : Job) (p : JobPlace) → slice_get jobs j ≡ Some job → slice_get s.core.jobs j ≡ Some p → IsSomeAnd (slice_get s.kept.kept j) (JobGoes b job p)
-  pub each_link : (i : ℕ) (p : LinkPlace) (h : Hearing) (seat : Option LinkState) → slice_get s.core.links i ≡ Some p → slice_get s.hears i ≡ Some h → slice_get s.seats i ≡ Some seat
+  pub reads : live s.core.links ≡ length s.core.links → NoneFull (somes s.seats)
+      → reads_of (somes s.seats) ≡ reads_of b.links + sent_reads jobs s.core.jobs
+  pub each_job : (j : ℕ) (job : Job) (p : JobPlace) → slice_get jobs j ≡ Some job → slice_get s.core.jobs j ≡ Some p
+      → IsSomeAnd (slice_get s.kept.kept j) (JobGoes b job p)
+  pub each_link : (i : ℕ) (p : LinkPlace) (h : Hearing) (seat : Option LinkState) → slice_get s.core.links i ≡ Some p
+      → slice_get s.hears i ≡ Some h → slice_get s.seats i ≡ Some seat
       → IsSomeAnd (slice_get b.links i) (λ from. LinkGoes jobs b s.core.jobs s.kept.kept from i p h seat)
 
 -- some run is at this state
@@ -295,7 +306,8 @@ pub record AllLost (jobs : List Job) (b : Began) (after : List Entry) : Type 0 w
 -- why a run ended early
 abbrev pub RunFault : List Job → DispatchFault → State → State → Type 0
 RunFault jobs faults.WorkersLost s t = (b : Began) → b.all ≡ true → Going jobs b s → AllLost jobs b t.lost
-RunFault jobs (faults.Unread j item) s t = (b : Began) → b.all ≡ true → Going jobs b s → UnreadLeaves jobs b j item t.seats
+RunFault jobs (faults.Unread j item) s t = (b : Began) → b.all ≡ true → Going jobs b s
+    → UnreadLeaves jobs b j item t.seats
 RunFault jobs faults.Keep s t = Rises s.kept.faults t.kept.faults
 RunFault jobs faults.NoMemory s t = Unit {0}
 
@@ -312,25 +324,32 @@ pub record Starts (jobs : List Job) (links : List LinkState) (s : State) : Type 
 
 -- each job has ended, with what some link of these read
 abbrev pub AllDone : List Job → List LinkState → List Kept → Type 0
-AllDone jobs links kept = (j : ℕ) (job : Job) → slice_get jobs j ≡ Some job → IsSomeAnd (slice_get kept j) (EndedBy links job)
+AllDone jobs links kept = (j : ℕ) (job : Job) → slice_get jobs j ≡ Some job
+    → IsSomeAnd (slice_get kept j) (EndedBy links job)
 
--- Of these links those that weren't lost are left, in their order. None has anything to give, and each was sent a job where there were as many
--- jobs as links. Each of the others has its entry, and each entry tells why.
-pub record Left (jobs : List Job) (links : List LinkState) (before after : List Entry) (now : List LinkState) : Type 0 where
+-- Of these links those that weren't lost are left, in their order. None has anything to give, and each was sent a job
+-- where there were as many jobs as links. Each of the others has its entry, and each entry tells why.
+pub record Left (jobs : List Job) (links : List LinkState) (before after : List Entry) (now : List LinkState) : Type
+    0 where
   pub seats : List (Option LinkState)
   pub seat_count : length seats ≡ length links
   pub now_are : now ≡ somes seats
-  pub rests : (i : ℕ) (from s : LinkState) → slice_get links i ≡ Some from → slice_get seats i ≡ Some (Some s) → Rests (record { links = links; lost = before; all = true }) (length jobs) from s
+  pub rests : (i : ℕ) (from s : LinkState) → slice_get links i ≡ Some from → slice_get seats i ≡ Some (Some s)
+      → Rests (record { links = links; lost = before; all = true }) (length jobs) from s
   pub entries : List Entry
   pub is : after ≡ before ++ entries
   pub each : AllByRecursion (IsLoss jobs links) entries
-  pub gone : (i : ℕ) → slice_get seats i ≡ Some None → (k : ℕ) × (e : Entry) × (slice_get entries k ≡ Some e) × (e.place ≡ i)
+  pub gone : (i : ℕ) → slice_get seats i ≡ Some None
+      → (k : ℕ) × (e : Entry) × (slice_get entries k ≡ Some e) × (e.place ≡ i)
   pub once : length entries + length now ≡ length links
 
 -- why the jobs weren't done
-abbrev pub JobsFault : List Job → DispatchFault → List LinkState → List Entry → List Entry → ℕ → ℕ → List LinkState → Type 0
-JobsFault jobs faults.WorkersLost links before after old new now = AllLost jobs (record { links = links; lost = before; all = true }) after
-JobsFault jobs (faults.Unread j item) links before after old new now = UnreadLeaves jobs (record { links = links; lost = before; all = true }) j item (map Some now)
+abbrev pub JobsFault : List Job → DispatchFault → List LinkState → List Entry → List Entry → ℕ → ℕ → List LinkState
+    → Type 0
+JobsFault jobs faults.WorkersLost links before after old new now =
+    AllLost jobs (record { links = links; lost = before; all = true }) after
+JobsFault jobs (faults.Unread j item) links before after old new now =
+    UnreadLeaves jobs (record { links = links; lost = before; all = true }) j item (map Some now)
 JobsFault jobs faults.Keep links before after old new now = Rises old new
 JobsFault jobs faults.NoMemory links before after old new now = Unit {0}
 

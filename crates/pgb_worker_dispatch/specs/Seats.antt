@@ -35,22 +35,27 @@ IsHearing (Some state) job number h s = IsGiving state.told job number h s
 
 -- a frame was heard of the link in the seat
 abbrev pub HearsOver : Verdict → Job → ℕ → Hearing → Hearing → KeepState → KeepState → LinkState → LinkState → Type 0
-HearsOver v job number h n s t old new = KeepsCounts v old new × ReplyLeaves v job number h n s t old new × HeardOf v h.heard n.heard old new
+HearsOver v job number h n s t old new = KeepsCounts v old new × ReplyLeaves v job number h n s t old new
+    × HeardOf v h.heard n.heard old new
 
 -- the same of a seat
-abbrev pub Hears : Verdict → Job → ℕ → Hearing → Hearing → KeepState → KeepState → Option LinkState → Option LinkState → Type 0
+abbrev pub Hears : Verdict → Job → ℕ → Hearing → Hearing → KeepState → KeepState → Option LinkState → Option LinkState
+    → Type 0
 Hears v job number h n s t = Both (HearsOver v job number h n s t)
 
 -- no frame of the link was taken
 abbrev pub FailsOver : TakeFault → Job → ℕ → Hearing → KeepState → KeepState → LinkState → LinkState → Type 0
-FailsOver e job number h s t old new = (IsUnread e → last_five new.given ≡ spell Unread) × ReplyFails e job number h s t old
+FailsOver e job number h s t old new = (IsUnread e → last_five new.given ≡ spell Unread)
+    × ReplyFails e job number h s t old
 
 -- the same of a seat
-abbrev pub HearFails : TakeFault → Job → ℕ → Hearing → KeepState → KeepState → Option LinkState → Option LinkState → Type 0
+abbrev pub HearFails : TakeFault → Job → ℕ → Hearing → KeepState → KeepState → Option LinkState → Option LinkState
+    → Type 0
 HearFails e job number h s t = Both (FailsOver e job number h s t)
 
 -- the link and the hearing at i changed by R
-pub record HeardAt (R : Hearing → Hearing → Option LinkState → Option LinkState → Type 0) (i : ℕ) (seats after : List (Option LinkState)) (hears newer : List Hearing) : Type 0 where
+pub record HeardAt (R : Hearing → Hearing → Option LinkState → Option LinkState → Type 0) (i : ℕ)
+    (seats after : List (Option LinkState)) (hears newer : List Hearing) : Type 0 where
   pub hear : Hearing
   pub next : Hearing
   pub seat : Option LinkState

@@ -14,7 +14,8 @@ use Rattle.pgb_worker_dispatch.specs.declared.fault.Lost.{Lost as Entry}
 abbrev pub Kept : Text → ℕ → LinkState → List LinkState → List LinkState → List Entry → List Entry → Type 0
 Kept frame place link old new before after =
     ((now : LinkState) × Sends link now frame × (new ≡ old ++ now ∷ []) × (after ≡ before))
-    ⊎ ((last : LinkState) × Fails link last × (new ≡ old) × (after ≡ before ++ (record { place = place; cause = Device }) ∷ []))
+    ⊎ ((last : LinkState) × Fails link last × (new ≡ old)
+    × (after ≡ before ++ (record { place = place; cause = Device }) ∷ []))
 
 -- the frame tells two roots
 abbrev pub IsSetup : Text → Type 0

@@ -54,8 +54,8 @@ fn run_links<L: Link, W, U: Turns, K: Keep<W>>(
     // Each job has ended once, with what the link that ended it read.
     ensures done { OnOk result
         (AllDone (map job_of jobs.now) (map L.link_state links.old.items) (K.kept keep.new on.new).kept) }
-    // The links that weren't lost are left, idle, each with as many new jobs as it may have. Each of the others is told,
-    // and no steady worker is.
+    // The links that weren't lost are left, idle, each with as many new jobs as it may have. Each of the others is
+    // told, and no steady worker is.
     ensures left { OnOk result
         (Left (map job_of jobs.now) (map L.link_state links.old.items) lost.old.items lost.new.items
         (map L.link_state links.new.items)) }
@@ -128,8 +128,8 @@ pub fn run_jobs<L: Link, W, U: Turns, K: Keep<W>>(
     // Where all links read the same files, each item of each job ended as its file stands.
     ensures payload { OnOk result
         (AllByFile (map job_of jobs.now) (map L.link_state links.old.items) (K.kept keep.new on.new).kept) }
-    // The links that weren't lost are left, idle, each with as many new jobs as it may have. Each of the others is told,
-    // and no steady worker is.
+    // The links that weren't lost are left, idle, each with as many new jobs as it may have. Each of the others is
+    // told, and no steady worker is.
     ensures left { OnOk result
         (Left (map job_of jobs.now) (map L.link_state links.old.items) lost.old.items lost.new.items
         (map L.link_state links.new.items)) }

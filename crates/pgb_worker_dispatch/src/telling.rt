@@ -75,8 +75,8 @@ pub fn setup<L: Link>(
     requires few { vec_len links.old < 2 ^ 32 }
     requires ready { AreReady (map L.link_state links.old.items) }
     requires fits { FitsRoots (roots_of roots.now) }
-    // The links that weren't lost are left in their order, with nothing to give, and one at least. Each of the others is
-    // told, and no steady worker is.
+    // The links that weren't lost are left in their order, with nothing to give, and one at least. Each of the others
+    // is told, and no steady worker is.
     ensures left { OnOk result
         (Left [] (map L.link_state links.old.items) lost.old.items lost.new.items (map L.link_state links.new.items)) }
     ensures some { OnOk result (links.new.items ≢ []) }

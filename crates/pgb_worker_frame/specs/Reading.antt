@@ -36,11 +36,13 @@ pub record Rest : Type 0 where
   pub left : ℕ
   pub bytes : Text
 
--- The next field, of so many bytes, of a body that ends at end. One that the body cuts short is a fault once the bytes reach the body's end.
+-- The next field, of so many bytes, of a body that ends at end. One that the body cuts short is a fault once the bytes
+-- reach the body's end.
 abbrev pub field_at : ℕ → ℕ → Rest → Result (Text × Rest) FrameFault
 field_at size end rest =
     if nat_le size rest.left
-    then (if nat_lt (length rest.bytes) size then Err Short else Ok (take size rest.bytes, record { left = rest.left - size; bytes = drop size rest.bytes }))
+    then (if nat_lt (length rest.bytes) size then Err Short else Ok
+    (take size rest.bytes, record { left = rest.left - size; bytes = drop size rest.bytes }))
     else (if nat_lt (length rest.bytes) rest.left then Err Short else Err (Form (end - rest.left)))
 
 unfoldable pub number_at : Width → ℕ → Rest → Result (ℕ × Rest) FrameFault
@@ -77,7 +79,8 @@ path_limit Repo = repo_limit
 
 -- whether it is the path of an item
 abbrev pub is_item_path : Root → Text → Bool
-is_item_path root path = is_utf8 path && nat_le (length path) (path_limit root) && list_all is_path_byte path && list_all is_element (elements path)
+is_item_path root path = is_utf8 path && nat_le (length path) (path_limit root) && list_all is_path_byte path
+    && list_all is_element (elements path)
 
 unfoldable pub item_at : ℕ → Rest → Result (Item × Rest) FrameFault
 item_at end rest = do
@@ -144,7 +147,9 @@ frame_at [] = Err Short
 frame_at (type ∷ bytes) =
     if is_type type
     then (if nat_lt (length bytes) 4 then Err Short
-    else (body_at type (5 + from_be_bytes w32 (take 4 bytes)) (record { left = from_be_bytes w32 (take 4 bytes); bytes = drop 4 bytes }) >>= whole (5 + from_be_bytes w32 (take 4 bytes))))
+    else (body_at type (5 + from_be_bytes w32 (take 4 bytes))
+    (record { left = from_be_bytes w32 (take 4 bytes); bytes = drop 4 bytes }) >>= whole
+    (5 + from_be_bytes w32 (take 4 bytes))))
     else Err (Form 0)
 
 -- what reading gives where the bytes begin with this frame

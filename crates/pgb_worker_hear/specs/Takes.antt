@@ -13,7 +13,8 @@ use Rattle.pgb_worker_hear.specs.declared.cause.HearFault.TheVariants as faults
 -- of a link that tells, the first bytes that it was to give were given, and the rest is still to come
 abbrev pub TakesFront : Option Told → Option Told → Text → Type 0
 TakesFront None new bytes = new ≡ None
-TakesFront (Some told) new bytes = (rest : Text) × (told.pending ≡ bytes ++ rest) × (new ≡ Some (record told { pending = rest }))
+TakesFront (Some told) new bytes = (rest : Text) × (told.pending ≡ bytes ++ rest)
+    × (new ≡ Some (record told { pending = rest }))
 
 -- these bytes were given, and nothing else happened
 pub record Takes (old new : LinkState) (bytes : Text) : Type 0 where

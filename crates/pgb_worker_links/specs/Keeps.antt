@@ -17,7 +17,11 @@ abbrev pub kept_of : Bool → KeptJob → Kept
 kept_of holds j = record { done = map (done_of holds) j.ended.items; held = held_of holds j.count j.bytes.items }
 
 abbrev pub state_of : MemKeep → KeepState
-state_of k = record { faults = k.failing.faults; jobs = map job_of k.jobs.now; kept = map (kept_of k.holds) k.kept.items }
+state_of k = record {
+  faults = k.failing.faults;
+  jobs = map job_of k.jobs.now;
+  kept = map (kept_of k.holds) k.kept.items;
+}
 
 -- nothing came of the job yet
 abbrev pub IsEmpty : KeptJob → Type 0

@@ -9,4 +9,10 @@ rest_of l = l.tape.rest
 
 -- it tells nothing
 abbrev pub state_of : RawLink → LinkState
-state_of l = record { faults = l.failing.faults; jobs = l.jobs; reads = l.reads; given = last_five l.tape.given; told = None }
+state_of l = record {
+  faults = l.failing.faults;
+  jobs = l.jobs;
+  reads = l.reads;
+  given = last_five l.tape.given;
+  told = None;
+}

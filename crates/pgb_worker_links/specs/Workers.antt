@@ -71,7 +71,11 @@ abbrev pub told_first : Content → Content → List ℕ → Told
 told_first tree repo fail = record { answer = answer tree repo; pending = []; steady = is_steady fail }
 
 abbrev pub told_of : MemLink → Told
-told_of l = record { answer = answer_of l.worker; pending = raw.rest_of l.raw; steady = is_steady l.raw.failing.fail.items }
+told_of l = record {
+  answer = answer_of l.worker;
+  pending = raw.rest_of l.raw;
+  steady = is_steady l.raw.failing.fail.items;
+}
 
 abbrev pub state_of : MemLink → LinkState
 state_of l = record (raw.state_of l.raw) { told = Some (told_of l) }

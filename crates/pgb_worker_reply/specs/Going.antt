@@ -31,20 +31,24 @@ IsSame (Some a) (Some b) = (b.answer ≡ a.answer) × (b.steady ≡ a.steady)
 
 -- what is still to be given of an item of which these bytes were heard, in full parts or not, and of the items after it
 abbrev pub IsPending : JobKind → Item → Value → List Item → Text → Bool → Content → Content → Text → Type 0
-IsPending kind i None left bytes full tree repo pending = (bytes ≡ []) × (pending ≡ flat_map spell (absent_reply i.root (replies kind left tree repo)))
+IsPending kind i None left bytes full tree repo pending = (bytes ≡ [])
+    × (pending ≡ flat_map spell (absent_reply i.root (replies kind left tree repo)))
 IsPending kind i (Some file) left bytes full tree repo pending =
-    (more : Text) × (payload i file ≡ bytes ++ more) × ((more ≡ []) ⊎ (full ≡ true)) × (pending ≡ flat_map spell (item_rest kind (payload i file) more (replies kind left tree repo)))
+    (more : Text) × (payload i file ≡ bytes ++ more) × ((more ≡ []) ⊎ (full ≡ true))
+    × (pending ≡ flat_map spell (item_rest kind (payload i file) more (replies kind left tree repo)))
 
 -- what the link is still to give, where it reads such roots
 abbrev pub Tells : (Content → Content → Text → Type 0) → Option Told → Option Told → Type 0
 Tells P None None = Unit {0}
 Tells P None (Some b) = ⊥
 Tells P (Some a) None = ⊥
-Tells P (Some a) (Some b) = IsSame (Some a) (Some b) × ((tree repo : Content) → Reads tree repo a → P tree repo b.pending)
+Tells P (Some a) (Some b) = IsSame (Some a) (Some b)
+    × ((tree repo : Content) → Reads tree repo a → P tree repo b.pending)
 
 -- the rest of an item, and the items after it
 abbrev pub TellsItem : JobKind → Item → List Item → Text → Bool → Option Told → Option Told → Type 0
-TellsItem kind i left bytes full = Tells (λ tree repo pending. IsPending kind i (file_of i tree repo) left bytes full tree repo pending)
+TellsItem kind i left bytes full = Tells
+    (λ tree repo pending. IsPending kind i (file_of i tree repo) left bytes full tree repo pending)
 
 -- these items
 abbrev pub TellsItems : JobKind → List Item → Option Told → Option Told → Type 0
@@ -54,7 +58,8 @@ TellsItems kind items = Tells (λ tree repo pending. pending ≡ flat_map spell 
 abbrev pub IsDrained : Option Told → Option Told → Type 0
 IsDrained = Tells (λ tree repo pending. pending ≡ [])
 
--- The reply to a job in its course. The link began it as from, and tells now what is left; this is held of the job, and so far was heard.
+-- The reply to a job in its course. The link began it as from, and tells now what is left; this is held of the job, and
+-- so far was heard.
 pub record Goes (from now : Option Told) (job : Job) (k : Kept) (h : Hearing) : Type 0 where
   pub past : List Item
   pub next : Item
@@ -109,7 +114,8 @@ pub record KeptAt (old new : KeepState) (number : ℕ) (m : Kept) : Type 0 where
   pub kept : new.kept ≡ slice_set old.kept number m
 
 -- the reply goes on
-pub record GoesOn (from now : Option Told) (job : Job) (number : ℕ) (h : Hearing) (k : Kept) (old new : KeepState) : Type 0 where
+pub record GoesOn (from now : Option Told) (job : Job) (number : ℕ) (h : Hearing) (k : Kept)
+    (old new : KeepState) : Type 0 where
   pub kept : Kept
   pub is : KeptAt old new number kept
   pub goes : Goes from now job kept h
@@ -131,25 +137,30 @@ Blames (causes.Form at) from = ¬ IsHonest from
 Blames (causes.Sum told found) from = ¬ IsHonest from
 
 -- a verdict on a frame
-abbrev pub VerdictHolds : Verdict → Option Told → Option Told → Job → ℕ → Hearing → Kept → KeepState → KeepState → Type 0
+abbrev pub VerdictHolds : Verdict → Option Told → Option Told → Job → ℕ → Hearing → Kept → KeepState → KeepState
+    → Type 0
 VerdictHolds verdicts.More from now job number h k old new = GoesOn from now job number h k old new
 VerdictHolds verdicts.Ended from now job number h k old new = HasEnded from now job number k old new
-VerdictHolds (verdicts.Lost cause) from now job number h k old new = (new ≡ old) × (¬ IsSteadyWorker from) × IsTold cause × Blames cause from
+VerdictHolds (verdicts.Lost cause) from now job number h k old new = (new ≡ old) × (¬ IsSteadyWorker from)
+    × IsTold cause × Blames cause from
 
 -- why no more is taken
 abbrev pub FaultHolds : TakeFault → Option Told → Job → ℕ → KeepState → KeepState → Type 0
-FaultHolds (faults.Unread item) from job index old new = (new ≡ old) × (item ≡ index) × ((i : Item) → slice_get job.items item ≡ Some i → UnreadBy from i)
+FaultHolds (faults.Unread item) from job index old new = (new ≡ old) × (item ≡ index)
+    × ((i : Item) → slice_get job.items item ≡ Some i → UnreadBy from i)
 FaultHolds faults.Keep from job index old new = Rises old.faults new.faults
 FaultHolds faults.NoMemory from job index old new = new.faults ≡ old.faults
 
 -- what this frame leaves of each course that the reply may be in: the verdict holds
 abbrev pub FrameLeaves : Verdict → Text → Job → ℕ → Hearing → Hearing → KeepState → KeepState → Type 0
 FrameLeaves v frame job number h next s t =
-    (from old new : Option Told) (k : Kept) → At from old job number h s k → TakesFront old new frame → VerdictHolds v from new job number next k s t
+    (from old new : Option Told) (k : Kept) → At from old job number h s k → TakesFront old new frame
+    → VerdictHolds v from new job number next k s t
 
 -- why this frame wasn't taken, in each course that the reply may be in
 abbrev pub FrameFails : TakeFault → Text → Job → ℕ → Hearing → KeepState → KeepState → Type 0
-FrameFails e frame job number h s t = (from old new : Option Told) (k : Kept) → At from old job number h s k → TakesFront old new frame → FaultHolds e from job h.item s t
+FrameFails e frame job number h s t = (from old new : Option Told) (k : Kept) → At from old job number h s k
+    → TakesFront old new frame → FaultHolds e from job h.item s t
 
 -- the same, whatever the link is still to give
 abbrev pub ItemFails : TakeFault → Job → ℕ → KeepState → KeepState → Type 0
@@ -157,11 +168,13 @@ ItemFails e job index s t = (from : Option Told) → FaultHolds e from job index
 
 -- what the link's next frame leaves of each course that its reply may be in: the verdict holds
 abbrev pub ReplyLeaves : Verdict → Job → ℕ → Hearing → Hearing → KeepState → KeepState → LinkState → LinkState → Type 0
-ReplyLeaves v job number h next s t old new = (from : Option Told) (k : Kept) → At from old.told job number h s k → VerdictHolds v from new.told job number next k s t
+ReplyLeaves v job number h next s t old new = (from : Option Told) (k : Kept) → At from old.told job number h s k
+    → VerdictHolds v from new.told job number next k s t
 
 -- why the link's next frame wasn't taken, in each course that its reply may be in
 abbrev pub ReplyFails : TakeFault → Job → ℕ → Hearing → KeepState → KeepState → LinkState → Type 0
-ReplyFails e job number h s t old = (from : Option Told) (k : Kept) → At from old.told job number h s k → FaultHolds e from job h.item s t
+ReplyFails e job number h s t old = (from : Option Told) (k : Kept) → At from old.told job number h s k
+    → FaultHolds e from job h.item s t
 
 -- the worker could not read an item
 abbrev pub IsUnread : TakeFault → Type 0
@@ -174,7 +187,8 @@ abbrev pub KeepsCounts : Verdict → LinkState → LinkState → Type 0
 KeepsCounts (verdicts.Lost cause) old new = Unit {0}
 KeepsCounts verdict old new = (new.faults ≡ old.faults) × (new.jobs ≡ old.jobs) × (new.reads ≡ old.reads)
 
--- After a frame of this size so many bytes of the reply were heard. A link that is lost by the form of the frame tells so.
+-- After a frame of this size so many bytes of the reply were heard. A link that is lost by the form of the frame tells
+-- so.
 abbrev pub CountsFrame : Verdict → ℕ → ℕ → ℕ → Type 0
 CountsFrame verdicts.More before size after = after ≡ min (before + size) (2 ^ 64 - 1)
 CountsFrame verdicts.Ended before size after = after ≡ min (before + size) (2 ^ 64 - 1)
@@ -183,8 +197,9 @@ CountsFrame (verdicts.Lost (causes.Ended at)) before size after = ⊥
 CountsFrame (verdicts.Lost (causes.Form at)) before size after = at ≡ min (before + size) (2 ^ 64 - 1)
 CountsFrame (verdicts.Lost (causes.Sum told found)) before size after = after ≡ min (before + size) (2 ^ 64 - 1)
 
--- So many bytes of the reply are heard with those that the link gave now. Where it is lost, the cause holds: its count of faults rose, or
--- the cause tells how many bytes were heard to the end of its bytes, or to the end of those that aren't a reply.
+-- So many bytes of the reply are heard with those that the link gave now. Where it is lost, the cause holds: its count
+-- of faults rose, or the cause tells how many bytes were heard to the end of its bytes, or to the end of those that
+-- aren't a reply.
 abbrev pub HeardOf : Verdict → ℕ → ℕ → LinkState → LinkState → Type 0
 HeardOf verdicts.More before after old new = HasHeard before after old new
 HeardOf verdicts.Ended before after old new = HasHeard before after old new

@@ -33,7 +33,8 @@ pub record MayFollow (job : Job) (h : Hearing) (more : ℕ) : Type 0 where
 abbrev pub IsOfTree : Job → ℕ → Type 0
 IsOfTree job item = IsSomeAnd (slice_get job.items item) (λ i. i.root ≡ Tree)
 
--- An end with this number and digest is right: it is within the size, and a read item has so many bytes with this digest.
+-- An end with this number and digest is right: it is within the size, and a read item has so many bytes with this
+-- digest.
 pub record EndsRight (job : Job) (item count number : ℕ) (told found : Text) : Type 0 where
   pub size : IsSomeAnd (slice_get job.items item) (λ i. number ≤ i.size)
   pub read : job.kind ≡ Read → (number ≡ count) × (told ≡ found)

@@ -14,7 +14,8 @@ use Rattle.pgb_worker_keep.specs.declared.ItemEnd.{ItemEnd}
 use Rattle.pgb_worker_keep.specs.declared.ItemEnd.TheVariants.{Whole, Vanished}
 use Rattle.pgb_worker_keep.specs.KeepState.{Held, Done, Holds}
 
--- The link reads these files: it answers each job by the reply of a worker whose roots hold them, and a setup by nothing.
+-- The link reads these files: it answers each job by the reply of a worker whose roots hold them, and a setup by
+-- nothing.
 pub record Reads (tree repo : Content) (t : Told) : Type 0 where
   pub job : (j : Job) → FitsJob j → t.answer (spell (Task j)) ≡ reply j tree repo
   pub setup : (r : Roots) → FitsRoots r → t.answer (spell (Setup r)) ≡ []
@@ -73,7 +74,8 @@ pub record IsSumOf (n : ℕ) (sum bytes : Text) : Type 0 where
 
 -- the number and the digest are those of the item's bytes, as the link reads them
 abbrev pub SumsBy : Option Told → Item → ℕ → Text → Type 0
-SumsBy from i n sum = WhereRead from (λ tree repo. (bytes : Text) × IsPayload i (file_of i tree repo) bytes × IsSumOf n sum bytes)
+SumsBy from i n sum = WhereRead from
+    (λ tree repo. (bytes : Text) × IsPayload i (file_of i tree repo) bytes × IsSumOf n sum bytes)
 
 -- a read item that ended: what is held has the told number and digest, and is what the link reads
 pub record EndsWhole (from : Option Told) (i : Item) (held : Held) (n : ℕ) (sum : Text) : Type 0 where

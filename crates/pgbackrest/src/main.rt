@@ -104,6 +104,8 @@ fn workers(rt: HostRuntime, program: &str) -> io::Result<Vec<RealLink>>
 fn status_of(rt: HostRuntime, words: &[String]) -> io::Result<u8> {
     let alloc = rt.alloc();
     let program = env::args(&rt)?.next().unwrap_or(String::new(alloc));
+    let links = workers(rt, &program)?;
+    let aside = Others::new(rt, program.clone()?);
     let telling = telling_of(rt, words);
     let mut repo = RealDisk::new(rt);
     let mut tree = RealTree::new(rt);
@@ -113,12 +115,12 @@ fn status_of(rt: HostRuntime, words: &[String]) -> io::Result<u8> {
         spool: RealDisk::new(rt),
         tree,
         server: RealWire::new(rt),
-        aside: Others::new(rt, program.clone()?),
+        aside,
         clock: RealClock::new(rt),
         locks: RealLocks::new(rt),
         config: RealSource::new(rt),
         out: RealSink::new(rt),
-        links: workers(rt, &program)?,
+        links,
         turns: RoundRobin::new(),
     };
     let status = outside.run(alloc, words);

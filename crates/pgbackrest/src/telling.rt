@@ -72,8 +72,8 @@ fn command_of(rt: HostRuntime, words: &[String]) -> Option<Command> {
     settle_words(alloc, words, &config).ok()
 }
 
-// The bytes of the configuration, of one that is too long not all; none where it isn't there, and None where it can't be
-// read.
+// The bytes of the configuration, of one that is too long not all; none where it isn't there, and None where it can't
+// be read.
 fn configuration(rt: HostRuntime, path: &str) -> Option<Vec<u8>> {
     let mut source = RealSource::new(rt);
     let mut bytes = Vec::new(rt.alloc());

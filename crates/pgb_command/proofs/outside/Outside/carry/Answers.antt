@@ -1,5 +1,5 @@
 use Rattle.std.proofs.Common.{ap, sym, ◌∙◌, map, string_bytes}
-use Rattle.pgb_command.specs.Tables.{uses_spool, uses_workers, is_on_repository}
+use Rattle.pgb_command.specs.Uses.{uses_spool, uses_workers, is_on_repository}
 use Rattle.pgb_command.specs.Told.{asked_of}
 use Rattle.pgb_command.proofs.AskedOnce.{ok_same}
 use Rattle.pgb_command.proofs.Readied.{no_server}

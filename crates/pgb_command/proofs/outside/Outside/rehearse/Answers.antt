@@ -9,7 +9,7 @@ use Rattle.pgb_rehearse.specs.Commands.{rehearsed, keeps_one}
 use Rattle.pgb_rehearse.specs.Faults.{rehearse_early}
 use Rattle.pgb_rehearse.specs.Rehearsing.{IsRehearsed}
 use Rattle.pgb_command.specs.Asked.{Request, alone}
-use Rattle.pgb_command.specs.Tables.{plan_of}
+use Rattle.pgb_command.specs.Uses.{plan_of}
 use Rattle.pgb_command.specs.Told.{request_of, asked_of}
 use Rattle.pgb_command.proofs.Ends.{rose_to, all_later}
 use Rattle.pgb_command.proofs.RehearseRans.{rehearsed_ran}
