@@ -88,6 +88,23 @@ fn what_moments_keep(rt: HostRuntime) {
     check_moment(&rt, alloc, &disk, 6, "", "- ", "a ");
 }
 
+fn chosen_of(alloc: Global, positions: &[(&str, u32)]) -> Result<Vec<(String, u32)>, AllocError> {
+    let mut chosen = Vec::new(alloc);
+    for (name, position) in positions {
+        chosen.push((String::from_str(alloc, name)?, *position))?;
+    }
+    Ok(chosen)
+}
+
+fn torn_of(alloc: Global, loose: &[(&str, &str)]) -> Result<Vec<(String, Vec<u8>)>, AllocError> {
+    let mut torn = Vec::new(alloc);
+    for (name, bytes) in loose {
+        let name = String::from_str(alloc, name)?;
+        torn.push((name, Vec::from_slice(alloc, bytes.as_bytes())?))?;
+    }
+    Ok(torn)
+}
+
 // The image at a moment, as `name:size` of each name, where these positions of kept values and these bytes of loose
 // names are chosen.
 fn image_then(
@@ -97,15 +114,8 @@ fn image_then(
     positions: &[(&str, u32)],
     loose: &[(&str, &str)],
 ) -> Result<String, ImageFault> {
-    let mut chosen = Vec::new(alloc);
-    for (name, position) in positions {
-        chosen.push((String::from_str(alloc, name)?, *position))?;
-    }
-    let mut torn = Vec::new(alloc);
-    for (name, bytes) in loose {
-        let name = String::from_str(alloc, name)?;
-        torn.push((name, Vec::from_slice(alloc, bytes.as_bytes())?))?;
-    }
+    let chosen = chosen_of(alloc, positions)?;
+    let torn = torn_of(alloc, loose)?;
     let mut text = String::new(alloc);
     for (name, bytes) in &disk.image(alloc, moment, &chosen, &torn)? {
         write!(text, "{}:{} ", name, bytes.len())?;

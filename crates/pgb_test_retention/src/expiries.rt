@@ -132,6 +132,57 @@ pub(crate) fn check_left(rt: &impl Abort, alloc: Global, disk: &mut MemDisk) {
     check_done(rt, disk);
 }
 
+fn oldest_of(alloc: Global, name: &str) -> Result<(String, u32), AllocError> {
+    Ok((String::from_str(alloc, name)?, 0))
+}
+
+fn add_oldest(
+    alloc: Global,
+    choice: &mut Vec<(String, u32)>,
+    held: &[Held],
+) -> Result<(), AllocError> {
+    for (name, _) in held {
+        choice.push(oldest_of(alloc, name)?)?;
+    }
+    Ok(())
+}
+
+// The oldest kept value of each name that an expiry may change.
+fn oldest_kept(alloc: Global) -> Result<Vec<(String, u32)>, AllocError> {
+    let mut choice = Vec::new(alloc);
+    choice.push(oldest_of(alloc, INFO)?)?;
+    choice.push(oldest_of(alloc, COPY)?)?;
+    for held in ALL {
+        add_oldest(alloc, &mut choice, held)?;
+    }
+    Ok(choice)
+}
+
+fn garbage(
+    alloc: Global,
+    disk: &MemDisk,
+    moment: u64,
+) -> Result<Vec<(String, Vec<u8>)>, AllocError> {
+    let mut loose = Vec::new(alloc);
+    for name in disk.loose(alloc, moment)? {
+        loose.push((name, b"garbage".to_vec(alloc)?))?;
+    }
+    Ok(loose)
+}
+
+fn opened_at(
+    alloc: Global,
+    disk: &MemDisk,
+    moment: u64,
+    choice: &[(String, u32)],
+    loose: &[(String, Vec<u8>)],
+) -> Result<MemDisk, AllocError> {
+    match disk.image(alloc, moment, choice, loose) {
+        Ok(names) => MemDisk::new(alloc, names, Vec::new(alloc)),
+        Err(_) => MemDisk::new(alloc, Vec::new(alloc), Vec::new(alloc)),
+    }
+}
+
 /// Opened anew on what a stop at that moment leaves: the newest kept values; or the oldest, and garbage where any bytes
 /// may be.
 pub(crate) fn stopped(
@@ -140,26 +191,12 @@ pub(crate) fn stopped(
     moment: u64,
     oldest: bool,
 ) -> Result<MemDisk, AllocError> {
-    let mut choice = Vec::new(alloc);
-    let mut loose = Vec::new(alloc);
-    if oldest {
-        for name in [INFO, COPY] {
-            choice.push((String::from_str(alloc, name)?, 0))?;
-        }
-        for held in ALL {
-            for (name, _) in *held {
-                choice.push((String::from_str(alloc, name)?, 0))?;
-            }
-        }
-        for name in disk.loose(alloc, moment)? {
-            loose.push((name, b"garbage".to_vec(alloc)?))?;
-        }
+    if !oldest {
+        return opened_at(alloc, disk, moment, &[], &[]);
     }
-    let names = match disk.image(alloc, moment, &choice, &loose) {
-        Ok(names) => names,
-        Err(_) => Vec::new(alloc),
-    };
-    MemDisk::new(alloc, names, Vec::new(alloc))
+    let choice = oldest_kept(alloc)?;
+    let loose = garbage(alloc, disk, moment)?;
+    opened_at(alloc, disk, moment, &choice, &loose)
 }
 
 #[test]
@@ -205,11 +242,15 @@ fn a_stopped_expiry_is_made_good(rt: HostRuntime) {
 }
 
 #[test]
-fn without_a_pair_nothing_is_done(rt: HostRuntime) {
+fn with_a_damaged_pair_nothing_is_done(rt: HostRuntime) {
     let mut disk = well(&rt, disk_with(rt.alloc(), "no list", ALL, &[]));
     let done = expired(rt.alloc(), &mut disk, &rules(1, None));
     assert!(rt; matches!(done, Err(ExpireFault::Info(InfoFault::Damaged { .. }))));
     same(&rt, disk.moment(), 0);
+}
+
+#[test]
+fn without_a_pair_nothing_is_done(rt: HostRuntime) {
     let none = MemDisk::new(rt.alloc(), Vec::new(rt.alloc()), Vec::new(rt.alloc()));
     let mut none = well(&rt, none);
     let done = expired(rt.alloc(), &mut none, &rules(1, None));
