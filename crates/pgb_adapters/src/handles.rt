@@ -137,7 +137,8 @@ impl Handles {
     /// Whether a read at this place goes on in the file that is open. At its start a name is opened anew, so that
     /// all of one reading comes from the file that stood there at the start.
     pub fn goes_on(&self, name: &str, at: u64) -> bool
-        ensures { IsTrue result ↔ ((0 < at) × IsSomeAnd self.now.reading (λ kept. string_bytes kept.name ≡ name.now)) }
+        ensures { IsTrue result ↔ ((0 < at)
+            × IsSomeAnd self.now.reading (λ kept. string_bytes kept.name ≡ name.now)) }
     {
         at > 0 && is_of(&self.reading, name)
     }

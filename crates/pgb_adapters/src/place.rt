@@ -229,7 +229,8 @@ pub fn sync_folder(rt: &HostRuntime, path: &str) -> io::Result<Option<File>> {
 /// None where a name is absent; a path through a file leads to no name.
 pub fn unless_absent<T: Drop>(done: io::Result<T>) -> io::Result<Option<T>>
     ensures there { IfOk done (λ v. result ≡ Ok (Some v)) }
-    ensures absent { IfErr done (λ e. (error_kind e ≡ ErrorKind.NotFound) ⊎ (error_kind e ≡ ErrorKind.NotADirectory)
+    ensures absent { IfErr done (λ e. (error_kind e ≡ ErrorKind.NotFound)
+        ⊎ (error_kind e ≡ ErrorKind.NotADirectory)
         → result ≡ Ok None) }
     ensures error { IfErr done (λ e. error_kind e ≢ ErrorKind.NotFound → error_kind e ≢ ErrorKind.NotADirectory
         → result ≡ Err e) }

@@ -45,7 +45,8 @@ pub fn has_ahead<S: Disk>(
     stanza: &str,
     segment: &Segment,
 ) -> Result<bool, Halt<GetFault>>
-    ensures has { IfOk result (λ b. b ≡ true → IfSome (S.state spool.old).view.now (IsAhead stanza.now segment.now)) }
+    ensures has { IfOk result (λ b. b ≡ true
+        → IfSome (S.state spool.old).view.now (IsAhead stanza.now segment.now)) }
     ensures lacks { IfOk result
         (λ b. b ≡ false → IfSome (S.state spool.old).view.now (λ f. ¬ IsAhead stanza.now segment.now f)) }
     ensures looks { Looks (S.state spool.old) (S.state spool.new) }

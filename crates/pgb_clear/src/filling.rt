@@ -39,7 +39,8 @@ fn begin_one<T: Tree>(tree: &mut T, file: &FileEntry) -> Result<(), Stop>
 pub fn begin_bare<T: Tree>(tree: &mut T, files: &[FileEntry]) -> Result<(), Stop>
     ensures bares { OnOk result
         (Bares (map file_entry_of files.now) (T.state tree.old).nodes (T.state tree.new).nodes) }
-    ensures others { (q : Text) → ((e : Entry) → In e (map file_entry_of files.now) → is_bare e ≡ true → q ≢ e.path)
+    ensures others { (q : Text) → ((e : Entry) → In e (map file_entry_of files.now) → is_bare e ≡ true
+        → q ≢ e.path)
         → at q (T.state tree.new).nodes ≡ at q (T.state tree.old).nodes }
     // Where their folders are there, no call is faulty.
     ensures proper { ArePlaced (map file_entry_of files.now) (T.state tree.old).nodes

@@ -60,7 +60,8 @@ fn talk<V: Wire>(
 ) -> Result<(), ServerFault>
     ensures same { OnOk result (IsOf system (V.state wire.old).pending) }
     ensures asks { OnOk result (((V.state wire.new).place ≡ path.now)
-        × ((V.state wire.new).sent ≡ option_map (λ said. said ++ questions server.now.user.now server.now.database.now)
+        × ((V.state wire.new).sent ≡ option_map
+        (λ said. said ++ questions server.now.user.now server.now.database.now)
         (V.state wire.old).sent)) }
     ensures told { IfErr result (λ e. ¬ IsOutside e → TellsFault system (V.state wire.old).pending e) }
     ensures ended { IfErr result (λ e. ¬ IsOutside e →

@@ -27,13 +27,15 @@ pub fn save_both<D: Disk>(
     requires temporary { IsTemporary temp.now }
     requires main_lasts { ¬ IsTemporary main.now }
     requires copy_lasts { ¬ IsTemporary copy.now }
-    ensures crash { is_loose (D.state d.old).view main.now ≡ false → is_loose (D.state d.old).view copy.now ≡ false
+    ensures crash { is_loose (D.state d.old).view main.now ≡ false
+        → is_loose (D.state d.old).view copy.now ≡ false
         → Crash (FirstOf ((main.now, bytes.now) ∷ (copy.now, bytes.now) ∷ [])) (D.state d.old).view
         (D.state d.new).view }
     ensures whole { OnOk result (is_loose (D.state d.old).view main.now ≡ false
         → is_loose (D.state d.old).view copy.now ≡ false → Ends
         (AllOf ((main.now, bytes.now) ∷ (copy.now, bytes.now) ∷ [])) (D.state d.old).view (D.state d.new).view) }
-    ensures now_part { NowGoes (FirstOf ((main.now, bytes.now) ∷ (copy.now, bytes.now) ∷ [])) (D.state d.old).view.now
+    ensures now_part { NowGoes (FirstOf ((main.now, bytes.now) ∷ (copy.now, bytes.now) ∷ []))
+        (D.state d.old).view.now
         (D.state d.new).view.now }
     ensures now_whole { OnOk result
         (NowGoes (AllOf ((main.now, bytes.now) ∷ (copy.now, bytes.now) ∷ [])) (D.state d.old).view.now

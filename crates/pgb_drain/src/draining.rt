@@ -87,7 +87,8 @@ pub(crate) fn drain_named<D: Disk, S: Disk, T: Tree>(
     system: u64,
     names: &[ArchiveName],
 ) -> Result<Drained, Halt<PushFault>>
-    ensures drains { (f : Nodes) → (T.state tree.old).nodes ≡ Some f → DrainsNamed stanza.now id system f names.now
+    ensures drains { (f : Nodes) → (T.state tree.old).nodes ≡ Some f
+        → DrainsNamed stanza.now id system f names.now
         (end_of result) (D.state repo.old).view (D.state repo.new).view (S.state spool.old).view
         (S.state spool.new).view }
     ensures pair { KeepsPair stanza.now (D.state repo.old).view (D.state repo.new).view }

@@ -40,7 +40,8 @@ pub(crate) fn carry_out<D: Disk>(
         → IsSoundStanza s
         → IsSome (D.state d.old).view.now
         → PartFrom stanza.now (retention rules.now moment) s (D.state d.old).view (D.state d.new).view }
-    ensures whole { OnOk result ((moment : ℕ) (s : Stanza) → IfSome (D.state d.old).view.now (λ f. IsPlan stanza.now
+    ensures whole { OnOk result ((moment : ℕ) (s : Stanza)
+        → IfSome (D.state d.old).view.now (λ f. IsPlan stanza.now
         rules.now moment f plan.now.labels.items (backup_info_of plan.now.left) (archive_info_of plan.now.archive))
         → IsSoundStanza s
         → IsSome (D.state d.old).view.now

@@ -21,7 +21,8 @@ use std::alloc::Global;
 fn id_at(keys: &[(String, Value)], key: &str) -> u32
     requires { IsOrdered (map key_of keys.now) }
     ensures low { 1 ≤ result }
-    ensures only { (n : ℕ) → n < 2 ^ 32 → 1 ≤ n → In (key.now, whole n) (map key_of keys.now) → result ≡ n }
+    ensures only { (n : ℕ) → n < 2 ^ 32 → 1 ≤ n → In (key.now, whole n) (map key_of keys.now)
+        → result ≡ n }
 {
     match number_at(keys, key) {
         Some(n) => n,
@@ -37,7 +38,8 @@ fn candidate(keys: &[(String, Value)]) -> Cluster
         → result.catalog ≡ n }
     ensures control { (n : ℕ) → n < 2 ^ 32 → In (codes "db-control-version", whole n) (map key_of keys.now)
         → result.control ≡ n }
-    ensures id { (n : ℕ) → n < 2 ^ 32 → 1 ≤ n → In (codes "db-id", whole n) (map key_of keys.now) → result.id ≡ n }
+    ensures id { (n : ℕ) → n < 2 ^ 32 → 1 ≤ n → In (codes "db-id", whole n) (map key_of keys.now)
+        → result.id ≡ n }
     ensures system { (n : ℕ) → In (codes "db-system-id", whole n) (map key_of keys.now) → result.system ≡ n }
     ensures version { (n : ℕ) → n < 2 ^ 32 → In (codes "db-version", version_value n) (map key_of keys.now)
         → result.version ≡ n }

@@ -35,7 +35,8 @@ fn cluster_of(alloc: Global, id: u32, value: &Value) -> Result<Option<ClusterId>
     ensures some { IfOk result
         (λ o. IfSome o (λ c. IsClusterId c × (c.id ≡ id) × (view value.now ≡ (cluster_id_field c).1))) }
     ensures none { IfOk result
-        (λ o. IfNone o ((c : ClusterId) → IsClusterId c → c.id ≡ id → view value.now ≢ (cluster_id_field c).1)) }
+        (λ o. IfNone o ((c : ClusterId) → IsClusterId c → c.id ≡ id
+        → view value.now ≢ (cluster_id_field c).1)) }
 {
     let Some(cluster) = identity_in(id, value) else {
         return Ok(None);

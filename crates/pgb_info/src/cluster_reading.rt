@@ -17,7 +17,8 @@ use std::alloc::Global;
 // The cluster that these members tell, where the value is that of a cluster.
 fn members_in(id: u32, value: &Value) -> Option<Cluster>
     ensures rules { IfSome result (λ c. IsCluster c × (c.id ≡ id)) }
-    ensures only { (c : Cluster) → IsCluster c → c.id ≡ id → view value.now ≡ (cluster_field c).1 → result ≡ Some c }
+    ensures only { (c : Cluster) → IsCluster c → c.id ≡ id → view value.now ≡ (cluster_field c).1
+        → result ≡ Some c }
 {
     let catalog = small_of(value.get("db-catalog-version")?)?;
     let control = small_of(value.get("db-control-version")?)?;

@@ -34,7 +34,8 @@ pub fn label_in(value: &Value) -> Option<Label>
 /// The label that this value is, or none where it is null.
 pub(crate) fn prior_in(value: &Value) -> Option<Option<Label>>
     ensures rules { IfSome result (λ o. IfSome o IsLabel) }
-    ensures only { (o : Option Label) → IfSome o IsLabel → view value.now ≡ or_null label_value o → result ≡ Some o }
+    ensures only { (o : Option Label) → IfSome o IsLabel → view value.now ≡ or_null label_value o
+        → result ≡ Some o }
 {
     if value.is_null() {
         return Some(None);
@@ -45,7 +46,8 @@ pub(crate) fn prior_in(value: &Value) -> Option<Option<Label>>
 
 // The segment that this value is, or none where it is null.
 fn end_in(value: &Value) -> Option<Option<Segment>>
-    ensures { (o : Option Segment) → IfSome o IsSegment → view value.now ≡ or_null segment_value o → result ≡ Some o }
+    ensures { (o : Option Segment) → IfSome o IsSegment → view value.now ≡ or_null segment_value o
+        → result ≡ Some o }
 {
     if value.is_null() {
         return Some(None);

@@ -132,7 +132,8 @@ pub(crate) fn read_entry(
         (λ o. IfSome o (λ e. IsEntry (entry_of e) × (e.label ≡ label.now)
         × (view value.now ≡ (entry_field (entry_of e)).1))) }
     ensures none { IfOk result
-        (λ o. IfNone o ((e : SpecEntry) → IsEntry e → e.label ≡ label.now → view value.now ≢ (entry_field e).1)) }
+        (λ o. IfNone o ((e : SpecEntry) → IsEntry e → e.label ≡ label.now
+        → view value.now ≢ (entry_field e).1)) }
 {
     let Some(entry) = entry_in(alloc, label, value)? else {
         return Ok(None);

@@ -118,7 +118,8 @@ pub fn report_stanza<D: Disk>(
     requires valid { IsBackupInfo (backup_info_of backup.now) }
     ensures told { IfOk result (λ o. OnFinished o (IsReported stanza.now form (D.state repo.old).view.now)) }
     ensures reported { IfOk result (λ o. (s : Stanza) → IsSome (D.state repo.old).view.now
-        → NowStands stanza.now (Some s) (D.state repo.old).view.now → OnFinished o (ReportsStanza form stanza.now s)) }
+        → NowStands stanza.now (Some s) (D.state repo.old).view.now
+        → OnFinished o (ReportsStanza form stanza.now s)) }
     ensures looks { Looks (D.state repo.old) (D.state repo.new) }
     ensures cause { IfErr result (HaltCause Never
         (Only Repo (Rises (D.state repo.old).faults (D.state repo.new).faults))) }

@@ -83,7 +83,8 @@ pub fn read_info_text(alloc: Global, bytes: &[u8]) -> Result<Vec<Part>, IniFault
     ensures only { (ss : List Section) → IsInfo ss → bytes.now ≡ info_text ss
         → Gives (λ v. sections_of v.items) result (Ok ss) }
     // The text of some sections with a sum that isn't theirs is refused for that sum.
-    ensures wrong { (ss : List Section) → (told : List ℕ) → IsInfo ss → IsSum told → told ≢ sha1 (signed_text ss)
+    ensures wrong { (ss : List Section) → (told : List ℕ) → IsInfo ss → IsSum told
+        → told ≢ sha1 (signed_text ss)
         → bytes.now ≡ text_with (sum_text told) ss
         → Gives (λ v. sections_of v.items) result (Err (sum told (sha1 (signed_text ss)))) }
     // The first line that no text goes on with, or a wrong sum.

@@ -26,7 +26,8 @@ pub fn whole_at(keys: &[(String, Value)], key: &str) -> Option<u64>
 pub fn number_at(keys: &[(String, Value)], key: &str) -> Option<u32>
     requires { IsOrdered (map key_of keys.now) }
     ensures some { IfSome result (λ n. (1 ≤ n) × In (key.now, whole n) (map key_of keys.now)) }
-    ensures none { IfNone result ((n : ℕ) → n < 2 ^ 32 → 1 ≤ n → ¬ In (key.now, whole n) (map key_of keys.now)) }
+    ensures none { IfNone result ((n : ℕ) → n < 2 ^ 32 → 1 ≤ n
+        → ¬ In (key.now, whole n) (map key_of keys.now)) }
 {
     match find(keys, key) {
         Some(value) => number_of(value),

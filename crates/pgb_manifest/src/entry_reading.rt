@@ -58,7 +58,8 @@ fn reference_in(value: &Value) -> Option<Option<Label>>
 }
 
 fn number_in(value: &Value) -> Option<u32>
-    ensures { (e : SpecFile) → (b : Bundled) → IsFile e → e.bundle ≡ Some b → view value.now ≡ (file_field e).1
+    ensures { (e : SpecFile) → (b : Bundled) → IsFile e → e.bundle ≡ Some b
+        → view value.now ≡ (file_field e).1
         → result ≡ Some b.number }
 {
     small_of(value.get("bni")?)
@@ -171,7 +172,8 @@ pub(crate) fn read_file(
     ensures is { IfOk result
         (λ o. IfSome o (λ e. (let k : Field = (key.now, view value.now) in k) ≡ file_field (file_entry_of e))) }
     ensures none { IfOk result
-        (λ o. IfNone o ((e : SpecFile) → IsFile e → (let k : Field = (key.now, view value.now) in k) ≢ file_field e)) }
+        (λ o. IfNone o ((e : SpecFile) → IsFile e
+        → (let k : Field = (key.now, view value.now) in k) ≢ file_field e)) }
 {
     let Some(path) = path_in(key) else {
         return Ok(None);

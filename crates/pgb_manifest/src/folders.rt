@@ -83,7 +83,8 @@ fn fault_of_root(alloc: Global, key: &str) -> PartsFault
 pub(crate) fn folders_of(alloc: Global, keys: &[(String, Value)]) -> Result<Vec<String>, PartsFault>
     requires { IsOrdered (map key_of keys.now) }
     ensures folders { IfOk result (λ v. AllByRecursion IsDirectory (map string_bytes v.items)) }
-    ensures keys { IfOk result (λ v. map key_of keys.now ≡ root_field ∷ map folder_field (map string_bytes v.items)) }
+    ensures keys { IfOk result (λ v. map key_of keys.now
+        ≡ root_field ∷ map folder_field (map string_bytes v.items)) }
     ensures fault { IfErr result
         (λ e. IfForm e (λ section key. (section ≡ target_path) × IsNoFolder (map key_of keys.now) key)) }
 {

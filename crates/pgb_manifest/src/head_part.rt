@@ -71,7 +71,8 @@ fn add_prior(alloc: Global, part: &mut Part, prior: Option<Label>) -> Result<(),
 fn add_times(alloc: Global, part: &mut Part, head: &Head) -> Result<(), NoMemory>
     ensures name { part.new.name ≡ part.old.name }
     ensures keys { OnOk result (keys_of part.new ≡ keys_of part.old
-        ++ (codes "backup-timestamp-start", whole head.now.start) ∷ (codes "backup-timestamp-stop", whole head.now.stop)
+        ++ (codes "backup-timestamp-start", whole head.now.start)
+        ∷ (codes "backup-timestamp-stop", whole head.now.stop)
         ∷ (codes "backup-type", string (kind_text head.now.kind)) ∷ []) }
 {
     let kind = kind_value(alloc, head.kind)?;

@@ -45,7 +45,8 @@ fn folders_in(alloc: Global, parts: &[Part]) -> Result<Vec<String>, PartsFault>
     requires { IsInfo (sections_of parts.now) }
     ensures folders { IfOk result (λ v. AllByRecursion IsDirectory (map string_bytes v.items)) }
     ensures told { IfOk result
-        (λ v. IsKeysOf (sections_of parts.now) target_path (root_field ∷ map folder_field (map string_bytes v.items))) }
+        (λ v. IsKeysOf (sections_of parts.now) target_path
+        (root_field ∷ map folder_field (map string_bytes v.items))) }
     ensures order { IfOk result (λ v. are_in_order (map string_bytes v.items) ≡ true) }
     ensures fault { IfErr result (λ e. IfForm e (IsManifestForm (sections_of parts.now))) }
 {

@@ -165,7 +165,8 @@ fn left_in(
     given: &Names,
 ) -> Result<Vec<(String, Vec<u8>)>, AllocError>
     requires { (n : List ℕ) → IsSome (bytes_at given.now n) → (states_in traces.now n).loose ≡ true }
-    ensures { IfOk result (λ names. given_at names.items ≡ left_of (states_in traces.now) (positions_in positions.now)
+    ensures { IfOk result (λ names. given_at names.items
+        ≡ left_of (states_in traces.now) (positions_in positions.now)
         (bytes_at given.now)) }
 {
     let mut names = Vec::new(alloc);

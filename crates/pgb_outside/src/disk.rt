@@ -85,7 +85,8 @@ pub trait Disk {
     fn rename(&mut self, from: &str, to: &str) -> Result<(), Stop>
         ensures now { Changes result (moved from.now to.now) (state self.old).view.now (state self.new).view.now }
         ensures time { Goes (λ n v. ((n ≡ to.now) × Holds (state self.old).view.now from.now v)
-            ⊎ ((n ≡ from.now) × (v ≡ None))) (λ n. (n ≡ to.now) × IsTrue (is_loose (state self.old).view from.now))
+            ⊎ ((n ≡ from.now) × (v ≡ None))) (λ n. (n ≡ to.now)
+            × IsTrue (is_loose (state self.old).view from.now))
             (state self.old).view (state self.new).view }
         ensures there { OnOk result (IsThere (state self.old).view.now from.now) }
         ensures proper { IsThere (state self.old).view.now from.now
@@ -104,7 +105,8 @@ pub trait Disk {
         ensures now { (state self.new).view.now ≡ (state self.old).view.now }
         ensures works { Works (λ n v. IsTrue (is_below folder.now n) × Holds (state self.old).view.now n v)
             (λ n. IsTrue (is_below folder.now n)) (state self.old) (state self.new) }
-        ensures tight { OnOk result ((n : Name) → IsTrue (is_below folder.now n) → HasBytes (state self.old).view.now n
+        ensures tight { OnOk result ((n : Name) → IsTrue (is_below folder.now n)
+            → HasBytes (state self.old).view.now n
             → is_loose (state self.new).view n ≡ false) }
         ensures cause { HasCause (state self.old).faults (state self.new).faults result };
 

@@ -120,7 +120,8 @@ pub trait Tree {
     fn remove(&mut self, path: &str) -> Result<(), Stop>
         ensures nodes { ChangesTree result (with_node path.now None) (state self.old).nodes (state self.new).nodes }
         ensures bare { OnOk result (IsBare (state self.old).nodes path.now) }
-        ensures proper { IsBare (state self.old).nodes path.now → (state self.new).misuses ≡ (state self.old).misuses }
+        ensures proper { IsBare (state self.old).nodes path.now
+            → (state self.new).misuses ≡ (state self.old).misuses }
         ensures opened { (state self.new).opened ≡ (state self.old).opened }
         ensures cause { HasCause (state self.old).faults (state self.new).faults result };
 }

@@ -20,7 +20,8 @@ pub fn id_of(info: &ArchiveInfo, told: &Control) -> Result<ArchiveId, Halt<PushF
     ensures fits { IfOk result (λ id. (id.version < 2 ^ 32) × (id.number < 2 ^ 32)) }
     ensures id { IfOk result (λ id. (c : ClusterId) × (at_number info.now.current info.now.history.items ≡ Some c)
         × (id ≡ id_kept c) × (identity_kept c ≡ identity_told told.now)) }
-    ensures mismatch { IfErr result (λ h. (c : ClusterId) × (at_number info.now.current info.now.history.items ≡ Some c)
+    ensures mismatch { IfErr result (λ h. (c : ClusterId)
+        × (at_number info.now.current info.now.history.items ≡ Some c)
         × (h ≡ IsRefused (Mismatch (identity_kept c) (identity_told told.now)))
         × (identity_kept c ≢ identity_told told.now)) }
 {

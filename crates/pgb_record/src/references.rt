@@ -52,7 +52,8 @@ fn is_among(label: Label, labels: &[Label]) -> bool
 
 // Adds the label, where it isn't there.
 fn note(labels: &mut Vec<Label>, label: Label) -> Result<(), AllocError>
-    ensures { OnOk result ((l : spec_label.Label) → In l labels.new.items ↔ (In l labels.old.items ⊎ (l ≡ label))) }
+    ensures { OnOk result ((l : spec_label.Label)
+        → In l labels.new.items ↔ (In l labels.old.items ⊎ (l ≡ label))) }
 {
     if !is_among(label, labels.as_slice()) {
         labels.push(label)?;

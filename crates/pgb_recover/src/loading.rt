@@ -25,7 +25,8 @@ fn check_label(
     requires { IsLabel label.now }
     ensures same { IfOk result (λ m. m ≡ manifest) }
     ensures own { IfOk result (λ m. m.label ≡ label.now) }
-    ensures cause { IfErr result (HaltCause (λ e. (manifest.label ≢ label.now) × TellsForeign label.now e) (λ _. ⊥)) }
+    ensures cause { IfErr result (HaltCause (λ e. (manifest.label ≢ label.now) × TellsForeign label.now e)
+        (λ _. ⊥)) }
 {
     if manifest.label == *label {
         return Ok(manifest);

@@ -55,7 +55,8 @@ fn push_one<D: Disk>(
     ensures told { IsSome (D.state repo.old).view.now → IsSome (D.state repo.new).view.now }
     // The current cluster stays.
     ensures current { (c : ClusterId) → IfSome (D.state repo.old).view.now (λ f. HasCurrent stanza.now f c)
-        → IsSome (D.state repo.old).view.now → IfSome (D.state repo.new).view.now (λ f. HasCurrent stanza.now f c) }
+        → IsSome (D.state repo.old).view.now
+        → IfSome (D.state repo.new).view.now (λ f. HasCurrent stanza.now f c) }
     ensures beside { StaysBeside stanza.now (D.state repo.old).view (D.state repo.new).view }
     ensures frame { Frame (D.state repo.old) (D.state repo.new) }
     ensures cause { IfErr result (HaltCause (StepCause stanza.now (D.state repo.old).view.now)

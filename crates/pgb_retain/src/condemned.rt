@@ -57,7 +57,8 @@ pub fn expired(
 ) -> Result<Vec<Label>, NoMemory>
     ensures condemned { IfOk result
         (λ labels. labels.items ≡ condemned_labels rules.now moment (map entry_of entries.now)) }
-    ensures descends { IfOk result (λ labels. (backups : List Backup) → listed_in backups ≡ map entry_of entries.now
+    ensures descends { IfOk result (λ labels. (backups : List Backup)
+        → listed_in backups ≡ map entry_of entries.now
         → AreInLine (listed_in backups) → Descends rules.now moment backups labels.items) }
 {
     let told = full_labels(alloc, entries, rules.full, moment)?;

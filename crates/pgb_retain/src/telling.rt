@@ -123,7 +123,8 @@ fn push_counted(marks: &mut Vec<Mark>, gone: &[Label], entry: &Entry) -> Result<
 // The full and differential backups whose labels aren't among those that go.
 fn counted(alloc: Global, entries: &[Entry], gone: &[Label]) -> Result<Vec<Mark>, NoMemory>
     ensures { IfOk result (λ marks. marks.items
-        ≡ map mark_of (filter is_counted (filter (λ e. not (has_label gone.now e.label)) (map entry_of entries.now)))) }
+        ≡ map mark_of (filter is_counted (filter (λ e. not (has_label gone.now e.label))
+        (map entry_of entries.now)))) }
 {
     let mut marks = Vec::new(alloc);
     for entry in entries {

@@ -86,7 +86,8 @@ pub(crate) fn start_row(talk: &Talk) -> Option<Started>
 
 fn four_texts(row: &[Option<String>]) -> Option<(&str, &str, &str, &Option<String>)>
     ensures value { IfSome result
-        (λ p. cells_view row.now ≡ Some p.0.now ∷ Some p.1.now ∷ Some p.2.now ∷ option_map string_bytes p.3.now ∷ []) }
+        (λ p. cells_view row.now ≡ Some p.0.now ∷ Some p.1.now ∷ Some p.2.now ∷ option_map string_bytes p.3.now
+        ∷ []) }
     ensures none { IfNone result ((a b c : Text) (d : Option Text)
         → cells_view row.now ≢ Some a ∷ Some b ∷ Some c ∷ d ∷ []) }
 {

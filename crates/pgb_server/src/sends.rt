@@ -59,7 +59,8 @@ pub(crate) fn send<V: Wire>(wire: &mut V, bytes: &[u8]) -> Result<(), ServerFaul
 /// Ends a session that was refused. That this failed isn't told, but for want of memory.
 pub(crate) fn part<V: Wire>(wire: &mut V, fault: ServerFault) -> ServerFault
     ensures fault { (result ≡ fault) ⊎ (result ≡ NoMemory) }
-    ensures sent { result ≢ NoMemory → Sends (V.state wire.old).faults (V.state wire.new).faults (V.state wire.old).sent
+    ensures sent { result ≢ NoMemory → Sends (V.state wire.old).faults (V.state wire.new).faults
+        (V.state wire.old).sent
         (V.state wire.new).sent closing }
     ensures later { (V.state wire.old).faults ≤ (V.state wire.new).faults }
 {

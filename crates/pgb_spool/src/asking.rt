@@ -139,7 +139,8 @@ pub fn ask<S: Disk>(
     requires { IsSum sum.now.0 }
     ensures answers { IfOk result
         (λ asked. IfSome (S.state spool.old).view.now (λ f. Answers stanza.now f name.now sum.now.0 asked)) }
-    ensures gone { OnOk result ((S.state spool.new).view.now ≡ option_map (λ f. put (refusal_name stanza.now name.now)
+    ensures gone { OnOk result ((S.state spool.new).view.now
+        ≡ option_map (λ f. put (refusal_name stanza.now name.now)
         None (put (receipt_name stanza.now name.now) None f)) (S.state spool.old).view.now) }
     ensures told { IsSome (S.state spool.old).view.now → IsSome (S.state spool.new).view.now }
 

@@ -94,7 +94,8 @@ fn has_pending(archive: &ArchiveInfo, backup: &BackupInfo) -> bool
 fn without_last(mut backup: BackupInfo) -> BackupInfo
     requires valid { IsBackupInfo (backup_info_of backup) }
     requires some { 2 ≤ length backup.history.items }
-    requires unused { (e : SpecEntry) → In e (backup_info_of backup).backups → e.db ≢ length backup.history.items }
+    requires unused { (e : SpecEntry) → In e (backup_info_of backup).backups
+        → e.db ≢ length backup.history.items }
     ensures history { (last : Cluster) × (backup.history.items ≡ result.history.items ++ last ∷ []) }
     ensures current { result.current ≡ length result.history.items }
     ensures backups { (backup_info_of result).backups ≡ (backup_info_of backup).backups }

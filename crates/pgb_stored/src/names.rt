@@ -59,7 +59,8 @@ fn folder_of(
 }
 
 fn front_in(alloc: Global, folder: &str, name: &ArchiveName) -> Result<String, NoMemory>
-    ensures { IfOk result (λ front. string_bytes front ≡ folder.now ⫽ (wal_text name.now ++ dash (has_sum name.now))) }
+    ensures { IfOk result (λ front. string_bytes front
+        ≡ folder.now ⫽ (wal_text name.now ++ dash (has_sum name.now))) }
 {
     let text = archive_name_text(alloc, name)?;
     if has_sum(name) {

@@ -113,7 +113,8 @@ fn end_of_jobs<I: Source>(
     requires room { 0 < length room.old }
     requires jobs { jobs + 1 ≡ frame_limit }
     requires fits { jobs + 1 < 2 ^ 64 }
-    ensures told { (start : ℕ) (rest : Text) → (I.state input.old).left ≡ Some rest → JobsEnd jobs start rest result }
+    ensures told { (start : ℕ) (rest : Text) → (I.state input.old).left ≡ Some rest
+        → JobsEnd jobs start rest result }
     ensures room { length room.new ≡ length room.old }
     ensures read { IsErrOf result InputFailed → Rises (I.state input.old).faults (I.state input.new).faults }
     ensures later { (I.state input.old).faults ≤ (I.state input.new).faults }

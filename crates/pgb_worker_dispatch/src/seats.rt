@@ -90,7 +90,8 @@ pub(crate) fn hear_at<L: Link, W, K: Keep<W>>(
         (map (option_map L.link_state) seats.old.items) (map (option_map L.link_state) seats.new.items) hears.old.items
         hears.new.items) }
     ensures fault { IfErr result
-        (λ e. HeardAt (λ h n. HearFails e (job_of job.now) number h (K.kept keep.old on.old) (K.kept keep.new on.new)) i
+        (λ e. HeardAt (λ h n. HearFails e (job_of job.now) number h (K.kept keep.old on.old) (K.kept keep.new on.new))
+        i
         (map (option_map L.link_state) seats.old.items) (map (option_map L.link_state) seats.new.items) hears.old.items
         hears.new.items) }
 {

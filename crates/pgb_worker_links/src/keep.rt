@@ -109,7 +109,8 @@ impl<'a> MemKeep<'a> {
     pub fn ended(&self, job: usize) -> &[Ended]
         ensures items { IfSome (slice_get (⟦<MemKeep<'a> as Keep<()>>⟧.kept self.now tt).kept job)
             (λ k. k.done ≡ map (done_of self.now.holds) result.now) }
-        ensures none { slice_get (⟦<MemKeep<'a> as Keep<()>>⟧.kept self.now tt).kept job ≡ None → result.now ≡ [] }
+        ensures none { slice_get (⟦<MemKeep<'a> as Keep<()>>⟧.kept self.now tt).kept job ≡ None
+            → result.now ≡ [] }
     {
         match self.kept.get(job) {
             Some(kept) => &kept.ended,

@@ -36,7 +36,8 @@ impl MemLink {
         }) }
         ensures reads { IfOk result (λ l. IsSomeAnd (⟦<MemLink as Link>⟧.link_state l).told
             (Reads (given_at tree.items) (given_at repo.items))) }
-        ensures worker { IfOk result (λ l. fail.items ≡ [] → IsSteadyWorker (⟦<MemLink as Link>⟧.link_state l).told) }
+        ensures worker { IfOk result (λ l. fail.items ≡ []
+            → IsSteadyWorker (⟦<MemLink as Link>⟧.link_state l).told) }
         ensures counts { IfOk result (λ l. l.raw.failing ≡ record { fail = fail; calls = 0; faults = 0 }) }
     {
         Ok(MemLink {
