@@ -6,20 +6,46 @@ use std::alloc::Global;
 use std::fs::File;
 use std::io;
 use std::io::{ErrorKind, Write};
+use std::os::fd::AsRawFd;
 use std::os::unix::fs::FileExt;
 
 // A command has a file open for each of its workers.
 const MOST: usize = 64;
 
-// So many bytes are written before the disk is to begin with them: half a segment.
-const EARLY: u64 = 1 << 23;
+// So many bytes at once the system is asked to begin with.
+const PART: u64 = 2 << 20;
 
 #[derive(Drop)]
 struct Kept {
     name: String,
     file: File,
-    // bytes, since it was opened
-    written: u64,
+    // None where the system chooses when it writes its bytes
+    waiting: Option<Waiting>,
+}
+
+// The bytes of a file that the system wasn't asked to write: where they begin, and how many they are.
+#[derive(Drop)]
+struct Waiting {
+    from: u64,
+    count: u64,
+}
+
+impl Waiting {
+    // Counts bytes that were added, and asks the system to begin with a part once there is one. It is advice alone: a
+    // fault of that writing is told by the sync.
+    fn add(&mut self, file: &File, count: usize) {
+        self.count = self.count.saturating_add(count as u64);
+        if self.count < PART {
+            return;
+        }
+        let part = (i64::try_from(self.from), i64::try_from(self.count));
+        if let (Ok(from), Ok(count)) = part {
+            let dontneed = libc::POSIX_FADV_DONTNEED;
+            let _ = libc::posix_fadvise(file.as_raw_fd(), from, count, dontneed);
+        }
+        self.from = self.from.saturating_add(self.count);
+        self.count = 0;
+    }
 }
 
 /// No byte waits in it: what was appended went to the system.
@@ -58,15 +84,14 @@ impl Handles {
     /// Makes the name an empty file.
     pub fn begin(&mut self, place: &Place, name: &str) -> io::Result<()> {
         let file = place.create(name)?;
-        self.write_in(place, name, file)
+        self.write_in(place, name, file, None)
     }
 
-    /// Makes the name an empty file that is going to be synced.
+    /// Makes the name an empty file that is going to be synced. The system begins to write it part by part, so that the
+    /// sync waits for the last one alone.
     pub fn begin_to_sync(&mut self, place: &Place, name: &str) -> io::Result<()> {
         let file = place.create(name)?;
-        // Of a file that was cut to nothing ext4 begins to write the bytes as it is closed.
-        file.set_len(0)?;
-        self.write_in(place, name, file)
+        self.write_in(place, name, file, Some(Waiting { from: 0, count: 0 }))
     }
 
     /// Makes the name an empty file where nothing stands at it, and tells whether it did.
@@ -74,13 +99,19 @@ impl Handles {
         let Some(file) = place.create_new(name)? else {
             return Ok(false);
         };
-        self.write_in(place, name, file)?;
+        self.write_in(place, name, file, None)?;
         Ok(true)
     }
 
     // Keeps the file of a name to write in it, in place of the one that was opened first where there are too many.
-    fn write_in(&mut self, place: &Place, name: &str, file: File) -> io::Result<()> {
-        let kept = keep(place, name, file)?;
+    fn write_in(
+        &mut self,
+        place: &Place,
+        name: &str,
+        file: File,
+        waiting: Option<Waiting>,
+    ) -> io::Result<()> {
+        let kept = keep(place, name, file, waiting)?;
         self.writing.retain(|kept| kept.name.as_str() != name);
         if self.writing.len() >= MOST {
             self.writing.remove(0);
@@ -88,14 +119,12 @@ impl Handles {
         self.writing.push(kept).map_err(no_memory)
     }
 
-    /// Adds bytes at the end of a file that is there. The disk begins to write them behind half a segment, so that a
-    /// sync waits for the rest alone.
+    /// Adds bytes at the end of a file that is there.
     pub fn append(&mut self, place: &Place, name: &str, bytes: &[u8]) -> io::Result<()> {
         let kept = self.reach_end(place, name)?;
         kept.file.write_all(bytes)?;
-        kept.written = kept.written.saturating_add(bytes.len() as u64);
-        if kept.written >= EARLY {
-            self.close_written(place, name)?;
+        if let Some(waiting) = &mut kept.waiting {
+            waiting.add(&kept.file, bytes.len());
         }
         Ok(())
     }
@@ -108,7 +137,7 @@ impl Handles {
     fn reach_end(&mut self, place: &Place, name: &str) -> io::Result<&mut Kept> {
         if !self.is_written(name) {
             let file = place.open_end(name)?;
-            self.write_in(place, name, file)?;
+            self.write_in(place, name, file, None)?;
         }
         match self
             .writing
@@ -124,16 +153,6 @@ impl Handles {
         self.writing.iter().any(|kept| kept.name.as_str() == name)
     }
 
-    // Closes a file that was written, so that the disk writes its bytes while they are read, or more come. It is opened
-    // anew before that, so that a fault of the writing is told by the sync.
-    fn close_written(&mut self, place: &Place, name: &str) -> io::Result<()> {
-        if self.is_written(name) {
-            let file = place.open_end(name)?;
-            self.write_in(place, name, file)?;
-        }
-        Ok(())
-    }
-
     /// Whether a read at this place goes on in the file that is open. At its start a name is opened anew, so that
     /// all of one reading comes from the file that stood there at the start.
     pub fn goes_on(&self, name: &str, at: u64) -> bool
@@ -143,8 +162,7 @@ impl Handles {
         at > 0 && is_of(&self.reading, name)
     }
 
-    /// Bytes of a name from a place on: None where it is absent, 0 at its end. A file that was written is read from its
-    /// start once all is written.
+    /// Bytes of a name from a place on: None where it is absent, 0 at its end.
     pub fn read(
         &mut self,
         place: &Place,
@@ -159,8 +177,7 @@ impl Handles {
             let Some(file) = place.open_start(name)? else {
                 return Ok(None);
             };
-            self.reading = Some(keep(place, name, file)?);
-            self.close_written(place, name)?;
+            self.reading = Some(keep(place, name, file, None)?);
         }
         match &self.reading {
             Some(kept) => read_some(&kept.file, at, buf).map(Some),
@@ -169,12 +186,12 @@ impl Handles {
     }
 }
 
-fn keep(place: &Place, name: &str, file: File) -> io::Result<Kept> {
+fn keep(place: &Place, name: &str, file: File, waiting: Option<Waiting>) -> io::Result<Kept> {
     let name = String::from_str(place.rt.alloc(), name)?;
     Ok(Kept {
         name,
         file,
-        written: 0,
+        waiting,
     })
 }
 
