@@ -85,7 +85,8 @@ pub fn clear<T: Tree>(tree: &mut T, manifest: &Manifest, seen: &[Seen]) -> Resul
 // Makes the folders of a backup, each before what lies in it.
 pub fn make_folders<T: Tree>(tree: &mut T, folders: &[String]) -> Result<(), Stop>
     ensures made { OnOk result
-        ((T.state tree.new).nodes ≡ option_map (with_folders (map string_bytes folders.now)) (T.state tree.old).nodes) }
+        ((T.state tree.new).nodes ≡ option_map (with_folders (map string_bytes folders.now))
+        (T.state tree.old).nodes) }
     // Whatever comes of it, only these paths have changed.
     ensures others { (q : Text) → ¬ In q (map string_bytes folders.now)
         → at q (T.state tree.new).nodes ≡ at q (T.state tree.old).nodes }

@@ -107,8 +107,10 @@ impl<
         ensures unasked { NoneAsked ⟦<Self as Told>⟧.told words.now self.old → OnlyAnswers self.old self.new }
         ensures quiet { AllAsked ⟦<Self as Told>⟧.told AsksNoServer words.now self.old
             → self.new.server ≡ self.old.server }
-        ensures alone { Where ⟦<Self as Told>⟧.told UsesNoWorkers words.now self.old (KeepsWorkers self.old self.new) }
-        ensures unused { Where ⟦<Self as Told>⟧.told IsOnRepository words.now self.old (KeepsFolder self.old self.new) }
+        ensures alone { Where ⟦<Self as Told>⟧.told UsesNoWorkers words.now self.old
+            (KeepsWorkers self.old self.new) }
+        ensures unused { Where ⟦<Self as Told>⟧.told IsOnRepository words.now self.old
+            (KeepsFolder self.old self.new) }
 
         // Who neither uses the spool nor waits for turns of other processes leaves both.
         ensures untouched { AllAsked ⟦<Self as Told>⟧.told AsksNoSpool words.now self.old

@@ -40,7 +40,8 @@ fn shorten(
 ) -> Result<(Vec<Label>, BackupInfo), NoMemory>
     requires valid { IsBackupInfo (backup_info_of value) }
     requires within { length (list_text (backup_info_of value)) ≤ info_limit }
-    ensures labels { IfOk result (λ r. r.0.items ≡ condemned_labels rules.now moment (backup_info_of value).backups) }
+    ensures labels { IfOk result (λ r. r.0.items
+        ≡ condemned_labels rules.now moment (backup_info_of value).backups) }
     ensures are_labels { IfOk result (λ r. AllByRecursion IsLabel r.0.items) }
     ensures left { IfOk result (λ r. backup_info_of r.1 ≡ left_of rules.now moment (backup_info_of value)) }
     ensures valid { IfOk result (λ r. IsBackupInfo (backup_info_of r.1)) }

@@ -25,7 +25,8 @@ fn is_cluster_key(key: &str) -> bool
 
 // The first key that no cluster has.
 fn foreign_key<'a>(keys: &'a [(String, Value)]) -> Option<&'a str>
-    ensures some { IfSome result (λ k. ((d : Data) × In (k.now, d) (map key_of keys.now)) × ¬ In k.now cluster_keys) }
+    ensures some { IfSome result (λ k. ((d : Data) × In (k.now, d) (map key_of keys.now))
+        × ¬ In k.now cluster_keys) }
     ensures none { IfNone result ((k : Field) → In k (map key_of keys.now) → In k.0 cluster_keys) }
 {
     for k in keys {

@@ -47,7 +47,8 @@ fn next_of(
     requires key { IsKey (key_of k.now) }
     requires order { IsOrdered (map key_of front.now) }
     ensures some { IfOk result (λ o. IfSome o (λ e. IsNext (map key_of front.now) (key_of k.now) (entry_of e))) }
-    ensures none { IfOk result (λ o. IfNone o ((e : SpecEntry) → ¬ IsNext (map key_of front.now) (key_of k.now) e)) }
+    ensures none { IfOk result (λ o. IfNone o ((e : SpecEntry)
+        → ¬ IsNext (map key_of front.now) (key_of k.now) e)) }
 {
     let Some(label) = read_label(k.0.as_bytes()) else {
         return Ok(None);

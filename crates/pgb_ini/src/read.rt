@@ -78,7 +78,8 @@ fn read_all(alloc: Global, bytes: &[u8]) -> Result<Vec<Part>, IniFault>
 pub fn read_info_text(alloc: Global, bytes: &[u8]) -> Result<Vec<Part>, IniFault>
     requires { length bytes.now + 1 < 2 ^ 32 }
     // What is read is the one text of its sections.
-    ensures found { IfOk result (λ v. IsInfo (sections_of v.items) × (bytes.now ≡ info_text (sections_of v.items))) }
+    ensures found { IfOk result (λ v. IsInfo (sections_of v.items)
+        × (bytes.now ≡ info_text (sections_of v.items))) }
     // The text of some sections is read as them, unless memory runs out.
     ensures only { (ss : List Section) → IsInfo ss → bytes.now ≡ info_text ss
         → Gives (λ v. sections_of v.items) result (Ok ss) }

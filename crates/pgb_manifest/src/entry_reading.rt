@@ -144,7 +144,8 @@ fn read_told(alloc: Global, value: &Value) -> Result<Option<Told>, NoMemory>
     ensures bundle { IfOk result
         (λ o. IfSome o (λ t. IfSome t.bundle (λ b. (1 ≤ b.number) × (b.number < 2 ^ 32) × (b.at < 2 ^ 64)))) }
     ensures empty { IfOk result
-        (λ o. IfSome o (λ t. t.size ≡ 0 → (t.sum.0 ≡ sha1 []) × (t.reference ≡ None) × (t.bundle ≡ None))) }
+        (λ o. IfSome o (λ t. t.size ≡ 0 → (t.sum.0 ≡ sha1 []) × (t.reference ≡ None)
+        × (t.bundle ≡ None))) }
     ensures none { IfOk result (λ o. IfNone o ((e : SpecFile) → IsFile e → view value.now ≢ (file_field e).1)) }
 {
     let Some(told) = told_in(value) else {

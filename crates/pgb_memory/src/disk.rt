@@ -206,7 +206,8 @@ impl Disk for MemDisk {
     }
 
     fn read(&mut self, name: &str, at: u64, buf: &mut [u8]) -> Result<Option<usize>, Stop>
-        ensures bytes { IfOk result (λ n. Reads ((state_of self.old.held).now name.now) at (length buf.old) buf.new n) }
+        ensures bytes { IfOk result
+            (λ n. Reads ((state_of self.old.held).now name.now) at (length buf.old) buf.new n) }
         ensures room { IfOk result (λ n. IfSome n (λ n. n ≤ length buf.old)) }
         ensures same { IsAsBefore self.old.held self.new.held }
         ensures fails { FailsWhere (is_to_fail self.old.failing) result }

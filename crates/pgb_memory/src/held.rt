@@ -219,7 +219,8 @@ fn names_below(alloc: Global, names: &Names, folder: &str) -> Result<Vec<Found>,
 // The folders directly in the folder through which the names that were found below it lead.
 fn folders_among(alloc: Global, found: &[Found], folder: &str) -> Result<Vec<String>, AllocError>
     ensures { IfOk result (λ told. (f : Content) → IsListing folder.now f
-        (map (λ x. (string_bytes x.name, x.size)) found.now) → AreFolders folder.now f (map string_bytes told.items)) }
+        (map (λ x. (string_bytes x.name, x.size)) found.now)
+        → AreFolders folder.now f (map string_bytes told.items)) }
 {
     let mut told = Vec::new(alloc);
     for Found { name, .. } in found {

@@ -150,7 +150,8 @@ fn put_position(
     name: &str,
     position: u32,
 ) -> Result<(), AllocError>
-    ensures { OnOk result (positions_in positions.new ≡ set_at name.now (Some position) (positions_in positions.old)) }
+    ensures { OnOk result (positions_in positions.new
+        ≡ set_at name.now (Some position) (positions_in positions.old)) }
 {
     let key = String::from_str(alloc, name)?;
     positions.insert(key, position)?;

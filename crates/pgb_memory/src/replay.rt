@@ -64,7 +64,8 @@ fn begin(alloc: Global, traces: &mut Traces, name: &str) -> Result<(), AllocErro
 }
 
 fn append(alloc: Global, traces: &mut Traces, name: &str, bytes: &[u8]) -> Result<(), AllocError>
-    ensures { OnOk result (states_in traces.new ≡ changed_at name.now (appended_at bytes.now) (states_in traces.old)) }
+    ensures { OnOk result (states_in traces.new
+        ≡ changed_at name.now (appended_at bytes.now) (states_in traces.old)) }
 {
     let mut trace = take(alloc, traces, name)?;
     trace.append(bytes)?;

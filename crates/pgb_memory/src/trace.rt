@@ -78,7 +78,8 @@ impl Trace {
         value: Option<Vec<u8>>,
         loose: bool,
     ) -> Result<(), AllocError>
-        ensures { OnOk result (state_of_trace self.new ≡ arrived_at (value_of value) loose (state_of_trace self.old)) }
+        ensures { OnOk result (state_of_trace self.new
+            ≡ arrived_at (value_of value) loose (state_of_trace self.old)) }
     {
         self.kept.push(copy_of(alloc, &value)?)?;
         self.bytes = value;

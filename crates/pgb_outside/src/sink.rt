@@ -16,7 +16,8 @@ pub trait Sink {
         ensures some { IfOk result (λ n. n ≡ 0 → 0 < length bytes.now
             → Rises (state self.old).faults (state self.new).faults) }
         ensures written { IfOk result
-            (λ n. (state self.new).written ≡ option_map (λ text. text ++ take n bytes.now) (state self.old).written) }
+            (λ n. (state self.new).written
+            ≡ option_map (λ text. text ++ take n bytes.now) (state self.old).written) }
         ensures same { OnErr result ((state self.new).written ≡ (state self.old).written) }
         ensures cause { HasCause (state self.old).faults (state self.new).faults result };
 }

@@ -67,7 +67,8 @@ pub trait Tree {
     /// How many bytes a known file has: None where it isn't a file that is there.
     fn size(&mut self, what: &Known) -> Result<Option<u64>, Stop>
         ensures size { IfOk result
-            (λ n. IfSome (state self.old).nodes (λ f. n ≡ option_map length (file_bytes (f (known_path what.now))))) }
+            (λ n. IfSome (state self.old).nodes (λ f. n
+            ≡ option_map length (file_bytes (f (known_path what.now))))) }
         ensures looks { LooksAt (state self.old) (state self.new) }
         ensures cause { HasCause (state self.old).faults (state self.new).faults result };
 

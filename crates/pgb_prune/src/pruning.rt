@@ -50,7 +50,8 @@ fn settled(archive: &ArchiveInfo, backup: BackupInfo) -> Result<BackupInfo, Halt
     ensures valid { IfOk result (λ w. IsBackupInfo (backup_info_of w)) }
     ensures shorter { IfOk result
         (λ w. length (backup_text (backup_info_of w)) ≤ length (backup_text (backup_info_of backup))) }
-    ensures cause { IfErr result (HaltCause (Differs (archive_info_of archive.now) (backup_info_of backup)) (λ _. ⊥)) }
+    ensures cause { IfErr result
+        (HaltCause (Differs (archive_info_of archive.now) (backup_info_of backup)) (λ _. ⊥)) }
 {
     match settle_list(archive, backup) {
         Ok(list) => Ok(list),

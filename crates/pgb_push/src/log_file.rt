@@ -117,7 +117,8 @@ impl<T: Tree> Pieces<T> for LogFile {
 
     ghost same_self = { λ one. (refl, refl, refl) };
 
-    ghost same_then = { λ one two three first second. (second.0 ∙ first.0, second.1 ∙ first.1, second.2 ∙ first.2) };
+    ghost same_then = { λ one two three first second.
+        (second.0 ∙ first.0, second.1 ∙ first.1, second.2 ∙ first.2) };
 
     ghost bytes_stay = { λ it one other same. ap (λ o. told_file o (known_path it.what)) same.0 };
 

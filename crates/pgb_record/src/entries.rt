@@ -94,7 +94,8 @@ fn bundled(
 
 // The manifest's entry of a file.
 fn entry(ran: &Ran<'_>, file: &Taken, choice: Choice) -> Result<Option<FileEntry>, AllocError>
-    ensures { IfOk result (λ o. option_map file_entry_of o ≡ entry_for (went_of ran.now) (taken_of file.now) choice) }
+    ensures { IfOk result (λ o. option_map file_entry_of o
+        ≡ entry_for (went_of ran.now) (taken_of file.now) choice) }
 {
     match choice {
         Choice::Skip => match find_entry(ran.old, &file.path) {

@@ -73,7 +73,8 @@ fn add_cluster(
     archived: &[ArchivedName],
     cluster: &ClusterId,
 ) -> Result<(), NoMemory>
-    ensures { OnOk result (texts_of lines.new ≡ texts_of lines.old ++ cluster_lines current archived.now cluster.now) }
+    ensures { OnOk result (texts_of lines.new ≡ texts_of lines.old
+        ++ cluster_lines current archived.now cluster.now) }
 {
     let word = cluster_word(cluster.id == current);
     add_line(lines, String::new(alloc))?;

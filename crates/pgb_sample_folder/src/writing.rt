@@ -43,7 +43,8 @@ fn write_relation<T: Tree>(alloc: Global, tree: &mut T, place: u32) -> Result<()
 /// Writes the first so many relation files, one after another.
 pub(crate) fn write_relations<T: Tree>(alloc: Global, tree: &mut T, count: u32) -> Result<(), Stop>
     requires { count < 2 ^ 31 }
-    ensures has { OnOk result (Has nothing (T.state tree.old).nodes → Has (relations count) (T.state tree.new).nodes) }
+    ensures has { OnOk result (Has nothing (T.state tree.old).nodes
+        → Has (relations count) (T.state tree.new).nodes) }
     ensures others { (q : Name) → relations count q ≡ None
         → at q (T.state tree.new).nodes ≡ at q (T.state tree.old).nodes }
     ensures proper { Has nothing (T.state tree.old).nodes
