@@ -9,18 +9,22 @@
 #![tactic(auto)]
 
 mod clock;
+mod control;
 mod disk;
 mod files;
 mod handles;
 mod input;
 mod locks;
+mod mounts;
 mod noted;
 mod place;
 mod progress;
 mod replies;
+mod restoring;
 mod settle;
 mod sink;
 mod source;
+mod syncing;
 mod tree;
 mod walk;
 mod wire;
