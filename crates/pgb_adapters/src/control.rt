@@ -14,7 +14,7 @@ const MOST_BYTES: usize = 65_536;
 
 const READINGS: usize = 10;
 
-const BETWEEN: Duration = Duration::from_millis(5);
+const BETWEEN_MS: u64 = 5;
 
 /// The bytes of the control file, as two readings in a row had them: so no write was half done.
 #[derive(Drop)]
@@ -71,7 +71,7 @@ fn read_settled(place: &Place) -> io::Result<Option<Vec<u8>>> {
         if before.is_none() {
             return Ok(None);
         }
-        thread::sleep(&place.rt, BETWEEN);
+        thread::sleep(&place.rt, Duration::from_millis(BETWEEN_MS));
         let now = read_whole(place)?;
         if now == before {
             return Ok(now);
