@@ -5,7 +5,7 @@ use crate::handles::Handles;
 use crate::place::{Place, no_memory};
 use crate::progress::Progress;
 use crate::settle::{Settled, settle, settle_in, sync_files};
-use crate::walk::{folders_in, nodes_below};
+use crate::walk::{folders_in, plain_nodes_below};
 use pgb_outside::{Disk, Found, Node, Seen, Stop};
 use pgb_system::Faults;
 use std::alloc::Global;
@@ -143,7 +143,7 @@ impl Disk for RealDisk {
 // Only files are names of a disk.
 fn names_below(alloc: Global, place: &Place, folder: &str) -> io::Result<Vec<Found>> {
     let mut found = Vec::new(alloc);
-    for seen in nodes_below(alloc, place, folder)? {
+    for seen in plain_nodes_below(alloc, place, folder)? {
         let Seen { path, node } = seen;
         if let Node::File { size, .. } = node {
             found.push(Found { name: path, size }).map_err(no_memory)?;

@@ -8,9 +8,11 @@
 //! - Nothing is proved about content, nor about the note of settled folders.
 #![tactic(auto)]
 
+mod calling;
 mod clock;
 mod disk;
 mod files;
+mod guarding;
 mod handles;
 mod input;
 mod locks;

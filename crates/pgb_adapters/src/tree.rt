@@ -5,7 +5,7 @@ ghost use Rattle.pgb_outside.specs.Tree.{known_path};
 use crate::handles::Handles;
 use crate::place::Place;
 use crate::progress::Progress;
-use crate::walk::nodes_below;
+use crate::walk::{Listing, nodes_below};
 use pgb_outside::{Known, Seen, Stop, Tree};
 use pgb_system::Faults;
 use std::alloc::{AllocError, Global};
@@ -74,7 +74,11 @@ impl Tree for RealTree {
     }
 
     fn list(&mut self, alloc: Global) -> Result<Vec<Seen>, Stop> {
-        let done = nodes_below(alloc, &self.place, "");
+        let how = Listing {
+            pass_over: false,
+            log_is_folder: false,
+        };
+        let done = nodes_below(alloc, &self.place, "", how);
         self.faults.told(&self.place.call("listing of", ""), done)
     }
 
