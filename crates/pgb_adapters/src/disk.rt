@@ -4,8 +4,13 @@ ghost use Rattle.std.specs.Prelude.{◌≡◌, None, false, map, string_bytes};
 use crate::handles::{Handles, Writes};
 use crate::place::{Place, folder_of, no_memory, unless_absent};
 use crate::progress::Progress;
+<<<<<<< HEAD
 use crate::settle::{Settled, are_synced_at_once, settle, settle_in, sync_files};
 use crate::walk::{folders_in, nodes_below};
+=======
+use crate::settle::{Settled, settle, settle_in, sync_files};
+use crate::walk::{folders_in, plain_nodes_below};
+>>>>>>> f21b860c480b13974885f09d9c970c8fac163af5
 use pgb_outside::{Disk, Found, Node, Seen, Stop};
 use pgb_system::Faults;
 use std::alloc::{AllocError, Global};
@@ -175,7 +180,7 @@ impl Disk for RealDisk {
 // Only files are names of a disk.
 fn names_below(alloc: Global, place: &Place, folder: &str) -> io::Result<Vec<Found>> {
     let mut found = Vec::new(alloc);
-    for seen in nodes_below(alloc, place, folder)? {
+    for seen in plain_nodes_below(alloc, place, folder)? {
         let Seen { path, node } = seen;
         if let Node::File { size, .. } = node {
             found.push(Found { name: path, size }).map_err(no_memory)?;

@@ -318,10 +318,13 @@ fn is_of(kept: &Option<Kept>, name: &str) -> bool
     }
 }
 
-/// Bytes of a file from a place on. It reads again where a signal came.
+/// Bytes of a file from a place on. It reads again where a signal came. No file has bytes from 2^63 on.
 pub fn read_some(file: &File, at: u64, buf: &mut [u8]) -> io::Result<usize>
     ensures { IfOk result (λ n. n ≤ length buf.old) }
 {
+    if i64::try_from(at).is_err() {
+        return Ok(0);
+    }
     for _ in 0..u64::MAX {
         match file.read_at(buf, at) {
             Err(e) if e.kind() == ErrorKind::Interrupted => {}

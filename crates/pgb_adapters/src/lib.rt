@@ -8,10 +8,12 @@
 //! - Nothing is proved about content, nor about the note of settled folders.
 #![tactic(auto)]
 
+mod calling;
 mod clock;
 mod control;
 mod disk;
 mod files;
+mod guarding;
 mod handles;
 mod input;
 mod locks;

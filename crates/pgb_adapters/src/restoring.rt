@@ -4,7 +4,7 @@ use crate::handles::{Handles, Writes};
 use crate::mounts::{kind_of_root, may_hold_file_systems};
 use crate::place::{Place, sync_folder};
 use crate::syncing::WholeSync;
-use crate::walk::nodes_below;
+use crate::walk::{Listing, nodes_below};
 use pgb_outside::{Node, Seen};
 use std::io;
 use std::io::ErrorKind;
@@ -134,7 +134,7 @@ impl Restoring {
             }
         }
         handles.finish_all()?;
-        let seen = nodes_below(place.rt.alloc(), place, "")?;
+        let seen = nodes_below(place.rt.alloc(), place, "", Listing::whole())?;
         if self.keeps {
             sync_files(place, handles, &seen)?;
         }

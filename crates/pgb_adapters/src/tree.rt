@@ -6,7 +6,7 @@ use crate::handles::{Handles, Writes};
 use crate::place::Place;
 use crate::progress::Progress;
 use crate::restoring::Restoring;
-use crate::walk::nodes_below;
+use crate::walk::{Listing, nodes_below};
 use pgb_outside::{Known, Node, Seen, Stop, Tree};
 use pgb_system::Faults;
 use std::alloc::{AllocError, Global};
@@ -20,6 +20,7 @@ pub struct RealTree {
     place: Place,
     handles: Handles,
     restoring: Restoring,
+    listing: Listing,
     // whether the root is locked, and the lock of the one that was opened last
     is_held: bool,
     held: Option<File>,
@@ -39,6 +40,7 @@ impl RealTree {
             handles: Handles::new(rt.alloc()),
             place: Place::new(rt),
             restoring: Restoring::new(),
+            listing: Listing::whole(),
             is_held: false,
             held: None,
             size: 0,
@@ -56,6 +58,16 @@ impl RealTree {
     /// From now on no other process that does so has the same root.
     pub fn hold(&mut self) {
         self.is_held = true;
+    }
+
+    /// From now on what can't be listed is passed over below the folders whose content no backup takes.
+    pub fn pass_over_omitted(&mut self) {
+        self.listing.pass_over = true;
+    }
+
+    /// From now on the folder of the log is such a folder, and a link in its place stands for it.
+    pub fn log_is_folder(&mut self) {
+        self.listing.log_is_folder = true;
     }
 
     /// How many bytes the files of the last listing have.
@@ -106,7 +118,7 @@ impl Tree for RealTree {
     }
 
     fn list(&mut self, alloc: Global) -> Result<Vec<Seen>, Stop> {
-        let done = nodes_below(alloc, &self.place, "");
+        let done = nodes_below(alloc, &self.place, "", self.listing);
         if let Ok(seen) = &done {
             self.restoring.see(seen);
             self.listed = bytes_of(seen);
