@@ -1,12 +1,15 @@
 // The connection to the server, on a Unix socket.
 ghost use Rattle.std.specs.Prelude.{◌≡◌, ◌≤◌, None, IfOk, OnOk, length, string_bytes};
 
+use crate::calling::{call_socket, timed};
 use crate::place::call_of;
 use pgb_outside::{Stop, Wire};
 use pgb_system::{Faults, read_some};
-use std::io;
 use std::io::{ErrorKind, Write};
+use std::os::unix::fs::MetadataExt;
 use std::os::unix::net::UnixStream;
+use std::time::Duration;
+use std::{fs, io};
 
 /// A connection to a socket of the system's files, closed as the next one is opened. It tells nothing of what is said.
 #[derive(Drop)]
@@ -14,6 +17,9 @@ pub struct RealWire {
     rt: HostRuntime,
     place: String,
     stream: Option<UnixStream>,
+    // of each wait
+    longest: Option<Duration>,
+    owner: Option<u32>,
     faults: Faults,
 }
 
@@ -25,8 +31,25 @@ impl RealWire {
             place: String::new(rt.alloc()),
             rt,
             stream: None,
+            longest: None,
+            owner: None,
             faults: Faults::new(),
         }
+    }
+
+    /// From now on connecting, each writing and each reading waits for at most so long. 0 is for ever.
+    pub fn set_timeout(&mut self, seconds: u64) {
+        self.longest = if seconds == 0 {
+            None
+        } else {
+            Some(Duration::from_secs(seconds))
+        };
+    }
+
+    /// From now on a socket is opened only where it belongs to this user, or to root. Who is at its other end can't be
+    /// asked.
+    pub fn expect_owner(&mut self, user: u32) {
+        self.owner = Some(user);
     }
 
     /// What failed last, for a person to read.
@@ -47,8 +70,21 @@ impl RealWire {
     {
         self.stream = None;
         self.place = String::from_str(self.rt.alloc(), path)?;
-        self.stream = Some(UnixStream::connect(&self.rt, path)?);
+        self.demand_owner(path)?;
+        self.stream = Some(call_socket(&self.rt, path, self.longest)?);
         Ok(())
+    }
+
+    fn demand_owner(&self, path: &str) -> io::Result<()> {
+        let Some(owner) = self.owner else {
+            return Ok(());
+        };
+        let found = fs::metadata(&self.rt, path)?.uid();
+        if found == owner || found == 0 {
+            return Ok(());
+        }
+        let text = "the socket belongs to another user than the data folder";
+        Err(io::Error::new(ErrorKind::PermissionDenied, text))
     }
 }
 
@@ -68,7 +104,7 @@ impl Wire for RealWire {
 
     fn send(&mut self, bytes: &[u8]) -> Result<(), Stop> {
         let done = match &mut self.stream {
-            Some(stream) => stream.write_all(bytes),
+            Some(stream) => timed(stream.write_all(bytes)),
             None => Err(io::Error::from(ErrorKind::NotConnected)),
         };
         self.faults
@@ -77,7 +113,7 @@ impl Wire for RealWire {
 
     fn receive(&mut self, buf: &mut [u8]) -> Result<usize, Stop> {
         let done = match &mut self.stream {
-            Some(stream) => read_some(stream, buf),
+            Some(stream) => timed(read_some(stream, buf)),
             None => Err(io::Error::from(ErrorKind::NotConnected)),
         };
         self.faults
