@@ -1,7 +1,5 @@
 // The files and folders that a lock holds.
-use crate::place::{
-    Opened, TRIES, is_same, make_file, make_folders, open_plain, unless_absent,
-};
+use crate::place::{Opened, TRIES, is_same, make_file, make_folders, open_plain, unless_absent};
 use std::fs::{File, Metadata, OpenOptions, TryLockError};
 use std::io::ErrorKind;
 use std::os::unix::fs::MetadataExt;

@@ -47,7 +47,8 @@ impl Within {
             return false;
         };
         let top = folder.split('/').next().unwrap_or(folder);
-        how.pass_over && (EMPTIED.iter().any(|name| *name == top) || (how.log_is_folder && top == LOG))
+        how.pass_over
+            && (EMPTIED.iter().any(|name| *name == top) || (how.log_is_folder && top == LOG))
     }
 
     // Whether a name of a folder is passed over that isn't UTF-8. None of a repository is.
@@ -166,8 +167,12 @@ pub fn folders_in(alloc: Global, place: &Place, folder: &str) -> io::Result<Vec<
     for seen in nodes {
         if seen.node == Node::Folder {
             let name = own_name(&seen.path);
-            found.push(String::from_str(alloc, name)?).map_err(no_memory)?;
-        } else if matches!(seen.node, Node::Link | Node::Other) && !is_latest(&seen.path, &seen.node) {
+            found
+                .push(String::from_str(alloc, name)?)
+                .map_err(no_memory)?;
+        } else if matches!(seen.node, Node::Link | Node::Other)
+            && !is_latest(&seen.path, &seen.node)
+        {
             return Err(not_plain(alloc, &seen.path));
         }
     }
