@@ -11,6 +11,9 @@ use std::os::unix::net::UnixStream;
 use std::time::Duration;
 use std::{fs, io};
 
+// The function of a server that starts a backup.
+const BACKUP_START: &[u8] = b"pg_backup_start";
+
 /// A connection to a socket of the system's files, closed as the next one is opened. It tells nothing of what is said.
 #[derive(Drop)]
 pub struct RealWire {
@@ -20,6 +23,7 @@ pub struct RealWire {
     // of each wait
     longest: Option<Duration>,
     owner: Option<u32>,
+    shows: bool,
     faults: Faults,
 }
 
@@ -33,6 +37,7 @@ impl RealWire {
             stream: None,
             longest: None,
             owner: None,
+            shows: false,
             faults: Faults::new(),
         }
     }
@@ -50,6 +55,18 @@ impl RealWire {
     /// asked.
     pub fn expect_owner(&mut self, user: u32) {
         self.owner = Some(user);
+    }
+
+    /// From now on a person sees on standard error that the start of a backup is waited for.
+    pub fn show_waiting(&mut self) {
+        self.shows = true;
+    }
+
+    // The server makes a checkpoint first, which may take minutes.
+    fn show(&self, bytes: &[u8]) {
+        if self.shows && bytes.windows(BACKUP_START.len()).any(|part| part == BACKUP_START) {
+            let _ = eprintln!(self.rt; "INFO: waiting for the server's checkpoint");
+        }
     }
 
     /// What failed last, for a person to read.
@@ -103,6 +120,7 @@ impl Wire for RealWire {
     }
 
     fn send(&mut self, bytes: &[u8]) -> Result<(), Stop> {
+        self.show(bytes);
         let done = match &mut self.stream {
             Some(stream) => timed(stream.write_all(bytes)),
             None => Err(io::Error::from(ErrorKind::NotConnected)),

@@ -1,5 +1,5 @@
 // What the words and their configuration ask for, as far as a person is concerned. The command reads both by itself.
-use crate::words::value_given;
+use crate::reading::value_given;
 use pgb_adapters::RealSource;
 use pgb_options::{Command, ConfigPath, LogWord, config_path, settle_words};
 use pgb_outside::Source;

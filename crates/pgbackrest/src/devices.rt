@@ -1,13 +1,15 @@
 // The objects of the system, as the options of the command ask for them.
 ghost use Rattle.std.specs.Prelude.{◌≡◌, [], IfOk};
 
+use crate::guards::data_folder;
 use crate::telling::Telling;
 use pgb_adapters::{RealClock, RealDisk, RealLocks, RealSink, RealTree, RealWire};
 use pgb_options::Command;
 use pgb_others::Others;
 use pgb_outside::{Locks, Sink, Stop};
 use pgb_table::Verb;
-use std::io;
+use std::os::unix::fs::MetadataExt;
+use std::{fs, io};
 
 /// Those for which a command has options.
 #[derive(Drop)]
@@ -19,6 +21,8 @@ pub struct Devices {
     pub clock: RealClock,
     pub locks: RealLocks,
     pub out: RealSink,
+    /// How long a worker is waited for, in seconds: 0 is for ever.
+    pub worker_timeout: u64,
 }
 
 /// The objects of a command, whose background processes run this program.
@@ -31,14 +35,26 @@ pub fn devices(rt: HostRuntime, program: String, telling: &Telling) -> io::Resul
         server: RealWire::new(rt),
         aside: Others::new(rt, program),
         clock: RealClock::new(rt),
-        locks: RealLocks::new(rt),
+        locks: locks(rt, telling.command())?,
         out: telling.output(),
+        worker_timeout: 0,
     };
     devices.show(telling.progress());
     if let Some(command) = telling.command() {
-        devices.prepare(command)?;
+        devices.prepare(rt, command)?;
     }
     Ok(devices)
+}
+
+// The locks, which are those of the repository's folders too.
+fn locks(rt: HostRuntime, command: Option<&Command>) -> io::Result<RealLocks>
+    ensures { IfOk result (λ l. (⟦<RealLocks as Locks>⟧.state l).taken ≡ []) }
+{
+    let mut locks = RealLocks::new(rt);
+    if let Some(command) = command {
+        locks.guard(&command.options.repo1_path)?;
+    }
+    Ok(locks)
 }
 
 impl Devices {
@@ -49,6 +65,7 @@ impl Devices {
         match progress {
             Some(Verb::Backup) => {
                 self.repo.tell_progress();
+                self.server.show_waiting();
                 self.aside.show_waiting("the server's archive_command");
             }
             Some(Verb::Restore) => self.tree.tell_progress(),
@@ -56,10 +73,44 @@ impl Devices {
         }
     }
 
-    fn prepare(&mut self, _command: &Command) -> io::Result<()>
-        ensures { (⟦<RealLocks as Locks>⟧.state self.new.locks).taken ≡ (⟦<RealLocks as Locks>⟧.state self.old.locks).taken }
+    fn prepare(&mut self, rt: HostRuntime, command: &Command) -> io::Result<()>
+        ensures { self.new.locks ≡ self.old.locks }
     {
+        let data = data_folder(command);
+        self.worker_timeout = command.options.io_timeout;
+        self.server.set_timeout(command.options.db_timeout);
+        if let Ok(seen) = fs::metadata(&rt, data) {
+            self.server.expect_owner(seen.uid());
+        }
+        self.own(command.verb);
+        match command.verb {
+            Verb::Restore => {
+                self.tree.restores();
+                self.tree.hold();
+            }
+            Verb::Backup if command.options.online => self.clock.by_folder(data)?,
+            Verb::Backup => {
+                let file = format!(in rt.alloc(); "{data}/postmaster.pid")?;
+                self.repo.refuse_list_beside(&file)?;
+            }
+            _ => {}
+        }
         Ok(())
+    }
+
+    // What a command's locks keep others from.
+    fn own(&mut self, verb: Verb)
+        ensures { self.new.locks ≡ self.old.locks }
+    {
+        match verb {
+            Verb::ArchivePush | Verb::ArchivePushAsync => self.repo.is_only_writer_in("archive"),
+            Verb::Backup | Verb::Expire => self.repo.is_only_writer_in("backup"),
+            Verb::StanzaCreate | Verb::Rehearse => {
+                self.repo.is_only_writer_in("archive");
+                self.repo.is_only_writer_in("backup");
+            }
+            _ => {}
+        }
     }
 }
 

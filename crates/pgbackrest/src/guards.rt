@@ -131,8 +131,8 @@ fn writes_spool(command: &Command) -> bool {
     }
 }
 
-// (where there is none, a path that leads nowhere)
-fn data_folder(command: &Command) -> &str {
+/// The data folder: where there is none, a path that leads nowhere.
+pub fn data_folder(command: &Command) -> &str {
     match &command.options.pg1_path {
         Some(path) => path.as_str(),
         None => "",

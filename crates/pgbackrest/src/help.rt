@@ -1,6 +1,6 @@
 // What `--help` and `--version` print.
 use crate::meanings::meaning_of;
-use crate::words::{Reader, Word};
+use crate::reading::{Reader, Word};
 use pgb_table::{Fallback, Kind, Opt, Row, TABLE, VERBS, Verb, row_for, verb_word};
 use std::alloc::{AllocError, Global};
 

@@ -14,7 +14,7 @@ mod meanings;
 mod paths;
 mod streams;
 mod telling;
-mod words;
+mod reading;
 
 use asked::asked;
 use devices::{devices, put_line};
@@ -129,20 +129,22 @@ fn program(rt: &HostRuntime) -> io::Result<String> {
 }
 
 // A worker: this program, started as it is sent its first frame.
-fn worker(rt: HostRuntime, program: &str) -> io::Result<RealLink> {
+fn worker(rt: HostRuntime, program: &str, timeout: u64) -> io::Result<RealLink> {
     let alloc = rt.alloc();
     let words = vec![in alloc; String::from_str(alloc, LOCAL)?]?;
-    Ok(RealLink::new(rt, String::from_str(alloc, program)?, words))
+    let mut link = RealLink::new(rt, String::from_str(alloc, program)?, words);
+    link.set_timeout(timeout);
+    Ok(link)
 }
 
 // All workers that a command may use.
-fn workers(rt: HostRuntime, program: &str) -> io::Result<Vec<RealLink>>
+fn workers(rt: HostRuntime, program: &str, timeout: u64) -> io::Result<Vec<RealLink>>
     ensures { IfOk result (λ links. length links.items ≤ 256) }
 {
     let mut links = Vec::new(rt.alloc());
     for number in 0..WORKERS {
         links
-            .push(worker(rt, program)?)
+            .push(worker(rt, program, timeout)?)
             .map_err(|_| ErrorKind::OutOfMemory)?;
     }
     Ok(links)
@@ -176,8 +178,8 @@ fn refuse(mut telling: Telling, refusal: &Refusal) -> u8 {
 fn run(rt: HostRuntime, mut telling: Telling, words: &[String]) -> io::Result<u8> {
     let alloc = rt.alloc();
     let program = program(&rt)?;
-    let links = workers(rt, &program)?;
-    let devices = devices(rt, program, &telling)?;
+    let devices = devices(rt, program.clone()?, &telling)?;
+    let links = workers(rt, &program, devices.worker_timeout)?;
     let mut outside = Outside {
         repo: devices.repo,
         spool: RealDisk::new(rt),

@@ -1,6 +1,6 @@
 // The paths of the command line, as a process finds them that has another working folder: the server, whose
 // `restore_command` a restore writes, and what runs in the background.
-use crate::words::{Reader, Word};
+use crate::reading::{Reader, Word};
 use std::io::ErrorKind;
 use std::{env, io};
 
