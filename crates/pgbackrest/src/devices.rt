@@ -83,12 +83,18 @@ impl Devices {
             self.server.expect_owner(seen.uid());
         }
         self.own(command.verb);
+        if command.verb == Verb::Backup {
+            self.tree.pass_over_omitted();
+        }
         match command.verb {
             Verb::Restore => {
                 self.tree.restores();
                 self.tree.hold();
             }
-            Verb::Backup if command.options.online => self.clock.by_folder(data)?,
+            Verb::Backup if command.options.online => {
+                self.tree.log_is_folder();
+                self.clock.by_folder(data)?;
+            }
             Verb::Backup => {
                 let file = format!(in rt.alloc(); "{data}/postmaster.pid")?;
                 self.repo.refuse_list_beside(&file)?;
