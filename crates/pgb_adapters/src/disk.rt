@@ -1,11 +1,9 @@
 // The repository, on the system's files.
 ghost use Rattle.std.specs.Prelude.{◌≡◌, None, false, map, string_bytes};
 
-use crate::handles::{Handles, Handles, Writes, Writes};
-use crate::place::{
-    Place, Place, folder_of, folder_of, no_memory, no_memory, unless_absent, unless_absent,
-};
-use crate::progress::{Progress, Progress};
+use crate::handles::{Handles, Writes};
+use crate::place::{Place, folder_of, no_memory, unless_absent};
+use crate::progress::Progress;
 use crate::settle::{Settled, are_synced_at_once, settle, settle_in, sync_files};
 use crate::walk::{folders_in, plain_nodes_below};
 use pgb_outside::{Disk, Found, Node, Seen, Stop};
