@@ -4,7 +4,7 @@ ghost use Rattle.std.specs.Prelude.{◌≡◌, None};
 use pgb_outside::{Disk, Stop};
 use pgb_turn::{Aside, TurnStop};
 use std::io::ErrorKind;
-use std::process::{Command, Stdio};
+use std::process::{Child, Command, Stdio};
 use std::time::Duration;
 use std::{io, thread};
 
@@ -14,6 +14,8 @@ use std::{io, thread};
 pub struct Others {
     rt: HostRuntime,
     program: String,
+    // those that weren't waited for
+    started: Vec<Child>,
     turns: u64,
     faults: u64,
 }
@@ -26,16 +28,26 @@ impl Others {
         ensures faults { result.faults ≡ 0 }
     {
         Others {
+            started: Vec::new(rt.alloc()),
             rt,
             program,
             turns: 0,
             faults: 0,
         }
     }
+
+    // Waits for those that have ended, so that the system needn't remember them.
+    fn forget_ended(&mut self)
+        ensures turns { self.new.turns ≡ self.old.turns }
+        ensures faults { self.new.faults ≡ self.old.faults }
+    {
+        self.started
+            .retain_mut(|child| matches!(child.try_wait(), Ok(None)));
+    }
 }
 
-// Starts a program with these words. It has none of this one's streams, and isn't waited for.
-fn start(rt: &HostRuntime, program: &str, words: &[String]) -> io::Result<()> {
+// Starts a program with these words. It has none of this one's streams, and its end isn't awaited.
+fn start(rt: &HostRuntime, program: &str, words: &[String]) -> io::Result<Child> {
     let mut command = Command::new(rt.alloc(), program)?;
     for word in words {
         command.arg(word.as_str())?;
@@ -43,8 +55,7 @@ fn start(rt: &HostRuntime, program: &str, words: &[String]) -> io::Result<()> {
     command.stdin(Stdio::null());
     command.stdout(Stdio::null());
     command.stderr(Stdio::null());
-    let _started = command.spawn(rt)?;
-    Ok(())
+    command.spawn(rt)
 }
 
 impl<D: Disk, S: Disk> Aside<D, S> for Others {
@@ -52,13 +63,19 @@ impl<D: Disk, S: Disk> Aside<D, S> for Others {
 
     fn turn(&mut self, _repo: &mut D, _spool: &mut S) -> Result<(), TurnStop> {
         thread::sleep(&self.rt, Duration::from_secs(1));
+        self.forget_ended();
         self.turns = self.turns.saturating_add(1);
         Ok(())
     }
 
     fn start(&mut self, words: &[String]) -> Result<(), Stop> {
+        self.forget_ended();
         match start(&self.rt, self.program.as_str(), words) {
-            Ok(()) => Ok(()),
+            Ok(child) => {
+                // where memory lacks, it stays unawaited
+                let _ = self.started.push(child);
+                Ok(())
+            }
             Err(e) if e.kind() == ErrorKind::OutOfMemory => Err(Stop::NoMemory),
             Err(_) => {
                 self.faults = self.faults.saturating_add(1);
