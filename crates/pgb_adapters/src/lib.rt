@@ -19,6 +19,7 @@ mod input;
 mod locks;
 mod mounts;
 mod noted;
+mod phase;
 mod place;
 mod progress;
 mod replies;

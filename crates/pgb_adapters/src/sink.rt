@@ -9,6 +9,7 @@ use std::io::{ErrorKind, Write};
 
 // What is kept of an output: its start, and of a longer one its end.
 const MOST_FIRST: usize = 1 << 20;
+
 const MOST_LAST: usize = 1 << 12;
 
 /// What was written.

@@ -2,6 +2,7 @@
 ghost use Rattle.std.specs.Prelude.{◌≡◌, ◌≤◌, None, IfOk, OnOk, length, string_bytes};
 
 use crate::calling::{call_socket, timed};
+use crate::phase::Phase;
 use crate::place::call_of;
 use pgb_outside::{Stop, Wire};
 use pgb_system::{Faults, read_some};
@@ -10,9 +11,6 @@ use std::os::unix::fs::MetadataExt;
 use std::os::unix::net::UnixStream;
 use std::time::Duration;
 use std::{fs, io};
-
-// The function of a server that starts a backup.
-const BACKUP_START: &[u8] = b"pg_backup_start";
 
 /// A connection to a socket of the system's files, closed as the next one is opened. It tells nothing of what is said.
 #[derive(Drop)]
@@ -23,7 +21,7 @@ pub struct RealWire {
     // of each wait
     longest: Option<Duration>,
     owner: Option<u32>,
-    shows: bool,
+    phase: Phase,
     faults: Faults,
 }
 
@@ -37,7 +35,7 @@ impl RealWire {
             stream: None,
             longest: None,
             owner: None,
-            shows: false,
+            phase: Phase::new(),
             faults: Faults::new(),
         }
     }
@@ -57,16 +55,9 @@ impl RealWire {
         self.owner = Some(user);
     }
 
-    /// From now on a person sees on standard error that the start of a backup is waited for.
+    /// From now on a person sees on standard error what a backup waits for.
     pub fn show_waiting(&mut self) {
-        self.shows = true;
-    }
-
-    // The server makes a checkpoint first, which may take minutes.
-    fn show(&self, bytes: &[u8]) {
-        if self.shows && bytes.windows(BACKUP_START.len()).any(|part| part == BACKUP_START) {
-            let _ = eprintln!(self.rt; "INFO: waiting for the server's checkpoint");
-        }
+        self.phase.show();
     }
 
     /// What failed last, for a person to read.
@@ -120,7 +111,7 @@ impl Wire for RealWire {
     }
 
     fn send(&mut self, bytes: &[u8]) -> Result<(), Stop> {
-        self.show(bytes);
+        self.phase.send(&self.rt, bytes);
         let done = match &mut self.stream {
             Some(stream) => timed(stream.write_all(bytes)),
             None => Err(io::Error::from(ErrorKind::NotConnected)),
@@ -134,6 +125,9 @@ impl Wire for RealWire {
             Some(stream) => timed(read_some(stream, buf)),
             None => Err(io::Error::from(ErrorKind::NotConnected)),
         };
+        if let Ok(count) = &done {
+            self.phase.receive(&self.rt, &buf[..*count]);
+        }
         self.faults
             .told(&call_of(&self.rt, "reading of", &self.place), done)
     }

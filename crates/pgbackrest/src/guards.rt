@@ -23,9 +23,7 @@ pub fn is_fetch(words: &[String]) -> bool {
 
 /// Whether a word is that of a command by which a server archives.
 pub fn is_push(words: &[String]) -> bool {
-    words
-        .iter()
-        .any(|word| matches!(word.as_str(), "archive-push" | "archive-push:async"))
+    words.iter().any(|word| matches!(word.as_str(), "archive-push" | "archive-push:async"))
 }
 
 /// Whether the working folder is that of a server in a recovery, behind which it goes live. A standby asks again.
@@ -116,7 +114,10 @@ fn other_owner<'a>(rt: &HostRuntime, command: &'a Command) -> Option<&'a str> {
 
 // What a restore leaves is for the user whose the repository is.
 fn writes_repository(verb: Verb) -> bool {
-    !matches!(verb, Verb::ArchiveGet | Verb::ArchiveGetAsync | Verb::Verify | Verb::Info)
+    !matches!(
+        verb,
+        Verb::ArchiveGet | Verb::ArchiveGetAsync | Verb::Verify | Verb::Info
+    )
 }
 
 fn writes_data(verb: Verb) -> bool {

@@ -111,7 +111,8 @@ fn purpose_of(verb: Verb) -> &'static str {
             " NAME PATH: fetches a file of the write-ahead log, for restore_command",
         Verb::Backup => ": makes a backup of a server, running or stopped",
         Verb::Expire => ": removes what the retention no longer keeps",
-        Verb::Restore => ": restores a backup into an empty folder, or with --delta over an old one",
+        Verb::Restore =>
+            ": restores a backup into an empty folder, or with --delta over an old one",
         Verb::Verify => ": looks for damage in the repository",
         Verb::Info => ": tells which backups and segments there are",
         Verb::Rehearse => ": tries all of it on empty folders",

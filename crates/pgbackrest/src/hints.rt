@@ -6,7 +6,11 @@ const HINTS: &[(&str, &str, &str)] = &[
     ("003", "", "correct it; --help lists the commands"),
     ("004", "", "correct it; --help COMMAND lists the options"),
     ("005", "", "give it once"),
-    ("006", "", "see --help COMMAND for its values, and info for labels"),
+    (
+        "006",
+        "",
+        "see --help COMMAND for its values, and info for labels",
+    ),
     (
         "007",
         "",
@@ -22,9 +26,17 @@ const HINTS: &[(&str, &str, &str)] = &[
         "archive-push takes %p, archive-get takes %f and %p, archive-get:async a segment's name, the others \
          none",
     ),
-    ("012", "", "hand %p over as the server gives it, and see that pg1-path is its data folder"),
+    (
+        "012",
+        "",
+        "hand %p over as the server gives it, and see that pg1-path is its data folder",
+    ),
     ("013", "", "convert it"),
-    ("014", "", "run it as the user who owns the folder, as by sudo -u postgres"),
+    (
+        "014",
+        "",
+        "run it as the user who owns the folder, as by sudo -u postgres",
+    ),
     (
         "020",
         "",
@@ -37,10 +49,26 @@ const HINTS: &[(&str, &str, &str)] = &[
          a new stanza needs stanza-create",
     ),
     ("022", "", "put a member back from a copy of the repository"),
-    ("023", "", "correct pg1-path or --stanza; after pg_upgrade create a new stanza: see RUNBOOK"),
-    ("024", "", "put archive.info back from a copy of the repository, or make a new stanza"),
-    ("025", "", "see that pg1-path is right; the cluster is damaged"),
-    ("026", "", "see that pg1-path is right; the cluster is damaged"),
+    (
+        "023",
+        "",
+        "correct pg1-path or --stanza; after pg_upgrade create a new stanza: see RUNBOOK",
+    ),
+    (
+        "024",
+        "",
+        "put archive.info back from a copy of the repository, or make a new stanza",
+    ),
+    (
+        "025",
+        "",
+        "see that pg1-path is right; the cluster is damaged",
+    ),
+    (
+        "026",
+        "",
+        "see that pg1-path is right; the cluster is damaged",
+    ),
     ("027", "", "use another program for this server"),
     ("028", "", "see that pg1-path is the data folder"),
     ("030", "", "hand over what the server gives for %p and %f"),
@@ -59,7 +87,11 @@ const HINTS: &[(&str, &str, &str)] = &[
         "working directory",
         "give this server a configuration of its own by --config or --pg1-path, with its own data folder",
     ),
-    ("033", "", "find out how another cluster's file came into pg_wal"),
+    (
+        "033",
+        "",
+        "find out how another cluster's file came into pg_wal",
+    ),
     (
         "034",
         "",
@@ -70,7 +102,11 @@ const HINTS: &[(&str, &str, &str)] = &[
         "",
         "put the file back from a copy of the repository; without it a recovery can't pass it",
     ),
-    ("036", "", "compare both with their sums, and move the wrong one away"),
+    (
+        "036",
+        "",
+        "compare both with their sums, and move the wrong one away",
+    ),
     ("037", "", "hand over what the server gives for %p"),
     (
         "038",
@@ -78,8 +114,16 @@ const HINTS: &[(&str, &str, &str)] = &[
         "the server tries again; call archive-push:async by hand, which says why it stores nothing",
     ),
     ("039", "", "see the status in it, 31 to 34"),
-    ("040", "", "set the clock right, or wait until it has passed the label"),
-    ("041", "", "stop the server; where none runs, remove the file"),
+    (
+        "040",
+        "",
+        "set the clock right, or wait until it has passed the label",
+    ),
+    (
+        "041",
+        "",
+        "stop the server; where none runs, remove the file",
+    ),
     (
         "042",
         "",
@@ -87,16 +131,32 @@ const HINTS: &[(&str, &str, &str)] = &[
          --archive-timeout. A turn is a second",
     ),
     ("043", "", "use another program for this server"),
-    ("044", "", "replace the link by what it leads to; tablespaces aren't supported"),
+    (
+        "044",
+        "",
+        "replace the link by what it leads to; tablespaces aren't supported",
+    ),
     ("045", "name '", "move the file away: no server made it"),
     ("045", "listing", "run it again, and check the file system"),
     ("046", "", "back up again"),
     ("047", "", "correct pg1-path, pg1-port or pg1-socket-path"),
-    ("048", "", "see the text; mostly pg1-user or pg1-database isn't there"),
-    ("049", "", "let pg_hba.conf have peer or trust for this user on the socket"),
+    (
+        "048",
+        "",
+        "see the text; mostly pg1-user or pg1-database isn't there",
+    ),
+    (
+        "049",
+        "",
+        "let pg_hba.conf have peer or trust for this user on the socket",
+    ),
     ("050", "", "see what listens on the socket"),
     ("051", "", "see the server's log, and run it again"),
-    ("055", "", "see the system's log, as for a lack of memory; try a smaller --process-max"),
+    (
+        "055",
+        "",
+        "see the system's log, as for a lack of memory; try a smaller --process-max",
+    ),
     ("056", "", "see who may read the file, and its disk"),
     ("060", "", "see info, --stanza and repo1-path"),
     ("061", "", "info lists the labels"),
@@ -131,10 +191,22 @@ const HINTS: &[(&str, &str, &str)] = &[
          messages: see what listens on the socket",
     ),
     ("072", "", "give another --stanza or --repo1-path"),
-    ("073", "", "find out what else changes the repository; then expire"),
+    (
+        "073",
+        "",
+        "find out what else changes the repository; then expire",
+    ),
     ("074", "", "see what the file is"),
-    ("075", "", "compare both with their sums, and move the wrong one away"),
-    ("076", "", "look up the message of that step; remove what the rehearsal made"),
+    (
+        "075",
+        "",
+        "compare both with their sums, and move the wrong one away",
+    ),
+    (
+        "076",
+        "",
+        "look up the message of that step; remove what the rehearsal made",
+    ),
     (
         "080",
         "",
@@ -153,22 +225,44 @@ const HINTS: &[(&str, &str, &str)] = &[
         "mount its disk, make room, or give all files to the server's user, and repeat the command; standard \
          error names the path",
     ),
-    ("083", "", "start the server, or correct pg1-socket-path and pg1-port"),
+    (
+        "083",
+        "",
+        "start the server, or correct pg1-socket-path and pg1-port",
+    ),
     ("084", "", "set the clock right"),
-    ("085", "", "the user has to be able to write to lock-path; standard error names the path"),
-    ("086", "", "it has to be a plain file that the user may read; standard error names the path"),
-    ("087", "", "see where the output goes, and repeat the command"),
-    ("088", "", "see the system's limits; try without archive-async"),
+    (
+        "085",
+        "",
+        "the user has to be able to write to lock-path; standard error names the path",
+    ),
+    (
+        "086",
+        "",
+        "it has to be a plain file that the user may read; standard error names the path",
+    ),
+    (
+        "087",
+        "",
+        "see where the output goes, and repeat the command",
+    ),
+    (
+        "088",
+        "",
+        "see the system's limits; try without archive-async",
+    ),
     ("090", "", "free some memory, and repeat the command"),
     ("100", "", "leave it out, here or in the configuration"),
-    ("101", "", "put the pairs back from one copy of the repository"),
+    (
+        "101",
+        "",
+        "put the pairs back from one copy of the repository",
+    ),
 ];
 
 /// What to do about an error: none where the line isn't one.
 pub fn hint_for(line: &str) -> Option<&'static str> {
     let (status, text) = line.strip_prefix("ERROR: [")?.split_once("]: ")?;
-    let found = HINTS
-        .iter()
-        .find(|(number, part, _)| *number == status && text.contains(part));
+    let found = HINTS.iter().find(|(number, part, _)| *number == status && text.contains(part));
     found.map(|(_, _, hint)| *hint)
 }

@@ -90,9 +90,7 @@ impl Log {
     /// After the command.
     pub fn end(&mut self, status: u8) -> Result<(), AllocError> {
         if Level::Info.is_in(self.level) {
-            let text = format!(in self.rt.alloc();
-                "{} command end: status {status}", self.verb
-            )?;
+            let text = format!(in self.rt.alloc(); "{} command end: status {status}", self.verb)?;
             self.add_now(Level::Info, &text)?;
         }
         self.write();

@@ -12,9 +12,9 @@ mod levels;
 mod logging;
 mod meanings;
 mod paths;
+mod reading;
 mod streams;
 mod telling;
-mod reading;
 
 use asked::asked;
 use devices::{devices, put_line};

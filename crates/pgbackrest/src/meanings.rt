@@ -35,7 +35,8 @@ pub fn meaning_of(option: Opt) -> &'static str {
         Opt::Output => "the report's form",
         Opt::Number => "size: N × 100 files and N × 2 segments of 1 MiB",
         Opt::Config => "the configuration's file",
-        Opt::LogLevelStderr => "lines on standard error: none, errors, warnings too, or progress too",
+        Opt::LogLevelStderr =>
+            "lines on standard error: none, errors, warnings too, or progress too",
         Opt::LogLevelFile => "lines in the log file, by the same words",
         Opt::LogPath => "folder of the log files, one for each stanza and command",
         Opt::DbTimeout => "how long the server is waited for",

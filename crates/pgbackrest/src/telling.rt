@@ -14,6 +14,7 @@ use std::alloc::AllocError;
 
 // The status of an option that is missing, and that of a configuration that can't be read.
 const MISSING: u8 = 7;
+
 const UNREADABLE: u8 = 86;
 
 /// The objects of the system that the program works on.
@@ -129,7 +130,11 @@ impl Telling {
         match &self.asked.config {
             Some(config) if status == MISSING => {
                 let path = config.path.as_str();
-                let found = if config.is_there { "was read" } else { "is not there" };
+                let found = if config.is_there {
+                    "was read"
+                } else {
+                    "is not there"
+                };
                 reasons.push(format!(in alloc; "configuration: '{path}' {found}")?)?;
             }
             _ => {}
