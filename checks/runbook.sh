@@ -44,7 +44,7 @@ program backup >/dev/null || complain 'no backup'
 first=$(last_label)
 
 chmod 0 $repo/archive
-ask 'select pg_switch_wal()' >/dev/null
+ask 'create table other as select 1; select pg_switch_wal()' >/dev/null
 sleep 2
 typed 80 'Archiving is stuck' 1
 has 'ERROR: \[080\]'
