@@ -98,7 +98,7 @@ check_links() {
         fi
     done < <(sed 's/`[^`]*`//g' "$1" | grep -o '](\([^)]*\))' | sed 's/^](//; s/)$//')
     while IFS= read -r name; do
-        if [ ! -e "$folder/$name" ] && [ ! -e "$name" ]; then complain "$1: it names $name, which isn't there"; fi
+        if [ ! -e "$folder/$name" ] && [ ! -e "$name" ] && [ ! -e "docs/$name" ]; then complain "$1: it names $name, which isn't there"; fi
     done < <(grep -o '[A-Za-z0-9_./-]*\.md' "$1" | sort -u)
 }
 
