@@ -8,7 +8,7 @@ map({
   db: [.db[] | {id, "repo-key": 1, "system-id": ."db-system-id", version: ."db-version"}],
   archive: [.archive[] | . + {database: {id: (.id | split("-")[1] | tonumber), "repo-key": 1}}],
   backup: [.backup[] | {
-    label, type: ."backup-type", prior: ."backup-prior", error: false,
+    "label": ."label", type: ."backup-type", prior: ."backup-prior", error: false,
     reference: (if ."backup-reference" == [] then null else ."backup-reference" end),
     timestamp: {start: ."backup-timestamp-start", stop: ."backup-timestamp-stop"},
     archive: {start: ."backup-archive-start", stop: ."backup-archive-stop"},
