@@ -1,5 +1,6 @@
 #!/usr/bin/env bash
-# The documents: README has at most 8 KiB; docs/ALL-DEFINITIONS.md is what docs/tables makes; each crate, option and status has its row;
+# The documents: README has at most 8 KiB and ARCHITECTURE 15; each definition has a comment; the numbers of TESTING and the rows of PROVED
+# are those that docs/counts and docs/proved make; each crate, option and status has its row;
 # the program's hints are the advice of STATUS;
 # each link leads to a file and a heading that are there; no sentence has more than 40 words; and none has a word of the list below.
 # A cell of a table, an item of a list and a heading end a sentence; what stands in code counts as one word.
@@ -98,8 +99,8 @@ check_links() {
         fi
     done < <(sed 's/`[^`]*`//g' "$1" | grep -o '](\([^)]*\))' | sed 's/^](//; s/)$//')
     while IFS= read -r name; do
-        if [ ! -e "$folder/$name" ] && [ ! -e "$name" ]; then complain "$1: it names $name, which isn't there"; fi
-    done < <(grep -o '[A-Za-z0-9_/-]*\.md' "$1" | sort -u)
+        if [ ! -e "$folder/$name" ] && [ ! -e "$name" ] && [ ! -e "docs/$name" ]; then complain "$1: it names $name, which isn't there"; fi
+    done < <(grep -o '[A-Za-z0-9_./-]*\.md' "$1" | sort -u)
 }
 
 if [ $# -gt 0 ]; then
@@ -110,8 +111,11 @@ fi
 bytes=$(wc -c <README.md)
 [ "$bytes" -le "$most_bytes" ] || complain "README.md has $bytes bytes"
 
-docs/tables | cmp -s - docs/ALL-DEFINITIONS.md ||
-    complain 'docs/ALL-DEFINITIONS.md is not what docs/tables makes: docs/tables > docs/ALL-DEFINITIONS.md'
+bytes=$(wc -c <docs/ARCHITECTURE.md)
+[ "$bytes" -le 15360 ] || complain "docs/ARCHITECTURE.md has $bytes bytes"
+
+while IFS= read -r word; do complain "$word has no comment"; done < <(docs/tables --bare)
+while IFS= read -r line; do complain "$line"; done < <(docs/counts --check)
 
 # listed WHAT FILE PATTERN: the file has a row of a table in which this stands.
 listed() {
@@ -144,8 +148,8 @@ if ! diff <(advice | cut -f 1,2) <(hints | cut -f 1,2); then complain 'the hints
 while IFS= read -r line; do complain "$line"; done < <(paste <(advice) <(hints | cut -f 3) |
     awk -F '\t' 'index($3, $4) == 0 { printf "the line of %s has no part \"%s\"\n", $1, $4 }')
 
-for file in README.md docs/*.md contrib/README.md; do
+for file in README.md docs/*.md docs/decisions/*.md contrib/README.md; do
     check_links "$file"
-    if [ "$file" != docs/ALL-DEFINITIONS.md ]; then check_words "$file"; fi
+    check_words "$file"
 done
 exit "$wrong"
