@@ -8,8 +8,9 @@ if ! strace -f -qq -y -o calls -e trace="$calls" true 2>/dev/null; then
     printf 'strace is not here: skipped\n'
     exit 77
 fi
-# The runner owns all of it.
+# The runner owns all of it. No server runs in it, so a part of it will do.
 chown -R "$(id -u):$(id -g)" pg
+rm -r pg/base/4 pg/base/5
 memory=
 trap 'for place in $memory; do umount "$place"; done; rm -rf "$room"' EXIT
 ours=("$top/bin/pgbackrest" --no-config --stanza=demo)
@@ -100,9 +101,10 @@ repo=$room/repo
 want_stanza "$repo"
 traced --repo1-path="$repo" "${backup[@]}"
 synced 'a backup' "$repo/backup/demo/$label" "$repo/backup/demo/backup.info" n
-strace -f -qq -y -o calls -e trace=read,pread64,preadv "${ours[@]}" --repo1-path="$repo" "${backup[@]}" >output 2>errors || complain "a backup ended with $?"
-readings=$(ended | grep -c "^p\?read[64v]*([0-9]*<$room/pg/global/pg_control>.* = 8192$") || true
-[ "$readings" -ge 2 ] || complain "the control file is read $readings times"
+strace -f -qq -y -o calls -e trace=read,pread64,preadv "${ours[@]}" --repo1-path="$repo" "${backup[@]}" >output 2>errors ||
+    complain "a backup ended with $?: $(cat output)"
+readings=$(grep -F "<$room/pg/global/pg_control>" calls | cut -d' ' -f1 | sort | uniq -c | sort -n | tail -n 1 | awk '{ print $1 + 0 }')
+[ "${readings:-0}" -ge 2 ] || complain "who stores the control file reads it ${readings:-0} times"
 
 # A restore into a new folder, and one of a few files.
 traced --repo1-path="$repo" --pg1-path="$room/new" restore
@@ -118,10 +120,12 @@ PATH=$system
 fails() {
     local status=0 wanted=$1
     shift
-    strace -f -qq -o /dev/null -e trace=fsync,fdatasync,syncfs -e inject=fsync,fdatasync,syncfs:error=EIO "${ours[@]}" "$@" >output 2>errors || status=$?
+    strace -f -qq -o /dev/null -e trace=fsync,fdatasync,syncfs -e inject=fsync,fdatasync,syncfs:error=EIO "${ours[@]}" "$@" \
+        >output 2>errors || status=$?
     [ "$status" = "$wanted" ] || complain "$* whose syncs fail ended with $status and not $wanted: $(cat output)"
 }
 listed=$("${ours[@]}" --repo1-path="$repo" info | grep -c 'full backup: ')
+mkdir failed
 fails 82 --repo1-path="$repo" --pg1-path="$room/failed" restore
 [ ! -e failed/global/pg_control ] || complain 'a restore that failed left a control file'
 fails 80 --repo1-path="$repo" "${backup[@]}"
@@ -129,10 +133,12 @@ fails 80 --repo1-path="$repo" "${backup[@]}"
 
 # A repository's root that a stanza-create made before it was killed: the next one syncs the folder that holds it.
 create=(--repo1-path="$room/deep/below/repo" --pg1-path="$room/pg" --lock-path="$room/lock" --no-online stanza-create)
-strace -f -qq -o /dev/null -e trace=fsync -e inject=fsync:signal=KILL:when=1 "${ours[@]}" "${create[@]}" >output 2>&1 || true
+{
+    strace -f -qq -o /dev/null -e trace=fsync -e inject=fsync:signal=KILL:when=1 "${ours[@]}" "${create[@]}" || true
+} >output 2>&1
 [ -d deep/below/repo ] || mkdir -p deep/below/repo
 traced "${create[@]}"
-ended | grep -q "^fsync([0-9]*<$room/deep/below>) = 0" || complain 'the folder that holds a new repository is never synced'
+ended | grep -q -e "^fsync([0-9]*<$room/deep/below>) = 0" -e '^syncfs(' || complain 'the folder that holds a new repository is never synced'
 
 # mounted FOLDER: a file system in memory there, whose sync says nothing of the files.
 mounted() {

@@ -2,8 +2,9 @@
 # What one program may do to another, and what may keep one waiting: two at once exclude each other whatever their lock folders are, no
 # lock is taken that isn't the user's own, no push is stopped by its output, and a worker that says nothing is given up.
 . "$(dirname "$0")/common"
-# The runner owns all of it.
+# The runner owns all of it. No server runs in it, so a part of it will do.
 chown -R "$(id -u):$(id -g)" pg
+rm -r pg/base/4 pg/base/5
 ours=("$top/bin/pgbackrest" --no-config --stanza=demo --repo1-path="$room/repo")
 data=(--pg1-path="$room/pg")
 lock=(--lock-path="$room/lock")
@@ -52,7 +53,8 @@ is_whole() {
     want 0 '' verify
 }
 
-make_segments 16 8
+make_segments 16 3
+rm pg/pg_wal/000000010000000000000001
 want 0 '' "${data[@]}" "${lock[@]}" --no-online stanza-create
 want 0 '' "${data[@]}" "${lock[@]}" archive-push "$(segment 16)"
 
@@ -75,13 +77,14 @@ rm lock/demo-archive.lock
 want 20 "$is_held" "${data[@]}" "${lock[@]}" archive-push "$(segment 17)"
 ends 0 'a push beside others'
 want 0 '' "${data[@]}" "${lock[@]}" archive-push "$(segment 17)"
+want 0 '' "${data[@]}" "${lock[@]}" archive-push "$(segment 18)"
 is_whole
-rm -rf "$large" pg/other
+rm -rf "$large" "$(segment 17)" "$(segment 18)" pg/other
 
 # A backup, an expiry and another backup.
 is_held="ERROR: [020]: lock 'demo-backup.lock' is held
 "
-truncate -s 300M pg/base/1/99999
+truncate -s 32M pg/base/1/99999
 begin "${offline[@]}" "${lock[@]}" backup
 stop_where 'compgen -G "repo/backup/demo/*F/pg_data/base/1/*" >/dev/null'
 want 20 "$is_held" --lock-path="$room/other" expire
@@ -102,21 +105,21 @@ rm pg/postmaster.pid
 # Two restores into one folder.
 want 0 "INFO: restored backup $(cd repo/backup/demo && printf '%s\n' *F | head -n 1)
 " --pg1-path="$room/new" --type=none restore
-printf 'x' | dd of=new/base/1/99999 bs=1 conv=notrunc status=none
+printf x | dd of=new/base/1/99999 conv=notrunc status=none || true
 begin --pg1-path="$room/new" --type=none --delta restore
 stop_where '[ ! -e new/global/pg_control ]'
 want 82 'ERROR: [082]: data folder failed
 ' --pg1-path="$room/new" --type=none --delta restore
 ends 0 'a restore beside another'
 cmp -s pg/base/1/99999 new/base/1/99999 || complain 'a restore beside another left other bytes'
-rm -r new
+rm -rf new
 
 # refused WHAT: a push with the lock folder `bad` fails, and it doesn't wait.
 refused() {
     want 85 'ERROR: [085]: lock failed
 ' "${data[@]}" --lock-path="$room/bad" archive-push "$(segment 16)"
     [ ! -e target ] || complain "a push made what $1 leads to"
-    rm -rf bad
+    rm -rf bad target
     mkdir bad
 }
 mkdir bad
@@ -133,7 +136,9 @@ if [ "$(id -u)" = 0 ]; then
     refused 'a folder of another user'
 fi
 chmod 1777 bad
-want 0 '' "${data[@]}" --lock-path="$room/bad" archive-push "$(segment 18)"
+make_segments 19 1
+want 0 '' "${data[@]}" --lock-path="$room/bad" archive-push "$(segment 19)"
+rm "$(segment 19)"
 
 # A FIFO in the repository isn't waited for.
 mv repo/archive/demo/archive.info kept
@@ -157,6 +162,7 @@ for streams in '>/dev/full' '>&-' '2>&-' '>&- 2>&-' '<&- >&- 2>&-'; do
         done
         cmp -s "$(segment "$number")" "$(stored_at "$(basename "$(segment "$number")")" "$(segment "$number")")" ||
             complain "a push with $source and $streams stored other bytes, or none"
+        rm "$(segment "$number")"
     done
 done
 {

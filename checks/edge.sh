@@ -3,8 +3,9 @@
 # a file can't be fetched, another cluster's files are left alone, a restored server finds the repository again, and root leaves
 # nothing that the server's user can't read.
 . "$(dirname "$0")/common"
-# The runner owns all of it.
+# The runner owns all of it. No server runs in it, so a part of it will do.
 chown -R "$(id -u):$(id -g)" pg
+rm -r pg/base/4 pg/base/5
 room=$(pwd -P)
 cat >conf <<END
 [global]
@@ -53,7 +54,8 @@ stored_name() {
     (cd repo && printf %s "$log/$(basename "$(segment "$1")")"-*)
 }
 
-make_segments 16 8
+make_segments 16 1
+rm pg/pg_wal/000000010000000000000001
 name=$(basename "$(segment 16)")
 want 0 '' stanza-create
 want 0 '' archive-push "$(segment 16)"
@@ -143,6 +145,7 @@ rm -f pg/pg_wal/RECOVERYXLOG "repo/$log"
 mv aside "repo/$log"
 
 # The working directory is another cluster than that of the option.
+make_segments 17 1
 cp -a pg other
 ln -s pg linked
 folder=other
@@ -172,7 +175,7 @@ done
 folder=linked
 want 0 '' archive-push "$pushed"
 folder=$room
-rm -r pg/pg_wal/RECOVERYXLOG linked other
+rm -r pg/pg_wal/RECOVERYXLOG "$(segment 17)" linked other
 
 # restored COMMAND FOLDER WORD..: a restore writes this command, and by it a server in its folder gets what is archived.
 restored() {
@@ -196,7 +199,9 @@ restored '' fourth --no-config --pg1-path=fourth --repo1-path=repo
 
 # A name that isn't UTF-8 is passed over, wherever it is in the repository.
 for place in "repo/$log" repo/archive/demo/15-1 repo/archive/demo repo/backup/demo; do touch "$place/"$'\377'; done
+make_segments 18 1
 want 0 '' archive-push "$(segment 18)"
+rm "$(segment 18)"
 want 0 '' "${get[@]}"
 cmp -s kept pg/pg_wal/RECOVERYXLOG || complain 'beside a strange name other bytes are served'
 rm -f pg/pg_wal/RECOVERYXLOG
@@ -208,12 +213,14 @@ find repo -name $'\377' -delete
 whole=("${ours[@]}")
 ours=(env -i bash -c 'exec -a pgbackrest "$0" "$@"' "${ours[@]}")
 ends_well --process-max=2 --type=full backup
+make_segments 19 1
 touch "pg/pg_wal/archive_status/$(basename "$(segment 19)").ready"
 ends_well --archive-async --spool-path="$room/spool" archive-push "$(segment 19)"
 [ -e "repo/$(stored_name 19)" ] || complain 'a push in the background without PATH stored nothing'
 ours=("${whole[@]}")
+rm "$(segment 19)" pg/pg_wal/archive_status/*
 
-# As root nothing is written into what is another user's.
+# owned FOLDER WORD..: as root nothing is written for another user, who couldn't read it.
 owned() {
     local of=$1
     shift
@@ -223,14 +230,15 @@ owned() {
     chown 0 "$of"
 }
 if [ "$(id -u)" = 0 ]; then
-    for of in repo pg; do
-        owned "$of" stanza-create
-        owned "$of" archive-push "$(segment 20)"
-        owned "$of" backup
+    make_segments 20 1
+    for words in stanza-create "archive-push $(segment 20)" backup expire '--delta restore'; do
+        # shellcheck disable=SC2086
+        owned repo $words
     done
-    owned repo expire
     owned pg "${get[@]}"
     owned pg --delta restore
+    owned pg --repo1-path="$room/fresh" stanza-create
+    [ ! -e fresh ] || complain "a repository was made for another user's cluster"
     chown 65534 repo pg
     ends_well info
     ends_well verify
