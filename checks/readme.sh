@@ -4,6 +4,7 @@
 . "$(dirname "$0")/common"
 as=()
 if [ "$(id -u)" = 0 ]; then
+    chown -R 65534:65534 pg
     as=(setpriv --reuid=65534 --regid=65534 --clear-groups)
 fi
 data=$room/data/main
