@@ -1,6 +1,7 @@
 #!/usr/bin/env bash
 # The documents: README has at most 8 KiB and ARCHITECTURE 15; each definition has a comment; the numbers of TESTING and the rows of PROVED
-# are those that docs/counts and docs/proved make; each crate, option and status has its row;
+# are those that docs/counts makes; each crate, option and status has its row; the program's hints are
+# the advice of STATUS;
 # each link leads to a file and a heading that are there; no sentence has more than 40 words; and none has a word of the list below.
 # A cell of a table, an item of a list and a heading end a sentence; what stands in code counts as one word.
 # documents.sh FILE..: the sentences of these files alone.
@@ -133,6 +134,19 @@ for crate in pgb_command $below; do
         grep -q "^| $status |" docs/STATUS.md || complain "docs/STATUS.md has no row for $status of $crate"
     done
 done
+
+# The program's hints: of each status from 2 on that has a line, the last column of STATUS, and a part of the line where there are several.
+advice() {
+    sed -n 's/^| \([0-9]*\) | .* | \(.*\) | \(.*\) |$/\1\t\2\t\3/p' docs/STATUS.md | tr -d '`' |
+        awk -F '\t' '$1 > 1 && $1 < 126 && $2 != "none" { printf "%03d\t%s\t%s\n", $1, $3, $2 }' | LC_ALL=C sort
+}
+hints() {
+    sed -z 's/\\\n *//g; s/\n */ /g' crates/pgbackrest/src/hints.rt | grep -o '( *"[0-9]*", "[^"]*", "[^"]*",\? *)' |
+        sed 's/^( *"\([0-9]*\)", "\([^"]*\)", "\([^"]*\)",\? *)$/\1\t\3\t\2/' | LC_ALL=C sort
+}
+if ! diff <(advice | cut -f 1,2) <(hints | cut -f 1,2); then complain 'the hints of the program are not the advice of docs/STATUS.md'; fi
+while IFS= read -r line; do complain "$line"; done < <(paste <(advice) <(hints | cut -f 3) |
+    awk -F '\t' 'index($3, $4) == 0 { printf "the line of %s has no part \"%s\"\n", $1, $4 }')
 
 for file in README.md docs/*.md docs/decisions/*.md contrib/README.md; do
     check_links "$file"

@@ -6,6 +6,8 @@ mod clock;
 #[cfg(test)]
 mod disk;
 #[cfg(test)]
+mod link;
+#[cfg(test)]
 mod locks;
 #[cfg(test)]
 mod same;
