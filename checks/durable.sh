@@ -37,10 +37,16 @@ last() {
     grep -En "$1" calls | tail -n 1 | cut -d: -f1
 }
 
+# how many files and folders below a path were synced singly
+singly() {
+    calls "fsync\([0-9]*<$1[/>]"
+}
+
 control='rename\(".*/global/pg_control\.pgbackrest\.tmp", ".*/global/pg_control"\) = 0'
 mkdir held 'to here' b
 printf '#!/bin/sh\nexit 0\n' >b/sync
 chmod +x b/sync
+chown -R "$(id -u)" pg
 PATH=$room/b:$PATH
 run 0 'a stanza' --repo1-path="$room/held/repo" --pg1-path="$room/pg" --no-online stanza-create
 
@@ -51,7 +57,6 @@ run 0 'a backup' --repo1-path="$room/held/repo" --pg1-path="$room/pg" --no-onlin
 [ "$(calls 'fsync\([0-9]*<.*/pg_data/base/')" = 0 ] || complain 'a file of a backup is synced singly'
 
 # Where that fails, nothing is listed.
-label=$(ls -d held/repo/backup/demo/*F)
 options=(-e inject=syncfs:error=EIO)
 sleep 1.1
 run 80 'a backup whose sync fails' --repo1-path="$room/held/repo" --pg1-path="$room/pg" --no-online --no-expire-auto --type=full backup
@@ -59,7 +64,6 @@ options=()
 [ "$(grep -c '^2.*F=' held/repo/backup/demo/backup.info)" = 1 ] || complain 'a backup is listed whose sync failed'
 
 # A restore: the control file of before is away first, all is on the disk before the new one has its name, and then that.
-restored=("--pg1-path=$room/to here" --type=none)
 for way in swift each; do
     to="$room/to"
     [ "$way" = swift ] || to="$room/to here"
@@ -72,13 +76,12 @@ for way in swift each; do
     [ "$(last 'rename\(|write\([0-9]*<.*/to( here)?/')" = "$at" ] || complain "a restore, $way: the control file is not last"
     if [ "$way" = swift ]; then
         [ "$(last 'syncfs\(.*\) += 0')" -lt "$at" ] || complain "a restore, $way: no sync before the control file"
-        [ "$(calls 'fsync\(')" = 1 ] || complain "a restore, $way: $(calls 'fsync\(') single syncs"
+        [ "$(singly "$to")" = 1 ] || complain "a restore, $way: $(singly "$to") single syncs"
     else
         [ "$(calls 'syncfs\(')" = 0 ] || complain "a restore, $way: it syncs at once"
-        head -n "$at" calls >before
-        files=$(find "$to" -type f ! -path '*/global/pg_control' | wc -l)
-        folders=$(find "$to" -type d | wc -l)
-        [ "$(grep -c 'fsync(' before)" -ge $((files + 1 + folders)) ] || complain "a restore, $way: $(grep -c 'fsync(' before) syncs"
+        # each file, the control file under its other name, each folder, and that of the control file again
+        nodes=$(find "$to" -type f -o -type d | wc -l)
+        [ "$(singly "$to")" -gt "$nodes" ] || complain "a restore, $way: $(singly "$to") syncs of $nodes nodes"
     fi
     [ "$(last 'fsync\([0-9]*<.*/global>\) += 0')" -gt "$at" ] || complain "a restore, $way: its name is not synced"
 
@@ -92,7 +95,7 @@ for way in swift each; do
 
     # A failure is told, and then there is no control file.
     options=(-e inject=syncfs:error=EIO)
-    [ "$way" = swift ] || options=(-e inject=fsync:error=EIO:when=7)
+    [ "$way" = swift ] || options=(-e inject=fsync:error=EIO:when=20)
     rm -rf "$to"
     mkdir "$to"
     run 82 "a failing sync, $way" "${restored[@]}" restore
@@ -122,7 +125,6 @@ run 0 'a stanza in a folder that is there' --repo1-path="$room/made/repo" --pg1-
 # One restore at a time.
 rm -rf to
 mkdir to
-options=(-e trace=none)
 status=0
 flock to "$top/bin/pgbackrest" --no-config --stanza=demo --repo1-path="$room/held/repo" --pg1-path="$room/to" --log-level-stderr=warn --type=none \
     restore >output 2>&1 || status=$?
@@ -131,7 +133,6 @@ flock to "$top/bin/pgbackrest" --no-config --stanza=demo --repo1-path="$room/hel
 
 # A server that is started while an offline backup reads.
 head -c 300M /dev/urandom >pg/base/1/99999
-chown --reference=pg pg/base/1/99999
 sleep 1.1
 before=$(ls -d held/repo/backup/demo/*F | wc -l)
 "$top/bin/pgbackrest" --no-config --stanza=demo --lock-path="$room/lock" --repo1-path="$room/held/repo" --pg1-path="$room/pg" --no-online \
