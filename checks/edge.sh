@@ -91,10 +91,11 @@ recovers() {
         rm -f pg/*.signal pg/pg_wal/RECOVERYXLOG
         for kind in $signals; do touch "pg/$kind.signal"; done
         ended=$wanted
-        lines=0
+        # (where no option could be read the reason is said unasked)
+        lines=$((wanted == 86))
         if [ "$signals" = recovery ] && [ "$wanted" -gt 1 ]; then
             ended=126
-            lines=1
+            lines=$((lines + 1))
         fi
         status=0
         (cd pg && "$top/bin/pgbackrest" --stanza=demo "$@") >output 2>errors || status=$?
