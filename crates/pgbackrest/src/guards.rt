@@ -21,9 +21,13 @@ pub fn is_fetch(words: &[String]) -> bool {
     words.iter().any(|word| word.as_str() == "archive-get")
 }
 
-/// Whether a word is that of a command by which a server archives.
-pub fn is_push(words: &[String]) -> bool {
-    words.iter().any(|word| matches!(word.as_str(), "archive-push" | "archive-push:async"))
+/// Whether a word is that of a command that a server calls, or that works for one in the background. Its status alone
+/// counts there, whatever becomes of its lines.
+pub fn is_for_server(words: &[String]) -> bool {
+    words.iter().any(|word| matches!(
+        word.as_str(),
+        "archive-push" | "archive-push:async" | "archive-get"
+    ))
 }
 
 /// Whether the working folder is that of a server in a recovery, behind which it goes live. A standby asks again.
