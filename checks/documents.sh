@@ -1,7 +1,7 @@
 #!/usr/bin/env bash
 # The documents: README has at most 8 KiB and ARCHITECTURE 15; each definition has a comment; the numbers of TESTING and the rows of PROVED
-# are those that docs/counts and docs/proved make; each crate, option and status has its row;
-# the program's hints are the advice of STATUS;
+# are those that docs/counts makes; each crate, option and status has its row; the program's hints are
+# the advice of STATUS;
 # each link leads to a file and a heading that are there; no sentence has more than 40 words; and none has a word of the list below.
 # A cell of a table, an item of a list and a heading end a sentence; what stands in code counts as one word.
 # documents.sh FILE..: the sentences of these files alone.
@@ -122,8 +122,12 @@ listed() {
     grep -q -e "^|.*$3" "$2" || complain "$2 has no row for $1"
 }
 
-# Each crate has a row of PROVED, each option one of MOVING, and each status that a crate below pgb_command has one of STATUS.
+# Each crate has a row of PROVED, each check one of TESTING, each option one of MOVING, and each status that a crate below pgb_command has one of STATUS.
 for crate in $(sed -n 's/^\([a-z_]*\):.*/\1/p' crates.txt); do listed "the crate $crate" docs/PROVED.md "\`$crate\`"; done
+for check in checks/*.sh; do
+    # (wrong bodies are tried crate by crate)
+    if [ "$check" != checks/edits.sh ]; then listed "$check" docs/TESTING.md "\`${check#checks/}\`"; fi
+done
 for option in $(sed -n 's/^row [A-Za-z0-9]* = [a-z_]* (codes "\([a-z0-9-]*\)").*/\1/p' crates/pgb_table/specs/Table.antt); do
     # (one of a tool that isn't built)
     if [ "$option" != number ]; then listed "the option $option" docs/MOVING.md "\`$option\`"; fi

@@ -49,8 +49,12 @@ sleep 2
 typed 80 'Archiving is stuck' 1
 has 'ERROR: \[080\]'
 chmod 700 $repo/archive
-typed 0 'Archiving is stuck' 2 's/sleep 60/sleep 5/'
-[ -z "$(find data/main/pg_wal/archive_status -name '*.ready')" ] || complain "archiving doesn't go on"
+typed 0 'Archiving is stuck' 2 's/sleep 60/sleep 1/'
+for try in $(seq 90); do
+    if [ -z "$(find data/main/pg_wal/archive_status -name '*.ready')" ]; then break; fi
+    sleep 1
+done
+[ "$try" -lt 90 ] || complain "archiving doesn't go on"
 
 # A backup whose log isn't archived in time leaves its files.
 typed 0 'Pause backups and pushes' 2 's/sleep 3600/sleep 10/'

@@ -42,6 +42,7 @@ impl Control {
         ensures { IfOk result (λ n. IfSome n (λ n. n ≤ length buf.old)) }
     {
         if at == 0 || self.bytes.is_none() {
+            self.bytes = None;
             self.bytes = read_settled(place)?;
         }
         match &self.bytes {

@@ -227,16 +227,21 @@ fn begin_file(
     is_swift: &mut Option<bool>,
     name: &str,
 ) -> io::Result<()> {
-    let writes = if name.starts_with("backup/") {
+    let writes = if is_of_backup(name) {
         writes_of_backup(place, settled, is_swift, name)?
     } else if name.split('/').nth(2) == Some("in") {
         // a segment that is fetched ahead isn't synced at all, and mostly goes before it is written
         Writes::Sometime
     } else {
-        // a file of the log is synced alone
+        // a file of the log is synced alone, and so is a list
         Writes::Early
     };
     handles.begin(place, name, writes)
+}
+
+// Whether it lies in the folder of a backup.
+fn is_of_backup(name: &str) -> bool {
+    name.starts_with("backup/") && name.split('/').nth(3).is_some()
 }
 
 // Files of a backup are many, and synced together where that can be believed: the file system then has one place for

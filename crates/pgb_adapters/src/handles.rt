@@ -106,6 +106,7 @@ impl Handles {
         let _ = self.finish_all();
         self.writing.clear();
         self.reading = None;
+        self.is_owing = false;
     }
 
     /// Whether files are synced before they are closed.

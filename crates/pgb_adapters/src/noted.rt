@@ -73,8 +73,8 @@ pub struct Noted {
     durable: Option<State>,
     // the node that was changed last of those that were seen
     latest: Option<State>,
-    // the folder below which no other process changes names, since this one holds its lock
-    own: Option<&'static str>,
+    // the folders below which no other process changes names, since this one holds their locks
+    own: Vec<&'static str>,
     // whether what was changed last lies in it
     is_own: bool,
     // whether this process has looked for what its first new name did to the times of its folder
@@ -91,23 +91,24 @@ impl Noted {
             changed: None,
             durable: None,
             latest: None,
-            own: None,
+            own: Vec::new(rt.alloc()),
             is_own: false,
             is_compared: false,
             blind: None,
         }
     }
 
-    /// From now on no other process changes names below this folder: that is what its lock is for.
+    /// From now on no other process changes names below this folder: that is what its lock is for. Without memory that
+    /// isn't known, and costs a few syncs.
     pub fn own(&mut self, folder: &'static str) {
-        self.own = Some(folder);
+        let _ = self.own.push(folder);
     }
 
     /// This process changes a name.
     pub fn change(&mut self, place: &Place, name: &str) -> io::Result<()> {
         self.young = None;
         self.durable = None;
-        self.is_own = self.own.is_some_and(|own| is_below(name, own));
+        self.is_own = self.own.iter().any(|own| is_below(name, own));
         let path = place.path_of(name)?;
         self.changed = Some(String::from_str(place.rt.alloc(), folder_of(&path))?);
         Ok(())

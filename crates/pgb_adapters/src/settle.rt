@@ -166,7 +166,8 @@ fn settle_root(place: &Place, settled: &mut Settled, told: &[State]) -> io::Resu
     if settled.has_root {
         return Ok(());
     }
-    let outer = String::from_str(place.rt.alloc(), folder_of(place.root()))?;
+    let root = place.root().trim_end_matches('/');
+    let outer = String::from_str(place.rt.alloc(), folder_of(root))?;
     if let Some(seen) = folder_at(place, &outer)? {
         let state = State::of(&seen);
         let is_mounted = seen.dev() != device_of_root(place)?;

@@ -2,7 +2,7 @@
 ghost use Rattle.std.specs.Prelude.{◌≡◌, ◌≤◌, None, IfOk, IfSome, length, map, string_bytes};
 ghost use Rattle.pgb_outside.specs.Tree.{known_path};
 
-use crate::handles::{Handles, Writes};
+use crate::handles::Handles;
 use crate::place::Place;
 use crate::progress::Progress;
 use crate::restoring::Restoring;
@@ -155,7 +155,7 @@ impl Tree for RealTree {
 
     fn begin(&mut self, path: &str) -> Result<(), Stop> {
         let writes = self.restoring.writes(&self.place);
-        let done = begin_file(&self.place, &mut self.handles, path, writes);
+        let done = self.handles.begin(&self.place, path, writes);
         self.faults
             .told(&self.place.call("creation of", path), done)
     }
@@ -232,16 +232,6 @@ fn read_known(
         Some(0) if room > 0 => Err(io::Error::from(ErrorKind::UnexpectedEof)),
         read => Ok(read),
     }
-}
-
-// What is there gives way, a link as well as a file: what else has that file under a name of its own isn't written.
-fn begin_file(place: &Place, handles: &mut Handles, path: &str, writes: Writes) -> io::Result<()> {
-    if let Some(told) = place.look_at(path)? {
-        if !told.is_dir() {
-            place.remove(path)?;
-        }
-    }
-    handles.begin(place, path, writes)
 }
 
 fn remove_node(place: &Place, path: &str) -> io::Result<()> {

@@ -18,7 +18,7 @@ mod telling;
 
 use asked::asked;
 use devices::{devices, put_line};
-use guards::{Refusal, is_fetch, is_in_recovery, refusal, stop_recovery};
+use guards::{Refusal, is_fetch, is_in_recovery, refusal_of, stop_recovery};
 use help::asked_for;
 use paths::absolute;
 use pgb_adapters::{RealDisk, RealFiles, RealInput, RealReplies, RealSource};
@@ -153,7 +153,7 @@ fn workers(rt: HostRuntime, program: &str, timeout: u64) -> io::Result<Vec<RealL
 fn status_of(rt: HostRuntime, words: &[String]) -> io::Result<u8> {
     let asked = asked(rt, words)?;
     let refused = match &asked.command {
-        Some(command) => refusal(&rt, command)?,
+        Some(command) => refusal_of(&rt, command)?,
         None => None,
     };
     let telling = Telling::begin(rt, asked, words)?;
