@@ -9,8 +9,8 @@ use Rattle.pgb_options.specs.Commands.{IsCommand}
 use Rattle.pgb_options.specs.Filled.{AreOptions}
 use Rattle.pgb_options.specs.Settings.{Source, Settled, value, argument}
 use Rattle.pgb_table.specs.declared.table.Verb.{Verb}
-use Rattle.pgb_command.specs.Asked.{Wanted, wanted_in, rules_in, request_by, requested}
-use Rattle.pgb_command.specs.Told.{wanted_told}
+use Rattle.pgb_command.specs.Asked.{Wanted, wanted_in, fetch_in, rules_in, request_by, requested}
+use Rattle.pgb_command.specs.Told.{wanted_told, fetch_told}
 
 rules_are : (o : Options) (s : Source) → AreOptions o (value s) (argument s) → rules_by o ≡ rules_in s
 rules_are o s is =
@@ -19,6 +19,14 @@ rules_are o s is =
     let diff = is.repo1_retention_diff in
     let archive = is.repo1_retention_archive in
     let kind = is.repo1_retention_archive_type in
+    cc
+
+fetch_is : (o : Options) (s : Source) → AreOptions o (value s) (argument s) → fetch_told o ≡ fetch_in s
+fetch_is o s is =
+    let config = is.config in
+    let denied = is.no_config in
+    let folder = is.given_pg1_path in
+    let repository = is.given_repo1_path in
     cc
 
 wanted_is : (o : Options) (s : Source) → AreOptions o (value s) (argument s) → wanted_told o ≡ wanted_in s
@@ -31,7 +39,7 @@ wanted_is o s is =
     let bundles = is.repo1_bundle in
     let expires = is.expire_auto in
     let recovery = is.restore_type in
-    let config = is.config in
+    let fetch = fetch_is o s is in
     let label = is.set in
     let workers = is.process_max in
     let fast = is.start_fast in
