@@ -75,7 +75,7 @@ looks 2 '1 files wait to be archived' -q 0
 before=$(ls srv/pgbackrest/repo/backup/main)
 cp conf conf.kept
 sed -i 's/^\[main\]$/archive-timeout=1\n\n[main]/' conf
-as_user pgbackrest --stanza=main backup >output && complain 'a backup without its log'
+as_user pgbackrest --stanza=main backup >output 2>errors && complain 'a backup without its log'
 looks 2 '1 unlisted backup folders, run expire'
 cron 2 42
 [ "$(ls srv/pgbackrest/repo/backup/main)" = "$before" ] || complain "the folders of failed backups stay: $(ls srv/pgbackrest/repo/backup/main)"

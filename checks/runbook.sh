@@ -40,15 +40,15 @@ typed 0 'Move from pgBackRest' 1
 start
 ask 'create table orders as select generate_series(1, 100) as n' >/dev/null
 program stanza-create || complain 'no stanza'
-program backup >/dev/null || complain 'no backup'
+program backup >output 2>errors || complain "no backup: $(cat output errors)"
 first=$(last_label)
 
-chmod 0 $repo/archive
+chmod 500 $repo/archive/main/*/0*
 ask 'create table other as select 1; select pg_switch_wal()' >/dev/null
 sleep 2
 typed 80 'Archiving is stuck' 1
 has 'ERROR: \[080\]'
-chmod 700 $repo/archive
+chmod 700 $repo/archive/main/*/0*
 typed 0 'Archiving is stuck' 2 's/sleep 60/sleep 1/'
 for try in $(seq 90); do
     if [ -z "$(find data/main/pg_wal/archive_status -name '*.ready')" ]; then break; fi
@@ -59,7 +59,7 @@ done
 # A backup whose log isn't archived in time leaves its files.
 typed 0 'Pause backups and pushes' 2 's/sleep 3600/sleep 10/'
 sleep 1
-program --archive-timeout=2 --type=full backup >output && complain 'a backup without its log'
+program --archive-timeout=2 --type=full backup >output 2>errors && complain 'a backup without its log'
 has 'ERROR: \[042\]'
 typed 0 "The repository's disk is full" 2
 [ "$(wc -l <output)" = 1 ] && [ -d "$(cat output)" ] || complain "the folders that aren't listed: $(cat output)"
@@ -70,14 +70,14 @@ typed 0 "The repository's disk is full" 1
 typed 0 "The repository's disk is full" 3 's/200M/2M/'
 typed 0 'Pause backups and pushes' 1 's/sleep 3600/sleep 5/'
 sleep 1
-program backup >output && complain 'a backup beside the lock'
+program backup >output 2>errors && complain 'a backup beside the lock'
 has 'ERROR: \[020\]'
 sleep 5
 
 as_user mkdir "$room/srv/more"
 typed 0 "The server's disk is full" 1
 rows 100 'pg_wal as a link'
-program backup >output || complain "a backup with pg_wal as a link: $(cat output)"
+program backup >output 2>errors || complain "a backup with pg_wal as a link: $(cat output)"
 
 # What isn't archived comes back from pg_wal.
 (as_user flock "$room/srv/pgbackrest/lock/main-archive.lock" sleep 12) &
@@ -95,7 +95,7 @@ for status in 0 1 80; do
     [ "$ended" = "$((status > 1 ? 126 : status))" ] || complain "the restore_command makes $ended of $status"
 done
 switch
-program --type=full backup >output || complain "a full backup: $(cat output)"
+program --type=full backup >output 2>errors || complain "a full backup: $(cat output)"
 second=$(last_label)
 
 as_user mkdir "$room/srv/restore"
@@ -180,7 +180,7 @@ if command -v rsync >/dev/null; then
     typed 0 'Copy the repository, and check the copy' 1
     # All info files are lost, and put back.
     rm $repo/archive/main/archive.info* $repo/backup/main/backup.info*
-    program stanza-create >output && complain 'a stanza over backups'
+    program stanza-create >output 2>errors && complain 'a stanza over backups'
     has 'ERROR: \[029\]'
     typed 0 'All info files are lost' 1
 fi
@@ -208,7 +208,7 @@ rows 200 'after an upgrade'
 as_user "$room/bin/pgbackrest" --stanza=main17 info | grep -q 'full backup: ' || complain 'no backup after the upgrade'
 
 typed 0 'Remove a stanza' 1
-program info >output && complain 'the removed stanza is there'
+program info >output 2>errors && complain 'the removed stanza is there'
 has 'ERROR: \[021\]'
 [ ! -e $repo/backup/main ] && [ -e $repo/backup/main17 ] || complain 'the wrong folders were removed'
 exit "$wrong"
