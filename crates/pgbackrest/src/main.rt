@@ -1,7 +1,7 @@
 //! The program: the system's files and output, handed to the commands.
 #![tactic(auto)]
 
-ghost use Rattle.std.specs.Prelude.{◌≡◌, ◌≤◌, [], length, IfOk};
+ghost use Rattle.std.specs.Prelude.{◌≤◌, length, IfOk};
 
 mod asked;
 mod devices;
