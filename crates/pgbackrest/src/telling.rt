@@ -151,7 +151,7 @@ pub struct Failed<'a> {
 }
 
 /// The object whose failure the status tells.
-pub fn failed(outside: &System, status: u8) -> Option<Failed<'_>> {
+pub fn failure_of(outside: &System, status: u8) -> Option<Failed<'_>> {
     let (object, reason) = match status {
         80 => ("repository", outside.repo.last_failure()),
         81 => ("spool", outside.spool.last_failure()),
