@@ -33,7 +33,8 @@ ended() {
 }
 
 # unsynced ROOT LAST EACH: of what was changed at and below the root that which isn't on the disk as LAST gets its name, and that which
-# isn't at the end. A sync of the whole file system counts unless EACH is y; then a file that is opened again to be synced is told, too.
+# isn't at the end. A sync of the whole file system counts unless EACH is y; then a file whose first sync is by another opening isn't
+# enough.
 unsynced() {
     ended | awk -v root="$1" -v last="$2" -v each="$3" '
         function outer(path) { sub(/\/[^\/]*$/, "", path); return path }
@@ -67,7 +68,7 @@ unsynced() {
             if (quoted[4] == last) change(outer(last))
         }
         name ~ /^(fsync|fdatasync)$/ {
-            if (each == "y" && opened[held] > 1) print "opened again: " held
+            if (each == "y" && (held in dirty) && opened[held] > 1) print "opened again: " held
             delete dirty[held]
         }
         name == "syncfs" && each != "y" { delete dirty }
@@ -116,20 +117,26 @@ synced 'a restore of a few files' "$room/new" "$room/new/global/pg_control" n
 [ ! -e strange/called ] || complain "another program than the system's was asked to sync"
 PATH=$system
 
-# Syncs that fail: no control file, and no backup that is listed.
+# fails STATUS FOLDER WORD..: where a sync of this folder fails the program ends so.
 fails() {
-    local status=0 wanted=$1
-    shift
-    strace -f -qq -o /dev/null -e trace=fsync,fdatasync,syncfs -e inject=fsync,fdatasync,syncfs:error=EIO "${ours[@]}" "$@" \
-        >output 2>errors || status=$?
-    [ "$status" = "$wanted" ] || complain "$* whose syncs fail ended with $status and not $wanted: $(cat output)"
+    local status=0 wanted=$1 folder=$2
+    shift 2
+    strace -f -qq -o /dev/null -P "$folder" -e trace=fsync,fdatasync,syncfs -e inject=fsync,fdatasync,syncfs:error=EIO \
+        "${ours[@]}" "$@" >output 2>errors || status=$?
+    [ "$status" = "$wanted" ] || complain "$* ended with $status and not $wanted, as $folder wasn't synced: $(cat output)"
 }
-listed=$("${ours[@]}" --repo1-path="$repo" info | grep -c 'full backup: ')
+backups() {
+    "${ours[@]}" --repo1-path="$repo" info | grep -c 'full backup: '
+}
+listed=$(backups)
+fails 80 "$repo/backup/demo" --repo1-path="$repo" "${backup[@]}"
+[ "$(backups)" = "$listed" ] || complain 'a backup whose folder is not synced is listed'
 mkdir failed
-fails 82 --repo1-path="$repo" --pg1-path="$room/failed" restore
-[ ! -e failed/global/pg_control ] || complain 'a restore that failed left a control file'
-fails 80 --repo1-path="$repo" "${backup[@]}"
-[ "$("${ours[@]}" --repo1-path="$repo" info | grep -c 'full backup: ')" = "$listed" ] || complain 'a backup that failed is listed'
+fails 82 "$room/failed" --repo1-path="$repo" --pg1-path="$room/failed" restore
+[ ! -e failed/global/pg_control ] || complain 'a control file is there, though the folder is not synced'
+rm -r failed
+mkdir failed
+fails 82 "$room/failed/global" --repo1-path="$repo" --pg1-path="$room/failed" restore
 
 # A repository's root that a stanza-create made before it was killed: the next one syncs the folder that holds it.
 create=(--repo1-path="$room/deep/below/repo" --pg1-path="$room/pg" --lock-path="$room/lock" --no-online stanza-create)
@@ -138,7 +145,8 @@ create=(--repo1-path="$room/deep/below/repo" --pg1-path="$room/pg" --lock-path="
 } >output 2>&1
 [ -d deep/below/repo ] || mkdir -p deep/below/repo
 traced "${create[@]}"
-ended | grep -q -e "^fsync([0-9]*<$room/deep/below>) = 0" -e '^syncfs(' || complain 'the folder that holds a new repository is never synced'
+ended >found
+grep -q -e "^fsync([0-9]*<$room/deep/below>) = 0" -e '^syncfs(' found || complain 'the folder that holds a new repository is never synced'
 
 # mounted FOLDER: a file system in memory there, whose sync says nothing of the files.
 mounted() {
@@ -165,8 +173,9 @@ if mounted other/backup; then
     synced 'a backup in another file system than the root' "$room/other/backup/demo/$label" "$room/other/backup/demo/backup.info" y
     mkdir other/backup/demo/x{01..12}
     traced --repo1-path="$room/other" info
+    ended >found
     for folder in demo demo/x{01..12}; do
-        ended | grep -q "^fsync([0-9]*<$room/other/backup/$folder>) = 0" || complain "$folder in another file system isn't synced"
+        grep -q "^fsync([0-9]*<$room/other/backup/$folder>) = 0" found || complain "$folder in another file system isn't synced"
     done
 fi
 exit "$wrong"

@@ -61,7 +61,6 @@ names "$room/file" --no-config "${data[@]}" --repo1-path="$room/file/repo" "${lo
 names "$room/none" --config="$room/none" "${all[@]}" stanza-create
 names "$room/empty" --config="$room/empty" "${repo[@]}" --no-online stanza-create
 names "$room'" --config="$room" "${all[@]}" archive-push "$(segment 16)"
-names 'os error' --config="$room" "${all[@]}" archive-push "$(segment 16)"
 
 # A warning is on standard error from its own level on.
 warning="WARN: $(basename "$(segment 16)") is already in the archive with the same checksum"
