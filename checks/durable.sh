@@ -1,6 +1,6 @@
 #!/usr/bin/env bash
 # What is on the disk when, seen by strace: all of a restore before the control file gets its name, and the name then; all of a backup
-# before it is listed; by which syncs, where a whole file system's can't be relied on; and that a sync that fails is no success.
+# before it is listed; by which syncs, where a whole file system's can't be relied on; and that a restore whose sync fails is none.
 . "$(dirname "$0")/common"
 calls=execve,open,openat,creat,mkdir,mkdirat,rename,renameat,renameat2,link,linkat,unlink,unlinkat,rmdir,ftruncate
 calls=$calls,write,writev,pwrite64,copy_file_range,fsync,fdatasync,syncfs,sync
@@ -117,26 +117,18 @@ synced 'a restore of a few files' "$room/new" "$room/new/global/pg_control" n
 [ ! -e strange/called ] || complain "another program than the system's was asked to sync"
 PATH=$system
 
-# fails STATUS FOLDER WORD..: where a sync of this folder fails the program ends so.
+# fails FOLDER: where a sync of this folder fails, a restore does.
 fails() {
-    local status=0 wanted=$1 folder=$2
-    shift 2
-    strace -f -qq -o /dev/null -P "$folder" -e trace=fsync,fdatasync,syncfs -e inject=fsync,fdatasync,syncfs:error=EIO \
-        "${ours[@]}" "$@" >output 2>errors || status=$?
-    [ "$status" = "$wanted" ] || complain "$* ended with $status and not $wanted, as $folder wasn't synced: $(cat output)"
+    local status=0
+    rm -rf failed
+    mkdir failed
+    strace -f -qq -o /dev/null -P "$1" -e trace=fsync,fdatasync,syncfs -e inject=fsync,fdatasync,syncfs:error=EIO \
+        "${ours[@]}" --repo1-path="$repo" --pg1-path="$room/failed" restore >output 2>errors || status=$?
+    [ "$status" = 82 ] || complain "a restore ended with $status and not 82, as $1 wasn't synced: $(cat output)"
 }
-backups() {
-    "${ours[@]}" --repo1-path="$repo" info | grep -c 'full backup: '
-}
-listed=$(backups)
-fails 80 "$repo/backup/demo" --repo1-path="$repo" "${backup[@]}"
-[ "$(backups)" = "$listed" ] || complain 'a backup whose folder is not synced is listed'
-mkdir failed
-fails 82 "$room/failed" --repo1-path="$repo" --pg1-path="$room/failed" restore
-[ ! -e failed/global/pg_control ] || complain 'a control file is there, though the folder is not synced'
-rm -r failed
-mkdir failed
-fails 82 "$room/failed/global" --repo1-path="$repo" --pg1-path="$room/failed" restore
+fails "$room/failed/global"
+fails "$room/failed"
+[ ! -e failed/global/pg_control ] || complain 'a control file is there, though its folder is not synced'
 
 # A repository's root that a stanza-create made before it was killed: the next one syncs the folder that holds it.
 create=(--repo1-path="$room/deep/below/repo" --pg1-path="$room/pg" --lock-path="$room/lock" --no-online stanza-create)

@@ -159,7 +159,7 @@ grep -q 'connection authorized: .*application_name=pgbackrest' pg/log || complai
 
 # A socket that isn't that of the data folder's user.
 if [ "$(id -u)" = 0 ]; then
-    chown 0 socket/.s.PGSQL.5432
+    chown 1 socket/.s.PGSQL.5432
     status=0
     run_here --online --pg1-socket-path="$room/socket" stanza-create || status=$?
     [ "$status" = 83 ] || complain "a socket of another user: $status: $(cat output)"
