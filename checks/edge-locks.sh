@@ -12,9 +12,9 @@ offline=("${data[@]}" --no-online --type=full)
 running=
 trap '[ -z "$running" ] || kill -KILL "$running" 2>/dev/null || true; rm -rf "$room"' EXIT
 
-# It ends at the latest after a minute, with 124.
+# It ends at the latest after two minutes, with 124.
 program() {
-    timeout 60 "${ours[@]}" "$@"
+    timeout 120 "${ours[@]}" "$@"
 }
 
 # begin WORD..: the program in the background.
@@ -34,11 +34,11 @@ stop_where() {
     kill -STOP "$running"
 }
 
-# ends STATUS WHAT: it goes on, and ends so within half a minute.
+# ends STATUS WHAT: it goes on, and ends so within two minutes.
 ends() {
     local status=0
     kill -CONT "$running" 2>/dev/null || true
-    for _ in $(seq 300); do
+    for _ in $(seq 1200); do
         if ! kill -0 "$running" 2>/dev/null; then break; fi
         sleep 0.1
     done

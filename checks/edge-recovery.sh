@@ -82,7 +82,7 @@ stops 'a repository that is not mounted'
 rmdir repo 2>/dev/null || rm -r repo
 mv away repo
 cp -p "$stored" whole
-printf 'x' | dd of="$stored" bs=1 seek=9000 conv=notrunc status=none
+printf 'other bytes' | dd of="$stored" bs=1 seek=9000 conv=notrunc status=none
 stops 'a damaged segment'
 cp -p whole "$stored"
 
@@ -156,6 +156,15 @@ ask "alter role postgres set statement_timeout = '1ms'; alter role postgres set 
 back_up 'a backup of a server with timeouts'
 PGOPTIONS='-c statement_timeout=0 -c idle_session_timeout=0' ask 'alter role postgres reset all'
 grep -q 'connection authorized: .*application_name=pgbackrest' pg/log || complain 'the session of a backup has no name'
+
+# A socket that isn't that of the data folder's user.
+if [ "$(id -u)" = 0 ]; then
+    chown 1 socket/.s.PGSQL.5432
+    status=0
+    run_here --online --pg1-socket-path="$room/socket" stanza-create || status=$?
+    [ "$status" = 83 ] || complain "a socket of another user: $status: $(cat output)"
+    chown --reference=pg socket/.s.PGSQL.5432
+fi
 
 # What it waits for.
 back_up 'a backup that says what it does' --log-level-stderr=info
