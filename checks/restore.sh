@@ -93,7 +93,7 @@ chmod 755 shown/pgbackrest
 fetches() {
     local line folder=$1
     shift
-    line=$("$tools/postgres" -D "$folder" -C restore_command)
+    line=$("$tools/postgres" -C restore_command -D "$folder")
     printf '%s\n' "$@" --stanza=demo archive-get %f %p >wanted
     PATH=$room/shown:$PATH sh -c "${line//%%/%}" >found
     cmp -s wanted found || complain "the server runs pgbackrest with: $(cat found)"
