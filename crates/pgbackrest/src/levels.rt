@@ -53,7 +53,7 @@ pub struct Line {
     pub explains: bool,
 }
 
-/// The lines of an output. Behind an error the reasons follow, and what to do. Without an error's line the reasons stand
+/// The lines of an output. After an error come the reasons, and what to do. Without an error's line the reasons stand
 /// alone.
 pub fn lines_of(
     alloc: Global,

@@ -1,5 +1,5 @@
-// What a person sees of a command beside its answer: on standard error, where `log-level-stderr` asks for it, and in the
-// log file. It never changes what a command does.
+// What a person sees of a command beside its answer: on standard error, where `log-level-stderr` asks for it, and in
+// the log file. It never changes what a command does.
 use crate::asked::Asked;
 use crate::guards::is_for_server;
 use crate::levels::{Level, lines_of};
