@@ -2,8 +2,6 @@
 # What a person sees beside standard output: the line of a refusal and the advice of docs/STATUS.md on standard error, the paths that
 # were looked at, the lines with their times in a file, and the help wherever its word stands.
 . "$(dirname "$0")/common"
-# The runner owns all of it.
-chown -R "$(id -u):$(id -g)" pg
 data=(--pg1-path="$room/pg")
 repo=(--repo1-path="$room/repo")
 lock=(--lock-path="$room/lock")
@@ -61,6 +59,7 @@ names "$room/file" --no-config "${data[@]}" --repo1-path="$room/file/repo" "${lo
 names "$room/none" --config="$room/none" "${all[@]}" stanza-create
 names "$room/empty" --config="$room/empty" "${repo[@]}" --no-online stanza-create
 names "$room'" --config="$room" "${all[@]}" archive-push "$(segment 16)"
+names 'not a plain file' --config="$room" "${all[@]}" archive-push "$(segment 16)"
 
 # A warning is on standard error from its own level on.
 warning="WARN: $(basename "$(segment 16)") is already in the archive with the same checksum"

@@ -8,19 +8,26 @@
 //! - Nothing is proved about content, nor about the note of settled folders.
 #![tactic(auto)]
 
+mod calling;
 mod clock;
+mod control;
 mod disk;
 mod files;
+mod guarding;
 mod handles;
 mod input;
 mod locks;
+mod mounts;
 mod noted;
+mod phase;
 mod place;
 mod progress;
 mod replies;
+mod restoring;
 mod settle;
 mod sink;
 mod source;
+mod syncing;
 mod tree;
 mod walk;
 mod wire;

@@ -4,18 +4,21 @@ ghost use Rattle.pgb_outside.specs.Cause.{Rises};
 ghost use Rattle.pgb_outside.specs.Locking.{with_lock, without};
 ghost use Rattle.pgb_outside.specs.declared.locks.Take.TheVariants.{Held};
 
-use crate::place::{FILE_MODE, make_folders, no_memory};
+use crate::guarding::{Hold, hold_file, hold_folder};
+use crate::place::no_memory;
 use pgb_outside::{Locks, Stop, Take};
 use pgb_system::{Call, Faults};
-use std::fs::{File, OpenOptions, TryLockError};
+use std::alloc::AllocError;
+use std::fs::File;
 use std::io;
-use std::os::unix::fs::OpenOptionsExt;
 
-/// A lock that was taken. It ends as its file is closed, at the latest with the process, and no child inherits it.
+/// A lock that was taken. It ends as its files are closed, at the latest with the process, and no child inherits it.
 #[derive(Drop)]
 struct Lock {
     name: String,
     file: File,
+    // what it guards in the repository
+    folder: Option<File>,
 }
 
 /// Locks by the files of their names. A file is never removed: who opened it before would hold another lock than who
@@ -23,6 +26,7 @@ struct Lock {
 #[derive(Drop)]
 pub struct RealLocks {
     rt: HostRuntime,
+    guarded: Option<String>,
     // the last one first
     taken: Vec<Lock>,
     refusals: u64,
@@ -37,9 +41,19 @@ impl RealLocks {
         RealLocks {
             taken: Vec::new(rt.alloc()),
             rt,
+            guarded: None,
             refusals: 0,
             faults: Faults::new(),
         }
+    }
+
+    /// From now on a stanza's lock is also one of its folder in this repository. So two programs exclude each other that
+    /// have other places for their locks, as another folder for temporary files.
+    pub fn guard(&mut self, repo_root: &str) -> Result<(), AllocError>
+        ensures { ⟦<RealLocks as Locks>⟧.state self.new ≡ ⟦<RealLocks as Locks>⟧.state self.old }
+    {
+        self.guarded = Some(String::from_str(self.rt.alloc(), repo_root)?);
+        Ok(())
     }
 
     /// How often a lock was held by others.
@@ -61,6 +75,20 @@ impl RealLocks {
         self.faults.count
     }
 
+    // The files of a lock: None where others hold one of them.
+    fn hold(&self, folder: &str, name: &str) -> io::Result<Option<(File, Option<File>)>> {
+        let Some(file) = hold_file(&self.rt, folder, name)? else {
+            return Ok(None);
+        };
+        let Some(root) = &self.guarded else {
+            return Ok(Some((file, None)));
+        };
+        match hold_folder(&self.rt, root, name)? {
+            Hold::Others => Ok(None),
+            Hold::Ours(folder) => Ok(Some((file, folder))),
+        }
+    }
+
     fn take_file(&mut self, folder: &str, name: &str) -> io::Result<Take>
         ensures taken { IfOk result
             (λ t. map (λ x. string_bytes x.name) self.new.taken.items ≡ with_lock t name.now
@@ -70,20 +98,18 @@ impl RealLocks {
         ensures later { self.old.refusals ≤ self.new.refusals }
         ensures faults { self.new.faults ≡ self.old.faults }
     {
-        let file = open_lock(&self.rt, folder, name)?;
-        match file.try_lock() {
-            Ok(()) => {
+        match self.hold(folder, name)? {
+            Some((file, folder)) => {
                 let name = String::from_str(self.rt.alloc(), name)?;
-                let lock = Lock { name, file };
+                let lock = Lock { name, file, folder };
                 self.taken.insert(0, lock).map_err(no_memory)?;
                 Ok(Take::Taken)
             }
-            Err(TryLockError::WouldBlock) => {
+            None => {
                 let refusals = self.refusals;
                 self.refusals = refusals.saturating_add(1);
                 Ok(Take::Held)
             }
-            Err(TryLockError::Error(e)) => Err(e),
         }
     }
 }
@@ -116,13 +142,4 @@ fn call_in<'a>(rt: &HostRuntime, folder: &'a str, name: &'a str) -> Call<'a> {
         name,
         to: None,
     }
-}
-
-// The file stays as it is where it is there.
-fn open_lock(rt: &HostRuntime, folder: &str, name: &str) -> io::Result<File> {
-    make_folders(rt, folder)?;
-    let path = format!(in rt.alloc(); "{folder}/{name}")?;
-    let mut how = OpenOptions::new();
-    how.write(true).create(true).mode(FILE_MODE);
-    how.open(rt, path.as_str())
 }

@@ -6,12 +6,15 @@ ghost use Rattle.pgb_outside.specs.States.{last_opened, Opens};
 use pgb_system::Call;
 use std::fs::{DirBuilder, File, Metadata, OpenOptions};
 use std::io::ErrorKind;
-use std::os::unix::fs::{DirBuilderExt, OpenOptionsExt};
+use std::os::unix::fs::{DirBuilderExt, MetadataExt, OpenOptionsExt};
 use std::{fs, io};
 
 pub const FILE_MODE: u32 = 0o600;
 
 const FOLDER_MODE: u32 = 0o700;
+
+/// So often a name is looked at again that came to mean another file meanwhile.
+pub const TRIES: usize = 8;
 
 /// The folders that were opened, the last one first; it is the root. A name's elements have `/` between them.
 #[derive(Drop)]
@@ -100,39 +103,54 @@ impl Place {
         Ok(format!(in self.rt.alloc(); "{root}/{name}")?)
     }
 
-    /// Makes the name an empty file; the folder that holds it is there.
+    /// Makes the name a new empty file; the folder that holds it is there. What stood there goes, so no link is
+    /// followed, and who still writes to the file of before doesn't write to this one.
     pub fn create(&self, name: &str) -> io::Result<File> {
-        let path = self.path_of(name)?;
-        let mut how = OpenOptions::new();
-        how.write(true).create(true).truncate(true).mode(FILE_MODE);
-        how.open(&self.rt, path.as_str())
+        if let Some(file) = self.create_new(name)? {
+            return Ok(file);
+        }
+        self.remove(name)?;
+        match self.create_new(name)? {
+            Some(file) => Ok(file),
+            None => Err(io::Error::from(ErrorKind::AlreadyExists)),
+        }
     }
 
     /// Makes the name an empty file where nothing stands at it, and else answers None; the folder that holds it is
     /// there.
     pub fn create_new(&self, name: &str) -> io::Result<Option<File>> {
         let path = self.path_of(name)?;
-        let mut how = OpenOptions::new();
-        how.write(true).create_new(true).mode(FILE_MODE);
-        match how.open(&self.rt, path.as_str()) {
-            Ok(file) => Ok(Some(file)),
-            Err(e) if e.kind() == ErrorKind::AlreadyExists => Ok(None),
-            Err(e) => Err(e),
-        }
+        make_file(&self.rt, &path)
     }
 
     /// Opens a file that is there to write at its end.
     pub fn open_end(&self, name: &str) -> io::Result<File> {
-        self.demand_file(name)?;
-        let path = self.path_of(name)?;
         let mut how = OpenOptions::new();
-        how.append(true).open(&self.rt, path.as_str())
+        how.append(true);
+        match self.open_file(&how, name)? {
+            Some(file) => Ok(file),
+            None => Err(io::Error::from(ErrorKind::NotFound)),
+        }
     }
 
-    /// Opens a name to read it: None where it is absent.
+    /// Opens a file to read it: None where the name is absent.
     pub fn open_start(&self, name: &str) -> io::Result<Option<File>> {
+        let mut how = OpenOptions::new();
+        how.read(true);
+        self.open_file(&how, name)
+    }
+
+    // None where the name is absent. Whoever replaces it meanwhile is waited for a few times.
+    fn open_file(&self, how: &OpenOptions, name: &str) -> io::Result<Option<File>> {
         let path = self.path_of(name)?;
-        unless_absent(File::open(&self.rt, path.as_str()))
+        for _ in 0..TRIES {
+            match open_plain(&self.rt, how, &path)? {
+                Opened::File(file) => return Ok(Some(file)),
+                Opened::Absent => return Ok(None),
+                Opened::Other => {}
+            }
+        }
+        Err(io::Error::from(ErrorKind::ResourceBusy))
     }
 
     /// What stands at the name itself, where that is a link: None where nothing does.
@@ -217,13 +235,63 @@ pub fn make_folders(rt: &HostRuntime, path: &str) -> io::Result<()> {
     how.mode(FOLDER_MODE).recursive(true).create(rt, path)
 }
 
-/// Makes the names in a folder durable, and answers the folder: None where it is absent.
+/// Makes the names in a folder durable, and answers the folder: None where it is absent. Some file systems can't; that is
+/// a fault, whose text names the folder.
 pub fn sync_folder(rt: &HostRuntime, path: &str) -> io::Result<Option<File>> {
     let Some(folder) = unless_absent(File::open(rt, path))? else {
         return Ok(None);
     };
-    folder.sync_all()?;
-    Ok(Some(folder))
+    match folder.sync_all() {
+        Ok(()) => Ok(Some(folder)),
+        Err(e) => {
+            let text = format!(in rt.alloc(); "{e}, of folder '{path}'")?;
+            Err(io::Error::new(e.kind(), &text))
+        }
+    }
+}
+
+/// Makes an empty file where nothing stands at the path, and else answers None.
+pub fn make_file(rt: &HostRuntime, path: &str) -> io::Result<Option<File>> {
+    let mut how = OpenOptions::new();
+    how.write(true).create_new(true).mode(FILE_MODE);
+    match how.open(rt, path) {
+        Ok(file) => Ok(Some(file)),
+        Err(e) if e.kind() == ErrorKind::AlreadyExists => Ok(None),
+        Err(e) => Err(e),
+    }
+}
+
+/// What comes of opening a file.
+#[derive(Drop)]
+pub enum Opened {
+    File(File),
+    Absent,
+    /// Another file came to stand at the path meanwhile.
+    Other,
+}
+
+/// Opens the file of a path. What is no file isn't opened: a pipe would wait for who is at its other end, and a link may
+/// lead anywhere. The system can't be asked for that at the opening itself, so it is looked at before and behind it.
+pub fn open_plain(rt: &HostRuntime, how: &OpenOptions, path: &str) -> io::Result<Opened> {
+    let Some(seen) = unless_absent(fs::symlink_metadata(rt, path))? else {
+        return Ok(Opened::Absent);
+    };
+    if !seen.is_file() {
+        return Err(io::Error::new(ErrorKind::InvalidInput, "it is no plain file"));
+    }
+    let Some(file) = unless_absent(how.open(rt, path))? else {
+        return Ok(Opened::Other);
+    };
+    if is_same(&seen, &file.metadata()?) {
+        Ok(Opened::File(file))
+    } else {
+        Ok(Opened::Other)
+    }
+}
+
+/// Whether both are of one node.
+pub fn is_same(a: &Metadata, b: &Metadata) -> bool {
+    a.dev() == b.dev() && a.ino() == b.ino()
 }
 
 /// None where a name is absent; a path through a file leads to no name.
@@ -249,7 +317,8 @@ pub fn no_memory<T: Drop>(_: T) -> io::Error
     io::Error::from(ErrorKind::OutOfMemory)
 }
 
-fn is_folder(rt: &HostRuntime, path: &str) -> bool {
+/// Whether a path leads to a folder.
+pub fn is_folder(rt: &HostRuntime, path: &str) -> bool {
     match fs::metadata(rt, path) {
         Ok(seen) => seen.is_dir(),
         Err(_) => false,

@@ -1,12 +1,16 @@
 // The connection to the server, on a Unix socket.
 ghost use Rattle.std.specs.Prelude.{◌≡◌, ◌≤◌, None, IfOk, OnOk, length, string_bytes};
 
+use crate::calling::{call_socket, timed};
+use crate::phase::Phase;
 use crate::place::call_of;
 use pgb_outside::{Stop, Wire};
 use pgb_system::{Faults, read_some};
-use std::io;
 use std::io::{ErrorKind, Write};
+use std::os::unix::fs::MetadataExt;
 use std::os::unix::net::UnixStream;
+use std::time::Duration;
+use std::{fs, io};
 
 /// A connection to a socket of the system's files, closed as the next one is opened. It tells nothing of what is said.
 #[derive(Drop)]
@@ -14,6 +18,10 @@ pub struct RealWire {
     rt: HostRuntime,
     place: String,
     stream: Option<UnixStream>,
+    // of each wait
+    longest: Option<Duration>,
+    owner: Option<u32>,
+    phase: Phase,
     faults: Faults,
 }
 
@@ -25,8 +33,31 @@ impl RealWire {
             place: String::new(rt.alloc()),
             rt,
             stream: None,
+            longest: None,
+            owner: None,
+            phase: Phase::new(),
             faults: Faults::new(),
         }
+    }
+
+    /// From now on connecting, each writing and each reading waits for at most so long. 0 is for ever.
+    pub fn set_timeout(&mut self, seconds: u64) {
+        self.longest = if seconds == 0 {
+            None
+        } else {
+            Some(Duration::from_secs(seconds))
+        };
+    }
+
+    /// From now on a socket is opened only where it belongs to this user, or to root. Who is at its other end can't be
+    /// asked.
+    pub fn expect_owner(&mut self, user: u32) {
+        self.owner = Some(user);
+    }
+
+    /// From now on a person sees on standard error what a backup waits for.
+    pub fn show_waiting(&mut self) {
+        self.phase.show();
     }
 
     /// What failed last, for a person to read.
@@ -47,8 +78,21 @@ impl RealWire {
     {
         self.stream = None;
         self.place = String::from_str(self.rt.alloc(), path)?;
-        self.stream = Some(UnixStream::connect(&self.rt, path)?);
+        self.demand_owner(path)?;
+        self.stream = Some(call_socket(&self.rt, path, self.longest)?);
         Ok(())
+    }
+
+    fn demand_owner(&self, path: &str) -> io::Result<()> {
+        let Some(owner) = self.owner else {
+            return Ok(());
+        };
+        let found = fs::metadata(&self.rt, path)?.uid();
+        if found == owner || found == 0 {
+            return Ok(());
+        }
+        let text = "the socket belongs to another user than the data folder";
+        Err(io::Error::new(ErrorKind::PermissionDenied, text))
     }
 }
 
@@ -67,8 +111,9 @@ impl Wire for RealWire {
     }
 
     fn send(&mut self, bytes: &[u8]) -> Result<(), Stop> {
+        self.phase.send(&self.rt, bytes);
         let done = match &mut self.stream {
-            Some(stream) => stream.write_all(bytes),
+            Some(stream) => timed(stream.write_all(bytes)),
             None => Err(io::Error::from(ErrorKind::NotConnected)),
         };
         self.faults
@@ -77,9 +122,12 @@ impl Wire for RealWire {
 
     fn receive(&mut self, buf: &mut [u8]) -> Result<usize, Stop> {
         let done = match &mut self.stream {
-            Some(stream) => read_some(stream, buf),
+            Some(stream) => timed(read_some(stream, buf)),
             None => Err(io::Error::from(ErrorKind::NotConnected)),
         };
+        if let Ok(count) = &done {
+            self.phase.receive(&self.rt, &buf[..*count]);
+        }
         self.faults
             .told(&call_of(&self.rt, "reading of", &self.place), done)
     }

@@ -28,7 +28,7 @@ unfolding value row
 database_short s = short (in_force s Pg1Database)
 
 -- both fit into one message
-pub names_fit : (s : Source) (user database : Text) → user ≡ path_in s Pg1User → database ≡ path_in s Pg1Database → length user + length database + 26 < 2 ^ 32
+pub names_fit : (s : Source) (user database : Text) → user ≡ path_in s Pg1User → database ≡ path_in s Pg1Database → length user + length database + 97 < 2 ^ 32
 names_fit s user database is also = omega (arith, ap length is, ap length also, user_short s, database_short s)
 
 -- ---- folders

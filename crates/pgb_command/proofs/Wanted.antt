@@ -7,12 +7,12 @@ use Rattle.pgb_prune.specs.Rules.{rules_by}
 use Rattle.pgb_options.specs.declared.settle.Command.{Command}
 use Rattle.pgb_options.specs.Commands.{IsCommand}
 use Rattle.pgb_options.specs.Filled.{AreOptions}
-use Rattle.pgb_options.specs.Settings.{Source, Settled, value}
+use Rattle.pgb_options.specs.Settings.{Source, Settled, value, argument}
 use Rattle.pgb_table.specs.declared.table.Verb.{Verb}
-use Rattle.pgb_command.specs.Asked.{Wanted, wanted_in, rules_in, request_by, requested}
-use Rattle.pgb_command.specs.Told.{wanted_told}
+use Rattle.pgb_command.specs.Asked.{Wanted, wanted_in, fetch_in, rules_in, request_by, requested}
+use Rattle.pgb_command.specs.Told.{wanted_told, fetch_told}
 
-rules_are : (o : Options) (s : Source) → AreOptions o (value s) → rules_by o ≡ rules_in s
+rules_are : (o : Options) (s : Source) → AreOptions o (value s) (argument s) → rules_by o ≡ rules_in s
 rules_are o s is =
     let full = is.repo1_retention_full in
     let counts = is.repo1_retention_full_type in
@@ -21,7 +21,15 @@ rules_are o s is =
     let kind = is.repo1_retention_archive_type in
     cc
 
-wanted_is : (o : Options) (s : Source) → AreOptions o (value s) → wanted_told o ≡ wanted_in s
+fetch_is : (o : Options) (s : Source) → AreOptions o (value s) (argument s) → fetch_told o ≡ fetch_in s
+fetch_is o s is =
+    let config = is.config in
+    let denied = is.no_config in
+    let folder = is.given_pg1_path in
+    let repository = is.given_repo1_path in
+    cc
+
+wanted_is : (o : Options) (s : Source) → AreOptions o (value s) (argument s) → wanted_told o ≡ wanted_in s
 wanted_is o s is =
     let background = is.archive_async in
     let form = is.output in
@@ -31,7 +39,7 @@ wanted_is o s is =
     let bundles = is.repo1_bundle in
     let expires = is.expire_auto in
     let recovery = is.restore_type in
-    let config = is.config in
+    let fetch = fetch_is o s is in
     let label = is.set in
     let workers = is.process_max in
     let fast = is.start_fast in

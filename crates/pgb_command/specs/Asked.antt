@@ -1,5 +1,5 @@
 -- What a command is told by its words and its configuration (pgBackRest command reference and configuration reference).
-use Rattle.std.specs.Prelude.{◌≡◌, ◌≤◌, ℕ, ◌^◌, ◌++◌, codes, decimal, Bool, false, List, [], ◌∷◌, length, Option, Some, None, Result, Ok, Err, IfSome, IsSome, if◌then◌else◌}
+use Rattle.std.specs.Prelude.{◌≡◌, ◌≤◌, ℕ, ◌^◌, ◌++◌, codes, decimal, Bool, true, false, List, [], ◌∷◌, length, Option, Some, None, Result, Ok, Err, IfSome, IsSome, if◌then◌else◌}
 use Rattle.pgb_outside.specs.Content.{Content}
 use Rattle.pgb_model.specs.declared.labels.Kind.{Kind}
 use Rattle.pgb_model.specs.Text.{Text}
@@ -12,12 +12,13 @@ use Rattle.pgb_table.specs.declared.table.Opt.TheVariants.{Pg1Path, Pg1SocketPat
 use Rattle.pgb_table.specs.declared.table.Verb.{Verb}
 use Rattle.pgb_table.specs.declared.table.Verb.TheVariants.{StanzaCreate, ArchivePush, ArchivePushAsync, ArchiveGet, ArchiveGetAsync, Backup, Restore, Info, Verify, Expire, Rehearse}
 use Rattle.pgb_options.specs.Faults.{Fault}
-use Rattle.pgb_options.specs.Filled.{text_in, number_in, amount_in, flag_in, or_else, kind_word, retention_word, restore_word, output_word, word_in}
+use Rattle.pgb_options.specs.Filled.{text_in, number_in, amount_in, flag_in, or_else, is_denied, kind_word, retention_word, restore_word, output_word, word_in}
 use Rattle.pgb_options.specs.Paths.{Path, nowhere, usual, named, path_of_words}
-use Rattle.pgb_options.specs.Settings.{Source, Settled, value, settled_words}
+use Rattle.pgb_options.specs.Settings.{Source, Settled, value, argument, settled_words}
 use Rattle.pgb_create.specs.Server.{Server}
 use Rattle.pgb_prune.specs.Rules.{full_rule, kind_by}
-use Rattle.pgb_recover.specs.Fetching.{RecoveryType}
+use Rattle.pgb_recover.specs.Fetching.{RecoveryType, FetchArguments, Configuration}
+use Rattle.pgb_recover.specs.Fetching.Configuration.{Usual, Nowhere, Named}
 use Rattle.pgb_recover.specs.Fetching.RecoveryType.{Default as ToTheEnd, Without}
 use Rattle.pgb_retain.specs.declared.rules.Rules.{Rules}
 use Rattle.pgb_stage.specs.declared.fault.Unbuilt.{Unbuilt}
@@ -123,7 +124,7 @@ pub record Wanted : Type 0 where
   pub bundles : Bool
   pub expires : Bool
   pub recovery : RestoreWord
-  pub config : Option Text
+  pub fetch : FetchArguments
   pub set : Option Text
   pub workers : ℕ
   pub fast : Bool
@@ -158,14 +159,14 @@ taken_by m = if m.online then backup_running (record { taken = how_by m; fast = 
 abbrev pub backup_by : Wanted → Result Request Unbuilt
 backup_by m = if m.bundles then Err Bundles else Ok (taken_by m)
 
--- a recovery fetches the log by the configuration that the words name, if they name one
-abbrev pub recovery_for : RestoreWord → Option Text → RecoveryType
-recovery_for Default config = ToTheEnd config
-recovery_for Plain config = Without
+-- a recovery fetches the log by these arguments
+abbrev pub recovery_for : RestoreWord → FetchArguments → RecoveryType
+recovery_for Default fetch = ToTheEnd fetch
+recovery_for Plain fetch = Without
 
 abbrev pub restore_by : Wanted → Request
 restore_by m = restore m.set (record
-    { workers = m.workers; delta = m.delta; recovery = recovery_for m.recovery m.config })
+    { workers = m.workers; delta = m.delta; recovery = recovery_for m.recovery m.fetch })
 
 -- what a verb asks for, in this manner and with its parameters; or what isn't built
 abbrev pub request_by : Verb → Wanted → List Text → Result Request Unbuilt
@@ -196,6 +197,20 @@ rules_in s = record {
   archive_kind = kind_by (kind_word (word_in (value s Repo1RetentionArchiveType)));
 }
 
+-- none by `--no-config`, or the one that the arguments name
+abbrev pub configuration_by : Bool → Option Text → Configuration
+configuration_by true path = Nowhere
+configuration_by false None = Usual
+configuration_by false (Some path) = Named path
+
+-- the arguments by which a restored server fetches the log
+abbrev pub fetch_in : Source → FetchArguments
+fetch_in s = record {
+  config = configuration_by (is_denied (argument s Config)) (text_in (value s Config));
+  pg1_path = argument s Pg1Path;
+  repo1_path = argument s Repo1Path;
+}
+
 abbrev pub wanted_in : Source → Wanted
 wanted_in s = record {
   background = is_on s ArchiveAsync;
@@ -206,7 +221,7 @@ wanted_in s = record {
   bundles = is_on s Repo1Bundle;
   expires = is_on s ExpireAuto;
   recovery = restore_word (word_in (value s RestoreType));
-  config = text_in (value s Config);
+  fetch = fetch_in s;
   set = text_in (value s Set);
   workers = or_else 0 (number_in (value s ProcessMax));
   fast = is_on s StartFast;

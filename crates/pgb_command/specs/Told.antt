@@ -10,7 +10,7 @@ use Rattle.pgb_create.specs.Server.{server_view}
 use Rattle.pgb_prune.specs.Rules.{rules_by}
 use Rattle.pgb_take_later.specs.declared.order.LaterOrder.{LaterOrder}
 use Rattle.pgb_recover.specs.declared.order.RecoverOrder.{RecoverOrder}
-use Rattle.pgb_recover.specs.Fetching.{recovery_type}
+use Rattle.pgb_recover.specs.Fetching.{FetchArguments, recovery_type}
 use Rattle.pgb_recover.specs.Words.{TellsSet}
 use Rattle.pgb_command.specs.declared.settings.Settings.{Settings}
 use Rattle.pgb_command.specs.declared.settings.Request as code
@@ -22,7 +22,7 @@ use Rattle.pgb_command.specs.declared.order.ThroughOrder.{ThroughOrder}
 use Rattle.pgb_command.specs.declared.order.Course.{Course}
 use Rattle.pgb_command.specs.declared.order.Course.TheVariants.{Staged, Left}
 use Rattle.pgb_command.specs.declared.order.Order.TheVariants as order
-use Rattle.pgb_command.specs.Asked.{Request, create, push, leave, drain, get, get_through, fetch_ahead, backup, backup_running, restore, report, examine, expire, rehearse, BackupHow, RunningHow, RestoreHow, LeaveHow, FetchHow, Asked, Wanted}
+use Rattle.pgb_command.specs.Asked.{Request, create, push, leave, drain, get, get_through, fetch_ahead, backup, backup_running, restore, report, examine, expire, rehearse, BackupHow, RunningHow, RestoreHow, LeaveHow, FetchHow, Asked, Wanted, configuration_by}
 
 -- the workers can be numbered, and none has bytes of an earlier answer to give
 pub record AreWorkers (links : List LinkState) : Type 0 where
@@ -53,6 +53,14 @@ request_of Verify = examine
 request_of (Expire rules) = expire rules
 request_of (Rehearse workers number) = rehearse (record { workers = workers; number = number })
 
+-- the arguments by which a restored server fetches the log
+abbrev pub fetch_told : Options → FetchArguments
+fetch_told o = record {
+  config = configuration_by o.no_config (option_map string_bytes o.config);
+  pg1_path = option_map string_bytes o.given_pg1_path;
+  repo1_path = option_map string_bytes o.given_repo1_path;
+}
+
 -- how a command goes on by its options
 abbrev pub wanted_told : Options → Wanted
 wanted_told o = record {
@@ -64,7 +72,7 @@ wanted_told o = record {
   bundles = o.repo1_bundle;
   expires = o.expire_auto;
   recovery = o.restore_type;
-  config = option_map string_bytes o.config;
+  fetch = fetch_told o;
   set = option_map string_bytes o.set;
   workers = o.process_max;
   fast = o.start_fast;

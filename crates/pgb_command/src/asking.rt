@@ -4,16 +4,16 @@ ghost use Rattle.pgb_options.specs.Commands.{IsCommand};
 ghost use Rattle.pgb_options.specs.Filled.{or_else};
 ghost use Rattle.pgb_table.specs.Values.{is_stanza};
 ghost use Rattle.pgb_options.specs.Settings.{Settled};
-ghost use Rattle.pgb_command.specs.Asked.{request_by, backup_by, push_by, get_by, fetch_ahead, fetching_by, expires_by, restore_by, recovery_for, first_of, second_of, requested, IsAsked};
-ghost use Rattle.pgb_recover.specs.Fetching.{recovery_type};
+ghost use Rattle.pgb_command.specs.Asked.{request_by, backup_by, push_by, get_by, fetch_ahead, fetching_by, expires_by, restore_by, recovery_for, configuration_by, first_of, second_of, requested, IsAsked};
+ghost use Rattle.pgb_recover.specs.Fetching.{recovery_type, configuration_of, arguments_of};
 ghost use Rattle.pgb_command.specs.Uses.{plan_of, spool_of};
-ghost use Rattle.pgb_command.specs.Told.{request_of, asked_of, wanted_told};
+ghost use Rattle.pgb_command.specs.Told.{request_of, asked_of, fetch_told, wanted_told};
 
 use crate::server::server_of;
 use crate::settings::{Request, Settings};
 use pgb_options::{Command, Options, RestoreWord};
 use pgb_prune::{kind_by, rules_of};
-use pgb_recover::RecoveryType;
+use pgb_recover::{Configuration, FetchArguments, RecoveryType};
 use pgb_retain::Rules;
 use pgb_stage::{Pairs, Plan, Settling, Unbuilt};
 use pgb_table::Verb;
@@ -117,16 +117,38 @@ fn ahead_request<'a>(options: &'a Options, name: &'a str) -> Request<'a>
     }
 }
 
+// Which configuration the arguments name.
+fn configuration_by(options: &Options) -> Configuration<'_>
+    ensures { configuration_of result
+        ≡ configuration_by options.now.no_config (option_map string_bytes options.now.config) }
+{
+    if options.no_config {
+        return Configuration::Nowhere;
+    }
+    match &options.config {
+        Some(path) => Configuration::Named(path.as_str()),
+        None => Configuration::Usual,
+    }
+}
+
+// The arguments by which the restored server fetches the log.
+fn fetch_arguments(options: &Options) -> FetchArguments<'_>
+    ensures { arguments_of result ≡ fetch_told options.now }
+{
+    FetchArguments {
+        config: configuration_by(options),
+        pg1_path: word_of(&options.given_pg1_path),
+        repo1_path: word_of(&options.given_repo1_path),
+    }
+}
+
 // How the server is to recover.
 fn recovery_for(options: &Options) -> RecoveryType<'_>
-    ensures { recovery_type result
-        ≡ recovery_for options.now.restore_type (option_map string_bytes options.now.config) }
+    ensures { recovery_type result ≡ recovery_for options.now.restore_type (fetch_told options.now) }
 {
     match options.restore_type {
         RestoreWord::Plain => RecoveryType::Nothing,
-        RestoreWord::Default => RecoveryType::Default {
-            config: word_of(&options.config),
-        },
+        RestoreWord::Default => RecoveryType::Default(fetch_arguments(options)),
     }
 }
 

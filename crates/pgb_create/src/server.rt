@@ -10,5 +10,5 @@ pub struct Server<'a> {
     pub user: &'a str,
     pub database: &'a str,
     // The first message has both names, and a length of 32 bits.
-    ghost short: { length user.now + length database.now + 26 < 2 ^ 32 },
+    ghost short: { length user.now + length database.now + 97 < 2 ^ 32 },
 }

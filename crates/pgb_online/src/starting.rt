@@ -56,7 +56,7 @@ pub fn start<V: Wire>(
     system: u64,
     fast: bool,
 ) -> Result<Begun, OnlineFault>
-    requires { length user.now + length database.now + 26 < 2 ^ 32 }
+    requires { length user.now + length database.now + 97 < 2 ^ 32 }
     ensures told { IfOk result (TellsBegun system (V.state wire.old).pending (V.state wire.new).pending) }
     ensures sized { IfOk result (λ b. IsSegSize b.size.0) }
     ensures sent { OnOk result ((V.state wire.new).sent ≡ option_map

@@ -1,26 +1,45 @@
 // How a restored server fetches the log.
-ghost use Rattle.std.specs.Prelude.{◌≡◌, ◌++◌, IfOk, OnOk, option_map};
+ghost use Rattle.std.specs.Prelude.{◌≡◌, ◌++◌, IfOk, OnOk, option_map, codes};
 ghost use Rattle.pgb_restore.specs.Options.{recovery_of};
-ghost use Rattle.pgb_recover.specs.Fetching.{doubled, doubled_byte, config_word, fetch_text, recovery_type, recovery_with, fetch_of};
+ghost use Rattle.pgb_recover.specs.Fetching.{is_plain, doubled_byte, quoted_byte, quoted, config_text, path_text, fetch_text, configuration_of, arguments_of, recovery_type, recovery_with, fetch_of};
 
-use crate::order::RecoveryType;
+use crate::order::{Configuration, FetchArguments, RecoveryType};
 use pgb_restore::Recovery;
 use std::alloc::{AllocError, Global};
 
-// Adds a byte, twice if it is a single quote.
-fn add_byte(line: &mut Vec<u8>, byte: u8) -> Result<(), AllocError>
+// Whether the shell takes the byte as it is.
+fn is_plain(byte: u8) -> bool
+    ensures { result ≡ is_plain byte }
+{
+    matches!(
+        byte,
+        b'a'..=b'z' | b'A'..=b'Z' | b'0'..=b'9' | b'/' | b'.' | b'_' | b'-' | b'%' | 128..=255
+    )
+}
+
+// Adds a byte, twice where the settings' file or the server takes one for something else.
+fn add_doubled(line: &mut Vec<u8>, byte: u8) -> Result<(), AllocError>
     ensures { OnOk result (line.new.items ≡ line.old.items ++ doubled_byte byte) }
 {
-    if byte == b'\'' {
+    if byte == b'\'' || byte == b'\\' || byte == b'%' {
         line.push(byte)?;
     }
     line.push(byte)?;
     Ok(())
 }
 
-// Adds a text, with each single quote doubled.
-fn add_doubled(line: &mut Vec<u8>, text: &[u8]) -> Result<(), AllocError>
-    ensures { OnOk result (line.new.items ≡ line.old.items ++ doubled text.now) }
+// Adds a byte, so that it is one of the word that the shell reads.
+fn add_byte(line: &mut Vec<u8>, byte: u8) -> Result<(), AllocError>
+    ensures { OnOk result (line.new.items ≡ line.old.items ++ quoted_byte byte) }
+{
+    if !is_plain(byte) {
+        line.extend_from_slice(b"\\\\")?;
+    }
+    add_doubled(line, byte)
+}
+
+fn add_quoted(line: &mut Vec<u8>, text: &[u8]) -> Result<(), AllocError>
+    ensures { OnOk result (line.new.items ≡ line.old.items ++ quoted text.now) }
 {
     for byte in text {
         add_byte(line, *byte)?;
@@ -28,26 +47,47 @@ fn add_doubled(line: &mut Vec<u8>, text: &[u8]) -> Result<(), AllocError>
     Ok(())
 }
 
-// Adds the option that names the configuration, where one was named.
-fn add_config(line: &mut Vec<u8>, config: Option<&str>) -> Result<(), AllocError>
-    ensures { OnOk result (line.new.items ≡ line.old.items ++ config_word (option_map (λ w. w.now) config.entry)) }
+// Adds what says which configuration is read, where the arguments say it.
+fn add_config(line: &mut Vec<u8>, config: Configuration<'_>) -> Result<(), AllocError>
+    ensures { OnOk result (line.new.items ≡ line.old.items ++ config_text (configuration_of config.entry)) }
 {
     match config {
-        Some(path) => {
+        Configuration::Usual => Ok(()),
+        Configuration::Nowhere => line.extend_from_slice(b" --no-config"),
+        Configuration::Named(path) => {
             line.extend_from_slice(b" --config=")?;
-            add_doubled(line, path.as_bytes())
+            add_quoted(line, path.as_bytes())
+        }
+    }
+}
+
+// Adds an option that is a path, where the arguments have it.
+fn add_path(line: &mut Vec<u8>, option: &str, path: Option<&str>) -> Result<(), AllocError>
+    ensures { OnOk result (line.new.items
+        ≡ line.old.items ++ path_text option.now (option_map (λ p. p.now) path.entry)) }
+{
+    match path {
+        Some(path) => {
+            line.extend_from_slice(option.as_bytes())?;
+            add_quoted(line, path.as_bytes())
         }
         None => Ok(()),
     }
 }
 
 // The command by which the server fetches a log file.
-fn fetch_command(alloc: Global, stanza: &str, config: Option<&str>) -> Result<Vec<u8>, AllocError>
-    ensures { IfOk result (λ line. line.items ≡ fetch_text stanza.now (option_map (λ w. w.now) config.entry)) }
+fn fetch_command(
+    alloc: Global,
+    stanza: &str,
+    arguments: &FetchArguments<'_>,
+) -> Result<Vec<u8>, AllocError>
+    ensures { IfOk result (λ line. line.items ≡ fetch_text stanza.now (arguments_of arguments.now)) }
 {
     let mut line = Vec::new(alloc);
     line.extend_from_slice(b"pgbackrest")?;
-    add_config(&mut line, config)?;
+    add_config(&mut line, arguments.config)?;
+    add_path(&mut line, " --pg1-path=", arguments.pg1_path)?;
+    add_path(&mut line, " --repo1-path=", arguments.repo1_path)?;
     line.extend_from_slice(b" --stanza=")?;
     line.extend_from_slice(stanza.as_bytes())?;
     line.extend_from_slice(b" archive-get %f \"%p\"")?;
@@ -64,7 +104,7 @@ pub(crate) fn fetch_of(
 {
     match recovery {
         RecoveryType::Nothing => Ok(Vec::new(alloc)),
-        RecoveryType::Default { config } => fetch_command(alloc, stanza, *config),
+        RecoveryType::Default(arguments) => fetch_command(alloc, stanza, arguments),
     }
 }
 
@@ -74,6 +114,6 @@ pub(crate) fn recovery_by<'a>(recovery: &RecoveryType<'_>, fetch: &'a [u8]) -> R
 {
     match recovery {
         RecoveryType::Nothing => Recovery::Nothing,
-        RecoveryType::Default { .. } => Recovery::ToTheEnd { fetch },
+        RecoveryType::Default(_) => Recovery::ToTheEnd { fetch },
     }
 }

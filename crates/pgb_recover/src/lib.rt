@@ -33,6 +33,6 @@ mod starting;
 mod texts;
 
 pub use fault::RecoverFault;
-pub use order::{RecoverOrder, RecoveryType, recover_order};
+pub use order::{Configuration, FetchArguments, RecoverOrder, RecoveryType, recover_order};
 pub use recovering::recover_backup;
 pub use texts::{recover_message, recover_status};

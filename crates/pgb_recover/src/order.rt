@@ -14,8 +14,29 @@ use pgb_stamp::read_label;
 pub enum RecoveryType<'a> {
     /// Not at all.
     Nothing,
-    /// To the end of the archive. It fetches the log by the configuration that was named, if one was.
-    Default { config: Option<&'a str> },
+    /// To the end of the archive, whose files it fetches by these arguments.
+    Default(FetchArguments<'a>),
+}
+
+/// The arguments of a restore that the server gives too, as it fetches the log.
+#[derive(Clone, Copy, Debug)]
+pub struct FetchArguments<'a> {
+    pub config: Configuration<'a>,
+    /// The data folder, where the arguments name it.
+    pub pg1_path: Option<&'a str>,
+    /// The repository, where the arguments name it.
+    pub repo1_path: Option<&'a str>,
+}
+
+/// Which configuration the arguments name.
+#[derive(Clone, Copy, Debug)]
+pub enum Configuration<'a> {
+    /// They don't say.
+    Usual,
+    /// None is read.
+    Nowhere,
+    /// The one at this path.
+    Named(&'a str),
 }
 
 /// Into which data folder a backup of which repository is put, and how many workers read it at most. Where no backup is

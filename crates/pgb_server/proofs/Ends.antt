@@ -1,5 +1,5 @@
 -- Of any talk: its fault is one of the reading, and its end is the last that is sent.
-use Rattle.std.proofs.Common.{◌≡◌, ◌⊎◌, ◌++◌, ℕ, List, Option, Some, None, option_map, Result, Ok, Err, inl, inr, refl, sym, subst}
+use Rattle.std.proofs.Common.{◌≡◌, ◌⊎◌, ◌++◌, ℕ, List, Option, Some, None, option_map, Result, Err, inl, inr, refl, sym, subst}
 use Rattle.std.specs.Prelude.{string_bytes}
 use Rattle.std.proofs.lemmas.List.{append_assoc}
 use Rattle.pgb_server.specs.declared.fault.ServerFault.{ServerFault}

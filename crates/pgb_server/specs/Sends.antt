@@ -1,12 +1,22 @@
 -- What a client sends (PostgreSQL manual, "Message Formats").
-use Rattle.std.specs.Prelude.{◌≡◌, ℕ, ◌+◌, List, [], ◌∷◌, ◌++◌, length, Option, IfSome}
+use Rattle.std.specs.Prelude.{◌≡◌, ℕ, ◌+◌, List, [], ◌∷◌, ◌++◌, codes, length, Option, IfSome}
 use Rattle.std.specs.Int.{w32, to_be_bytes}
 use Rattle.pgb_model.specs.Text.{Text}
 
--- protocol 3.0, then user and database: names and values that end with 0, and a last 0
+-- a parameter: its name and its value, each with a 0 behind it
+unfoldable pub parameter : Text → Text → Text
+parameter name value = name ++ 0 ∷ (value ++ 0 ∷ [])
+
+-- the parameters of a session and a last 0; the server ends neither a backup's long start nor a session that is idle
+-- meanwhile, whatever it does by default
+unfoldable pub parameters : Text → Text → Text
+parameters user database = parameter (codes "user") user ++ parameter (codes "database") database
+    ++ parameter (codes "application_name") (codes "pgbackrest") ++ parameter (codes "statement_timeout") (codes "0")
+    ++ parameter (codes "idle_session_timeout") (codes "0") ++ 0 ∷ []
+
+-- protocol 3.0, then the parameters
 abbrev pub startup_body : Text → Text → List ℕ
-startup_body user database = to_be_bytes w32 196608 ++ (117 ∷ 115 ∷ 101 ∷ 114 ∷ 0 ∷ []) ++ user
-    ++ (0 ∷ 100 ∷ 97 ∷ 116 ∷ 97 ∷ 98 ∷ 97 ∷ 115 ∷ 101 ∷ 0 ∷ []) ++ database ++ (0 ∷ 0 ∷ [])
+startup_body user database = to_be_bytes w32 196608 ++ parameters user database
 
 -- the first message has no kind
 unfoldable pub startup_of : Text → Text → List ℕ

@@ -47,7 +47,7 @@ pub fn open<V: Wire>(
     user: &str,
     database: &str,
 ) -> Result<Session, ServerFault>
-    requires { length user.now + length database.now + 26 < 2 ^ 32 }
+    requires { length user.now + length database.now + 97 < 2 ^ 32 }
     ensures read { Reads session_view result (V.state wire.old).pending (V.state wire.new).pending start_at }
     ensures sent { OnOk result
         ((V.state wire.new).sent ≡ option_map (λ s. s ++ startup_of user.now database.now) (V.state wire.old).sent) }

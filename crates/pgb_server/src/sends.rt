@@ -1,29 +1,52 @@
 // What is sent to a server.
 ghost use Rattle.std.specs.Prelude.{◌≡◌, ◌≢◌, ◌≤◌, ◌⊎◌, ◌<◌, ◌+◌, ◌^◌, ◌++◌, length, IfOk, IfErr, OnOk, option_map};
 ghost use Rattle.pgb_server.specs.declared.fault.ServerFault.TheVariants.{NoMemory};
-ghost use Rattle.pgb_server.specs.Sends.{startup_of, query_of, closing};
+ghost use Rattle.pgb_server.specs.Sends.{parameter, parameters, startup_of, query_of, closing};
 ghost use Rattle.pgb_server.specs.Reads.{IsOutside, HasCause, Sends};
 
 use crate::fault::ServerFault;
 use pgb_outside::{Stop, Wire};
 use std::alloc::{AllocError, Global};
 
+// Adds a parameter of the session.
+#[tactic(auto, unfolding(crate::specs::Sends::parameter))]
+fn add_parameter(bytes: &mut Vec<u8>, name: &str, value: &str) -> Result<(), AllocError>
+    ensures { OnOk result (bytes.new.items ≡ bytes.old.items ++ parameter name.now value.now) }
+{
+    bytes.extend_from_slice(name.as_bytes())?;
+    bytes.push(0)?;
+    bytes.extend_from_slice(value.as_bytes())?;
+    bytes.push(0)?;
+    Ok(())
+}
+
+// The parameters of the session.
+#[tactic(auto, unfolding(crate::specs::Sends::parameters))]
+fn parameters(alloc: Global, user: &str, database: &str) -> Result<Vec<u8>, AllocError>
+    ensures { IfOk result (λ v. v.items ≡ parameters user.now database.now) }
+{
+    let mut bytes: Vec<u8> = Vec::new(alloc);
+    add_parameter(&mut bytes, "user", user)?;
+    add_parameter(&mut bytes, "database", database)?;
+    add_parameter(&mut bytes, "application_name", "pgbackrest")?;
+    add_parameter(&mut bytes, "statement_timeout", "0")?;
+    add_parameter(&mut bytes, "idle_session_timeout", "0")?;
+    bytes.push(0)?;
+    Ok(bytes)
+}
+
 /// The first message.
-#[tactic(auto, unfolding(crate::specs::Sends::startup_of))]
+#[tactic(auto, using(crate::proofs::Startup::parameters_length), unfolding(crate::specs::Sends::startup_of))]
 pub(crate) fn startup(alloc: Global, user: &str, database: &str) -> Result<Vec<u8>, AllocError>
-    requires { length user.now + length database.now + 26 < 2 ^ 32 }
+    requires { length user.now + length database.now + 97 < 2 ^ 32 }
     ensures { IfOk result (λ v. v.items ≡ startup_of user.now database.now) }
 {
-    let count = user.len() as u32 + database.len() as u32 + 25;
+    let parameters = parameters(alloc, user, database)?;
     let mut bytes: Vec<u8> = Vec::new(alloc);
-    bytes.extend_from_slice(&count.to_be_bytes())?;
+    bytes.extend_from_slice(&(parameters.len() as u32 + 8).to_be_bytes())?;
     // Protocol 3.0.
     bytes.extend_from_slice(&196608u32.to_be_bytes())?;
-    bytes.extend_from_slice(b"user\0".as_slice())?;
-    bytes.extend_from_slice(user.as_bytes())?;
-    bytes.extend_from_slice(b"\0database\0".as_slice())?;
-    bytes.extend_from_slice(database.as_bytes())?;
-    bytes.extend_from_slice(b"\0\0".as_slice())?;
+    bytes.extend_from_slice(&parameters)?;
     Ok(bytes)
 }
 

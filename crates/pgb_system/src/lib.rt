@@ -8,9 +8,11 @@
 //! - `RoundRobin` meets `Turns`: it picks the place behind the last one that it picked.
 #![tactic(auto)]
 
+mod ended;
 mod faults;
 mod link;
 mod pieces;
+mod ready;
 mod scratch;
 mod tail;
 mod turns;

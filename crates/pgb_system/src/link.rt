@@ -3,16 +3,22 @@ ghost use Rattle.std.specs.Prelude.{◌≡◌, ◌≤◌, [], None, IfOk, IsErr,
 ghost use Rattle.pgb_outside.specs.Links.{is_byte, is_job, is_read_job, bumped, SendLeaves, ReceiveLeaves};
 ghost use Rattle.pgb_system.specs.Tail.{tail_of};
 
+use crate::ended::end;
 use crate::faults::{Call, Faults};
 use crate::pieces::read_some;
+use crate::ready::{Ready, wait_for};
 use crate::tail::Tail;
 use pgb_outside::{Link, Stop};
 use std::io;
 use std::io::{BufReader, ErrorKind, Write};
+use std::os::fd::AsRawFd;
 use std::process::{Child, ChildStdout, Command, Stdio};
 
 // As many bytes as a pipe holds.
 const PIPE: usize = 1 << 16;
+
+// As many bytes as a pipe takes at once that is ready to be written to.
+const AT_ONCE: usize = 4096;
 
 // A process that was started. Its pipe is emptied at once, so that it can go on while what was read is looked at.
 #[derive(Drop)]
@@ -30,6 +36,8 @@ pub struct RealLink {
     program: String,
     words: Vec<String>,
     started: Option<Started>,
+    // in milliseconds, of each wait
+    longest: Option<u64>,
     jobs: u64,
     reads: u64,
     given: Tail,
@@ -58,6 +66,45 @@ fn start(rt: &HostRuntime, program: &str, words: &[String]) -> io::Result<Starte
     };
     let output = BufReader::with_capacity(rt.alloc(), PIPE, output)?;
     Ok(Started { child, output })
+}
+
+// Writes a frame to a worker, in parts of which each is taken at once.
+fn give(
+    rt: &HostRuntime,
+    started: &mut Started,
+    frame: &[u8],
+    longest: Option<u64>,
+) -> io::Result<()> {
+    let worker = started.child.id();
+    let Some(input) = &mut started.child.stdin else {
+        return broken();
+    };
+    let Some(longest) = longest else {
+        return input.write_all(frame);
+    };
+    for part in frame.chunks(AT_ONCE) {
+        wait_for(rt, worker, input.as_raw_fd(), Ready::ToWrite, longest)?;
+        input.write_all(part)?;
+    }
+    Ok(())
+}
+
+// What a worker says next.
+fn hear(
+    rt: &HostRuntime,
+    started: &mut Started,
+    buf: &mut [u8],
+    longest: Option<u64>,
+) -> io::Result<usize>
+    ensures { IfOk result (λ n. n ≤ length buf.old) }
+{
+    if let Some(longest) = longest {
+        if started.output.buffer().is_empty() {
+            let pipe = started.output.get_ref().as_raw_fd();
+            wait_for(rt, started.child.id(), pipe, Ready::ToRead, longest)?;
+        }
+    }
+    read_some(&mut started.output, buf)
 }
 
 // No such pipe is there.
@@ -91,11 +138,22 @@ impl RealLink {
             program,
             words,
             started: None,
+            longest: None,
             jobs: 0,
             reads: 0,
             given: Tail::new(),
             faults: Faults::new(),
         }
+    }
+
+    /// From now on a worker is lost that says nothing, or takes nothing, for so long, and then reads nothing for so long
+    /// again. 0 is never.
+    pub fn set_timeout(&mut self, seconds: u64) {
+        self.longest = if seconds == 0 {
+            None
+        } else {
+            Some(seconds.saturating_mul(1000))
+        };
     }
 
     /// What failed last, for a person to read.
@@ -110,13 +168,14 @@ impl RealLink {
         if self.started.is_none() {
             self.started = Some(start(&self.rt, self.program.as_str(), &self.words)?);
         }
-        let Some(started) = &mut self.started else {
-            return broken();
-        };
-        match &mut started.child.stdin {
-            Some(input) => input.write_all(frame),
+        let done = match &mut self.started {
+            Some(started) => give(&self.rt, started, frame, self.longest),
             None => broken(),
+        };
+        if done.is_err() {
+            self.end_worker();
         }
+        done
     }
 
     fn take(&mut self, buf: &mut [u8]) -> io::Result<usize>
@@ -124,9 +183,24 @@ impl RealLink {
         ensures same { (self.new.jobs ≡ self.old.jobs) × (self.new.reads ≡ self.old.reads)
             × (self.new.given ≡ self.old.given) × (self.new.faults ≡ self.old.faults) }
     {
-        match &mut self.started {
-            Some(started) => read_some(&mut started.output, buf),
+        let done = match &mut self.started {
+            Some(started) => hear(&self.rt, started, buf, self.longest),
             None => broken(),
+        };
+        let is_over = matches!(done, Ok(0)) && !buf.is_empty();
+        if done.is_err() || is_over {
+            self.end_worker();
+        }
+        done
+    }
+
+    // Ends a worker that failed or says no more, and waits for it.
+    fn end_worker(&mut self)
+        ensures { (self.new.jobs ≡ self.old.jobs) × (self.new.reads ≡ self.old.reads)
+            × (self.new.given ≡ self.old.given) × (self.new.faults ≡ self.old.faults) }
+    {
+        if let Some(started) = &mut self.started {
+            end(&self.rt, &mut started.child);
         }
     }
 

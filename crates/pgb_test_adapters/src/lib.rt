@@ -4,7 +4,11 @@
 #[cfg(test)]
 mod clock;
 #[cfg(test)]
+mod control;
+#[cfg(test)]
 mod disk;
+#[cfg(test)]
+mod link;
 #[cfg(test)]
 mod locks;
 #[cfg(test)]

@@ -59,7 +59,8 @@ fn row(alloc: Global, answer: &[u8], cuts: &[u32]) -> Result<Vec<Option<String>>
     ask_row(alloc, &mut wire, &mut session, "select a, b", 2)
 }
 
-const STARTUP: &[u8] = b"\0\0\0\x29\0\x03\0\0user\0postgres\0database\0postgres\0\0";
+const STARTUP: &[u8] = b"\0\0\0\x70\0\x03\0\0user\0postgres\0database\0postgres\0\
+    application_name\0pgbackrest\0statement_timeout\00\0idle_session_timeout\00\0\0";
 
 #[test]
 fn what_is_sent(rt: HostRuntime) -> Result<(), Fail> {
@@ -67,12 +68,12 @@ fn what_is_sent(rt: HostRuntime) -> Result<(), Fail> {
     let mut wire = wire(alloc, &[START], &[1, 2], &[])?;
     let session = start(alloc, &mut wire)?;
     same(&rt, wire.place(), "/run/postgresql/.s.PGSQL.5432");
-    same(&rt, STARTUP.len(), 41);
+    same(&rt, STARTUP.len(), 112);
     same(&rt, wire.sent(), STARTUP);
     close(&mut wire, session)?;
     same(
         &rt,
-        wire.sent().get(41..),
+        wire.sent().get(112..),
         Some(b"\x58\0\0\0\x04".as_slice()),
     );
     Ok(())

@@ -1,5 +1,5 @@
 use Rattle.std.proofs.Common.{◌≤◌}
-use Rattle.pgb_adapters.proofs.clock.RealClockClock.wait_past.Given as goal
+use Rattle.pgb_adapters.proofs.clock.RealClock.pass.Given as goal
 
 -- the clock goes on, and no fault is taken back
 abbrev pub invariant-loop : goal.invariant-loop
