@@ -2,8 +2,6 @@
 # What a person sees beside standard output: the line of a refusal and the advice of docs/STATUS.md on standard error, the paths that
 # were looked at, the lines with their times in a file, and the help wherever its word stands.
 . "$(dirname "$0")/common"
-# The runner owns all of it.
-chown -R "$(id -u):$(id -g)" pg
 data=(--pg1-path="$room/pg")
 repo=(--repo1-path="$room/repo")
 lock=(--lock-path="$room/lock")

@@ -2,8 +2,7 @@
 # What one program may do to another, and what may keep one waiting: two at once exclude each other whatever their lock folders are, no
 # lock is taken that isn't the user's own, no push is stopped by its output, and a worker that says nothing is given up.
 . "$(dirname "$0")/common"
-# The runner owns all of it. No server runs in it, so a part of it will do.
-chown -R "$(id -u):$(id -g)" pg
+# (no server runs in it, so a part of it will do)
 rm -r pg/base/4 pg/base/5
 ours=("$top/bin/pgbackrest" --no-config --stanza=demo --repo1-path="$room/repo")
 data=(--pg1-path="$room/pg")

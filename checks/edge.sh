@@ -3,8 +3,7 @@
 # a file can't be fetched, another cluster's files are left alone, a restored server finds the repository again, and root leaves
 # nothing that the server's user can't read.
 . "$(dirname "$0")/common"
-# The runner owns all of it. No server runs in it, so a part of it will do.
-chown -R "$(id -u):$(id -g)" pg
+# (no server runs in it, so a part of it will do)
 rm -r pg/base/4 pg/base/5
 room=$(pwd -P)
 cat >conf <<END
