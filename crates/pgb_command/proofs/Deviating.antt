@@ -111,6 +111,7 @@ not_create (creates.InfoDamaged name main copy) = λ is. absurd (omega (arith, i
 not_create (creates.HistoryDiffers at) = λ is. absurd (omega (arith, is))
 not_create (creates.StanzaMismatch kept found) = λ is. absurd (omega (arith, is))
 not_create (creates.ArchiveLost label) = λ is. absurd (omega (arith, is))
+not_create (creates.FilesFound name) = λ is. absurd (omega (arith, is))
 
 not_take : (e : TakeFault) → take_status e ≢ 65
 not_take (takes.HistoryDiffers at) = λ is. absurd (omega (arith, is))

@@ -38,7 +38,7 @@ use Rattle.pgb_create.specs.declared.fault.CreateFault.{CreateFault}
 use Rattle.pgb_create.specs.declared.fault.CreateFault.TheVariants as faults
 use Rattle.pgb_create.specs.Server.{Server}
 use Rattle.pgb_create.specs.Talking.{AskCause, Closes}
-use Rattle.pgb_create.specs.Creating.{create_early, IsStanzaFault, Damaged, Differs, Mismatch, Lost, Unsaid, Broken, Starved, MakeCause, CreateCause}
+use Rattle.pgb_create.specs.Creating.{create_early, IsStanzaFault, Damaged, Differs, Mismatch, Lost, Found, Unsaid, Broken, Starved, MakeCause, CreateCause}
 
 -- ---- what was done
 
@@ -112,6 +112,7 @@ module _ (stanza : Text) (c : Cluster) (first : c.id ≡ 1) (a d : View) (told :
   halted_does e halt (Differs at) rests same = refused_does rests same
   halted_does e halt (Mismatch kept found) rests same = refused_does rests same
   halted_does e halt (Lost label text is) rests same = refused_does rests same
+  halted_does e halt (Found name) rests same = refused_does rests same
   halted_does e halt (Unsaid label) rests same = stopped_does
   halted_does e halt Broken rests same = stopped_does
   halted_does e halt Starved rests same = stopped_does
@@ -123,6 +124,7 @@ halted_still a d e halt (Damaged name main copy) rests same = record { now = sam
 halted_still a d e halt (Differs at) rests same = record { now = same; time = rests }
 halted_still a d e halt (Mismatch kept found) rests same = record { now = same; time = rests }
 halted_still a d e halt (Lost label text is) rests same = record { now = same; time = rests }
+halted_still a d e halt (Found name) rests same = record { now = same; time = rests }
 halted_still a d e halt (Unsaid label) rests same = tt
 halted_still a d e halt Broken rests same = tt
 halted_still a d e halt Starved rests same = tt
@@ -161,6 +163,7 @@ make_cause stanza told repo rose e halt (Damaged name main copy) h = h
 make_cause stanza told repo rose e halt (Differs at) h = h
 make_cause stanza told repo rose e halt (Mismatch kept found) h = h
 make_cause stanza told repo rose e halt (Lost label text is) h = (label, is, h)
+make_cause stanza told repo rose e halt (Found name) h = h
 make_cause stanza told repo rose e halt (Unsaid label) h = tt
 make_cause stanza told repo rose e halt Broken h = (refl, h)
 make_cause stanza told repo rose e halt Starved h = tt
@@ -185,6 +188,7 @@ module _ (stanza : Text) (told : Control) (server : Option Server) (repo : Optio
   asked_cause (Refused (faults.HistoryDiffers at)) h = absurd h
   asked_cause (Refused (faults.StanzaMismatch kept found)) h = absurd h
   asked_cause (Refused (faults.ArchiveLost label)) h = absurd h
+  asked_cause (Refused (faults.FilesFound name)) h = absurd h
   asked_cause (Failed object) h = only_rose objects.Server object Rises server_rose (λ x. x) h
   asked_cause NoMemory h = tt
 
@@ -196,6 +200,7 @@ module _ (stanza : Text) (told : Control) (server : Option Server) (repo : Optio
   made_cause (Err (Refused (faults.HistoryDiffers at))) rose to h = h
   made_cause (Err (Refused (faults.StanzaMismatch kept found))) rose to h = h
   made_cause (Err (Refused (faults.ArchiveLost label))) rose to h = h
+  made_cause (Err (Refused (faults.FilesFound name))) rose to h = h
   made_cause (Err (Failed object)) rose to h = only_rose objects.Repo object Rises rose to h
   made_cause (Err NoMemory) rose to h = tt
 
@@ -209,6 +214,7 @@ made_closes stanza told repo failed rose new (Err (Refused (faults.InfoDamaged n
 made_closes stanza told repo failed rose new (Err (Refused (faults.HistoryDiffers at))) h = tt
 made_closes stanza told repo failed rose new (Err (Refused (faults.StanzaMismatch kept found))) h = tt
 made_closes stanza told repo failed rose new (Err (Refused (faults.ArchiveLost label))) h = tt
+made_closes stanza told repo failed rose new (Err (Refused (faults.FilesFound name))) h = tt
 made_closes stanza told repo failed rose new (Err (Failed object)) h = tt
 made_closes stanza told repo failed rose new (Err NoMemory) h = tt
 

@@ -14,6 +14,7 @@ create_over (faults.InfoDamaged name main copy) = omega arith
 create_over (faults.HistoryDiffers at) = omega arith
 create_over (faults.StanzaMismatch kept found) = omega arith
 create_over (faults.ArchiveLost label) = omega arith
+create_over (faults.FilesFound name) = omega arith
 
 not_server : {P : Type 0} (n : ℕ) → (n ≤ 46) ⊎ (72 ≤ n) → IsServerRefusal n → P
 not_server n (inl a) (inl b) = absurd (omega (arith, a, b.0))
@@ -29,6 +30,7 @@ create_closed rose new (faults.InfoDamaged name main copy) is closes = not_serve
 create_closed rose new (faults.HistoryDiffers at) is closes = not_server 101 (inr (omega arith)) is
 create_closed rose new (faults.StanzaMismatch kept found) is closes = not_server 23 (inl (omega arith)) is
 create_closed rose new (faults.ArchiveLost label) is closes = not_server 24 (inl (omega arith)) is
+create_closed rose new (faults.FilesFound name) is closes = not_server 29 (inl (omega arith)) is
 
 -- with another failure of the connection
 pub closes_as : (rose risen : Type 0) (new : Option (List ℕ)) → (rose → risen) → (fault : CreateFault) → Closes rose new (Refused fault) → Closes risen new (Refused fault)
@@ -38,3 +40,4 @@ closes_as rose risen new to (faults.InfoDamaged name main copy) closes = tt
 closes_as rose risen new to (faults.HistoryDiffers at) closes = tt
 closes_as rose risen new to (faults.StanzaMismatch kept found) closes = tt
 closes_as rose risen new to (faults.ArchiveLost label) closes = tt
+closes_as rose risen new to (faults.FilesFound name) closes = tt

@@ -11,26 +11,27 @@ use Rattle.pgb_server.specs.Reads.{IsOutside}
 use Rattle.pgb_stanza.specs.declared.control.Control.{Control}
 use Rattle.pgb_stanza.specs.declared.fault.Identity.{Identity}
 use Rattle.pgb_stanza.specs.declared.fault.StanzaFault.{StanzaFault}
-use Rattle.pgb_stanza.specs.declared.fault.StanzaFault.TheVariants.{InfoDamaged as DamagedOf, HistoryDiffers as DiffersOf, StanzaMismatch as MismatchOf, ArchiveLost as LostOf, Disk as DiskOf, NoMemory as MemoryOf}
+use Rattle.pgb_stanza.specs.declared.fault.StanzaFault.TheVariants.{InfoDamaged as DamagedOf, HistoryDiffers as DiffersOf, StanzaMismatch as MismatchOf, ArchiveLost as LostOf, FilesFound as FoundOf, Disk as DiskOf, NoMemory as MemoryOf}
 use Rattle.pgb_stanza.specs.Causes.{CreateCause as StanzaCause}
 use Rattle.pgb_stanza.specs.ControlFile.{first_cluster}
 use Rattle.pgb_stanza.specs.Pairs.{LacksStanza, HasStanzaOf, PairsAgree}
+use Rattle.pgb_stanza.specs.Unused.{IsUnused}
 use Rattle.pgb_stage.specs.declared.object.Object.TheVariants.{Repo as TheRepo}
 use Rattle.pgb_stage.specs.declared.halt.Halt.{Halt}
 use Rattle.pgb_stage.specs.declared.halt.Halt.TheVariants.{Refused, Failed, NoMemory}
 use Rattle.pgb_stage.specs.declared.outcome.Outcome.{Outcome}
 use Rattle.pgb_stage.specs.Reached.{OnFinished}
 use Rattle.pgb_create.specs.declared.fault.CreateFault.{CreateFault}
-use Rattle.pgb_create.specs.declared.fault.CreateFault.TheVariants.{Server as Talked, InfoDamaged, HistoryDiffers, StanzaMismatch, ArchiveLost}
+use Rattle.pgb_create.specs.declared.fault.CreateFault.TheVariants.{Server as Talked, InfoDamaged, HistoryDiffers, StanzaMismatch, ArchiveLost, FilesFound}
 use Rattle.pgb_create.specs.Server.{Server}
 use Rattle.pgb_create.specs.Talking.{TellsFault}
 
 -- ---- at its end
 
--- there was no stanza, or one of this cluster, and now its pairs agree; those of a new one have its texts
+-- there was nothing of a stanza, or one of this cluster, and now its pairs agree; those of a new one have its texts
 pub record IsCreated (stanza : Text) (told : Control) (old new : Option Content) (outcome : Outcome) : Type 0 where
   pub silent : OnFinished outcome (λ lines. lines ≡ [])
-  pub was : IfSome old (LacksStanza stanza) ⊎ IfSome old (HasStanzaOf stanza told)
+  pub was : IfSome old (IsUnused stanza) ⊎ IfSome old (HasStanzaOf stanza told)
   pub members : IfSome old (LacksStanza stanza) → IsSome old → IfSome new (HasNewPairs stanza (first_cluster told))
   pub agrees : IsSome old → IfSome new (PairsAgree stanza)
 
@@ -48,6 +49,7 @@ pub data IsStanzaFault : StanzaFault → Halt CreateFault → Type 0 where
   Mismatch : (kept found : Identity) → IsStanzaFault (MismatchOf kept found) (Refused (StanzaMismatch kept found))
   Lost : (label : Label) (text : String Global) → string_bytes text ≡ label_text label →
       IsStanzaFault (LostOf label) (Refused (ArchiveLost text))
+  Found : (name : String Global) → IsStanzaFault (FoundOf name) (Refused (FilesFound name))
   Unsaid : (label : Label) → IsStanzaFault (LostOf label) NoMemory
   Broken : IsStanzaFault DiskOf (Failed TheRepo)
   Starved : IsStanzaFault MemoryOf NoMemory
@@ -60,6 +62,7 @@ MakeCause stanza told repo (HistoryDiffers at) = StanzaCause stanza told repo �
 MakeCause stanza told repo (StanzaMismatch kept found) = StanzaCause stanza told repo ⊥ (MismatchOf kept found)
 MakeCause stanza told repo (ArchiveLost text) =
     (label : Label) × (string_bytes text ≡ label_text label) × StanzaCause stanza told repo ⊥ (LostOf label)
+MakeCause stanza told repo (FilesFound name) = StanzaCause stanza told repo ⊥ (FoundOf name)
 
 -- why stanza-create is refused: for what the server that is asked tells, or for what the repository held
 abbrev pub CreateCause : Text → Control → Option Server → Option Content → Option (List ℕ) → CreateFault → Type 0

@@ -4,7 +4,7 @@ use Rattle.pgb_model.specs.Text.{Text}
 use Rattle.pgb_stage.specs.Texts.{damaged_text, history_text, mismatch_text}
 use Rattle.pgb_server_texts.specs.Texts.{server_status, server_message}
 use Rattle.pgb_create.specs.declared.fault.CreateFault.{CreateFault}
-use Rattle.pgb_create.specs.declared.fault.CreateFault.TheVariants.{Server, InfoDamaged, HistoryDiffers, StanzaMismatch, ArchiveLost}
+use Rattle.pgb_create.specs.declared.fault.CreateFault.TheVariants.{Server, InfoDamaged, HistoryDiffers, StanzaMismatch, ArchiveLost, FilesFound}
 
 -- the status and the line of what a new stanza is refused for
 abbrev pub create_status : CreateFault → ℕ
@@ -13,6 +13,7 @@ create_status (InfoDamaged name main copy) = 22
 create_status (HistoryDiffers at) = 101
 create_status (StanzaMismatch kept found) = 23
 create_status (ArchiveLost label) = 24
+create_status (FilesFound name) = 29
 
 abbrev pub create_message : CreateFault → Text
 create_message (Server fault) = server_message fault
@@ -21,3 +22,5 @@ create_message (HistoryDiffers at) = history_text at
 create_message (StanzaMismatch kept found) = mismatch_text kept found
 create_message (ArchiveLost label) = codes "archive info is missing, backup info lists '"
     ++ (string_bytes label ++ codes "'")
+create_message (FilesFound name) = codes "info files are missing, repository holds '"
+    ++ (string_bytes name ++ codes "'")

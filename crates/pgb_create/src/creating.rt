@@ -46,6 +46,7 @@ fn of_stanza(alloc: Global, fault: StanzaFault) -> Halt<CreateFault>
             Ok(label) => Halt::Refused(CreateFault::ArchiveLost { label }),
             Err(_) => Halt::NoMemory,
         },
+        StanzaFault::FilesFound { name } => Halt::Refused(CreateFault::FilesFound { name }),
         StanzaFault::Disk => Halt::Failed(Object::Repo),
         StanzaFault::NoMemory => Halt::NoMemory,
     }

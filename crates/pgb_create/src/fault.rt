@@ -28,4 +28,8 @@ pub enum CreateFault {
     ArchiveLost {
         label: String,
     },
+    /// The archive pair is missing, and no backup is listed, but there are files of the stanza, this one as the first.
+    FilesFound {
+        name: String,
+    },
 }

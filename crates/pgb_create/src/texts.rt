@@ -18,6 +18,7 @@ pub fn create_status(fault: &CreateFault) -> u8
         CreateFault::HistoryDiffers { .. } => 101,
         CreateFault::StanzaMismatch { .. } => 23,
         CreateFault::ArchiveLost { .. } => 24,
+        CreateFault::FilesFound { .. } => 29,
     }
 }
 
@@ -32,6 +33,9 @@ pub fn create_message(alloc: Global, fault: &CreateFault) -> Result<Vec<u8>, NoM
         CreateFault::StanzaMismatch { kept, found } => mismatch_text(alloc, kept, found),
         CreateFault::ArchiveLost { label } => bytes_of(format!(in alloc;
             "archive info is missing, backup info lists '{label}'"
+        )),
+        CreateFault::FilesFound { name } => bytes_of(format!(in alloc;
+            "info files are missing, repository holds '{name}'"
         )),
     }
 }

@@ -34,6 +34,7 @@ fault_of_stanza (stanzas.HistoryDiffers at) = HistoryDiffers at
 fault_of_stanza (stanzas.InfoDamaged name main copy) = NoMemory
 fault_of_stanza (stanzas.StanzaMismatch kept found) = NoMemory
 fault_of_stanza (stanzas.ArchiveLost label) = NoMemory
+fault_of_stanza (stanzas.FilesFound name) = NoMemory
 fault_of_stanza stanzas.Disk = NoMemory
 fault_of_stanza stanzas.NoMemory = NoMemory
 

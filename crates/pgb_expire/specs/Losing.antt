@@ -14,6 +14,7 @@ use Rattle.pgb_model.specs.InfoFiles.{IsLabel}
 use Rattle.pgb_model.specs.Stands.{IsArchivePlace}
 use Rattle.pgb_outside.specs.declared.disk.Found.{Found}
 use Rattle.pgb_pair.specs.Member.{IsOfPair}
+pub use Rattle.pgb_stanza.specs.Unused.{IsInLabel}
 use Rattle.pgb_retain.specs.Labels.{has_label}
 
 -- each of these names is as before or absent, and each other is as before
@@ -68,12 +69,6 @@ abbrev pub names_of : List Found → List Name
 names_of found = map (λ (x : Found). string_bytes x.name) found
 
 -- ---- what an expiry may change
-
--- the name lies in the folder of a label
-pub record IsInLabel (stanza : Text) (name : Text) : Type 0 where
-  pub label : Label
-  pub is_label : IsLabel label
-  pub below : IsTrue (is_below (label_folder stanza label) name)
 
 -- a history of a timeline is never taken away
 abbrev pub is_passing : ArchiveName → Bool

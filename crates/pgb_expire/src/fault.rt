@@ -48,6 +48,7 @@ impl From<StanzaFault> for ExpireFault {
             StanzaFault::InfoDamaged { .. }
             | StanzaFault::StanzaMismatch { .. }
             | StanzaFault::ArchiveLost { .. }
+            | StanzaFault::FilesFound { .. }
             | StanzaFault::Disk
             | StanzaFault::NoMemory => ExpireFault::NoMemory,
         }

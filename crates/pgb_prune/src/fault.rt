@@ -38,6 +38,7 @@ pub(crate) fn of_stanza(fault: StanzaFault) -> Halt<PruneFault>
         StanzaFault::InfoDamaged { .. }
         | StanzaFault::StanzaMismatch { .. }
         | StanzaFault::ArchiveLost { .. }
+        | StanzaFault::FilesFound { .. }
         | StanzaFault::Disk
         | StanzaFault::NoMemory => Halt::NoMemory,
     }

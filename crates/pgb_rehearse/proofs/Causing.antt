@@ -85,6 +85,7 @@ create_fails stanza now pending repo server (Refused (creates.InfoDamaged name m
 create_fails stanza now pending repo server (Refused (creates.HistoryDiffers at)) h = h
 create_fails stanza now pending repo server (Refused (creates.StanzaMismatch kept found)) h = h
 create_fails stanza now pending repo server (Refused (creates.ArchiveLost text)) h = h
+create_fails stanza now pending repo server (Refused (creates.FilesFound name)) h = h
 create_fails stanza now pending repo server (Failed objects.Repo) h = (refl, h)
 create_fails stanza now pending repo server (Failed objects.Spool) h = absurd h
 create_fails stanza now pending repo server (Failed objects.DataFolder) h = absurd h

@@ -12,3 +12,5 @@ mod Judged
 mod Kept
 mod Looked
 mod SameStanza
+mod LabelTexts
+mod Leftovers

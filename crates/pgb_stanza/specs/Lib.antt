@@ -6,3 +6,4 @@ pub mod Mending
 pub mod Pairs
 pub mod Tight
 pub mod Owned
+pub mod Unused

@@ -3,9 +3,9 @@
 //! What is proved, by the contract of the function that is named:
 //!
 //! - `read_control`: what 16 bytes and a version text tell, and each refusal.
-//! - `create`: the stanza is made, or as before, after every answer and every crash. It is new exactly where there was
-//!   none, and the same where there was one of this system identifier and version. Both members of both pairs then
-//!   agree.
+//! - `create`: the stanza is made, or as before, after every answer and every crash. It is new only where the repository
+//!   had no stanza, no archive file of it and nothing in the folder of a label, and the same where there was a stanza of
+//!   this system identifier and version. Both members of both pairs then agree.
 //! - Each refusal has its cause, and one for what was found changes nothing.
 #![tactic(auto)]
 
@@ -18,6 +18,7 @@ mod making;
 mod names;
 mod reading;
 mod saving;
+mod unused;
 
 pub use control::{Control, ControlFault, NEWEST_VERSION, OLDEST_VERSION, read_control};
 pub use creating::{Created, create};

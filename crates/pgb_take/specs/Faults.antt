@@ -31,6 +31,7 @@ of_stanza (stanzas.InfoDamaged name main copy) = NoMemory
 of_stanza (stanzas.HistoryDiffers at) = Refused (HistoryDiffers at)
 of_stanza (stanzas.StanzaMismatch kept found) = Refused (StanzaMismatch kept found)
 of_stanza (stanzas.ArchiveLost label) = NoMemory
+of_stanza (stanzas.FilesFound name) = NoMemory
 of_stanza stanzas.Disk = NoMemory
 of_stanza stanzas.NoMemory = NoMemory
 

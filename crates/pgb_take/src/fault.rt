@@ -59,6 +59,7 @@ pub(crate) fn of_stanza(fault: StanzaFault) -> Halt<TakeFault>
         // Values that were read don't end with one of these.
         StanzaFault::InfoDamaged { .. }
         | StanzaFault::ArchiveLost { .. }
+        | StanzaFault::FilesFound { .. }
         | StanzaFault::Disk
         | StanzaFault::NoMemory => Halt::NoMemory,
     }

@@ -71,6 +71,12 @@ const HINTS: &[(&str, &str, &str)] = &[
     ),
     ("027", "", "use another program for this server"),
     ("028", "", "see that pg1-path is the data folder"),
+    (
+        "029",
+        "",
+        "see that the right disk is mounted; put the info files back from a copy of the repository; never \
+         remove the files",
+    ),
     ("030", "", "hand over what the server gives for %p and %f"),
     (
         "031",

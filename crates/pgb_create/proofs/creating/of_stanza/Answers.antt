@@ -2,8 +2,8 @@ use Rattle.std.proofs.Common.{sym, subst}
 use Rattle.pgb_stanza.specs.declared.fault.StanzaFault.{StanzaFault}
 use Rattle.pgb_stage.specs.declared.object.Object.TheVariants.{Repo}
 use Rattle.pgb_stage.specs.declared.halt.Halt.TheVariants.{Refused, Failed, NoMemory}
-use Rattle.pgb_create.specs.declared.fault.CreateFault.TheVariants.{InfoDamaged, HistoryDiffers, StanzaMismatch, ArchiveLost}
-use Rattle.pgb_create.specs.Creating.{IsStanzaFault, Damaged, Differs, Mismatch, Lost, Unsaid, Broken, Starved}
+use Rattle.pgb_create.specs.declared.fault.CreateFault.TheVariants.{InfoDamaged, HistoryDiffers, StanzaMismatch, ArchiveLost, FilesFound}
+use Rattle.pgb_create.specs.Creating.{IsStanzaFault, Damaged, Differs, Mismatch, Lost, Found, Unsaid, Broken, Starved}
 use Rattle.pgb_create.proofs.creating.of_stanza.Goals as goal
 
 pub returns-in-InfoDamaged : goal.returns-in-InfoDamaged
@@ -27,6 +27,10 @@ returns-in-Ok c = subst (λ (e : StanzaFault). IsStanzaFault e (Refused (Archive
 pub returns-in-Err : goal.returns-in-Err
 returns-in-Err c = subst (λ (e : StanzaFault). IsStanzaFault e NoMemory) (sym c.in-ArchiveLost.is)
     (Unsaid c.in-ArchiveLost.label)
+
+pub returns-in-FilesFound : goal.returns-in-FilesFound
+returns-in-FilesFound c = subst (λ (e : StanzaFault). IsStanzaFault e (Refused (FilesFound c.in-FilesFound.name)))
+    (sym c.in-FilesFound.is) (Found c.in-FilesFound.name)
 
 pub returns-in-Disk : goal.returns-in-Disk
 returns-in-Disk c = subst (λ (e : StanzaFault). IsStanzaFault e (Failed Repo)) (sym c.in-Disk.is) Broken
