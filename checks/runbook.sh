@@ -203,6 +203,7 @@ as_user "$tools/initdb" -D "$room/data17/main" -U postgres -A trust -E UTF8 --lo
 (cd data17 && "${as[@]}" "$tools/pg_upgrade" -b "$tools" -B "$tools" -d "$room/etc/main" -D "$room/data17/main" -U postgres -s "$room/socket" >output) ||
     complain "pg_upgrade: $(tail -n 5 data17/output)"
 sed -i "s#$room/data/main#$room/data17/main#; s#^hba_file.*##; s#--stanza=main #--stanza=main17 #" etc/main/postgresql.conf
+chown --reference=data/main conf
 typed 0 'An upgrade of PostgreSQL' 2 "s#/var/lib/postgresql/17/#$room/data17/#"
 rows 200 'after an upgrade'
 as_user "$room/bin/pgbackrest" --stanza=main17 info | grep -q 'full backup: ' || complain 'no backup after the upgrade'
