@@ -72,6 +72,9 @@ const READS: &[(&str, u64, Result<Option<&[u8]>, Stop>)] = &[
     ("absent", 0, Ok(None)),
     ("c/d/f/below", 3, Ok(None)),
     ("a/b/f", 7, Ok(None)),
+    // no file is so long
+    ("c/d/f", 1 << 63, Ok(Some(b""))),
+    ("c/d/f", u64::MAX, Ok(Some(b""))),
     ("c", 0, Err(Stop::Failed)),
 ];
 
@@ -139,15 +142,71 @@ fn tells_names_in_order(rt: HostRuntime) {
     let mut disk = RealDisk::new(rt);
     same(&rt, disk.open(&scratch.path), Ok(()));
     let fill =
-        "mkdir -p a/b a/empty; printf 0123456789 >a/f; printf 12 >a/b/f; >a/b-c; >z; ln -s f a/l";
+        "mkdir -p a/b a/empty; printf 0123456789 >a/f; printf 12 >a/b/f; >a/b-c; >z; >a/$(printf '\\377')";
     shell(&rt, &scratch, fill);
     check_found(&rt, rt.alloc(), &mut disk);
     check_no_names(&rt, rt.alloc(), &mut disk, "absent");
     check_no_names(&rt, rt.alloc(), &mut disk, "z");
-    // a name that isn't UTF-8
-    shell(&rt, &scratch, ">a/$(printf '\\377')");
-    assert!(rt; disk.names(rt.alloc(), "a").is_err());
-    same(&rt, disk.faults(), 1);
+    same(&rt, disk.faults(), 0);
+    well(&rt, scratch.remove());
+}
+
+// A node at a name of a repository, and whether names and folders are listed beside it, and the name is read.
+const NODES: &[(&str, bool, bool)] = &[
+    (">backup/s/x", true, true),
+    ("ln -s ../../other backup/s/x", false, false),
+    ("ln -s nowhere backup/s/x", false, false),
+    ("ln -s ../../folder backup/s/x", false, false),
+    ("mkfifo backup/s/x", false, false),
+    ("mkdir backup/s/x", true, false),
+    // as the original leaves it
+    (
+        "mkdir backup/s/label; ln -s label backup/s/latest",
+        true,
+        true,
+    ),
+];
+
+#[test]
+fn a_node_that_is_no_file_is_a_fault(rt: HostRuntime) {
+    let scratch = well(&rt, Scratch::new(rt, "nodes"));
+    let mut disk = RealDisk::new(rt);
+    let mut room = [0u8; 1];
+    same(&rt, disk.open(&scratch.path), Ok(()));
+    shell(&rt, &scratch, "mkdir -p backup/s folder; >other");
+    for (make, listed, read) in NODES {
+        shell(&rt, &scratch, make);
+        same(&rt, disk.names(rt.alloc(), "backup").is_ok(), *listed);
+        same(&rt, disk.folders(rt.alloc(), "backup/s").is_ok(), *listed);
+        same(&rt, disk.read("backup/s/x", 0, &mut room).is_ok(), *read);
+        shell(&rt, &scratch, "rm -rf backup/s/x");
+    }
+    well(&rt, scratch.remove());
+}
+
+// What stands at a name as it is begun: the new file is no other's.
+const BEGUN: &[&str] = &[
+    "true",
+    "printf old >x",
+    "printf old >other; ln other x",
+    "printf old >other; ln -s other x",
+    "mkfifo x",
+];
+
+const IS_NEW: &str = "[ \"$(stat -c '%F %s %a %h' x)\" = 'regular file 3 600 1' ]
+[ ! -e other ] || [ \"$(cat other)\" = old ]; rm -f x other";
+
+#[test]
+fn begins_a_new_file(rt: HostRuntime) {
+    let scratch = well(&rt, Scratch::new(rt, "begun"));
+    let mut disk = RealDisk::new(rt);
+    same(&rt, disk.open(&scratch.path), Ok(()));
+    for before in BEGUN {
+        shell(&rt, &scratch, before);
+        same(&rt, disk.begin("x"), Ok(()));
+        same(&rt, disk.append("x", b"new"), Ok(()));
+        shell(&rt, &scratch, IS_NEW);
+    }
     well(&rt, scratch.remove());
 }
 
@@ -172,16 +231,13 @@ fn tells_folders(rt: HostRuntime) {
     shell(
         &rt,
         &scratch,
-        "mkdir -p a/b/c a/empty; >a/f; >a/b/g; ln -s b a/l",
+        "mkdir -p a/b/c a/empty a/$(printf '\\377'); >a/f; >a/b/g",
     );
     check_two_folders(&rt, rt.alloc(), &mut disk);
     check_no_folders(&rt, rt.alloc(), &mut disk, "absent");
     check_no_folders(&rt, rt.alloc(), &mut disk, "a/empty");
     check_no_folders(&rt, rt.alloc(), &mut disk, "a/f");
-    // a name that isn't UTF-8
-    shell(&rt, &scratch, "mkdir a/$(printf '\\377')");
-    assert!(rt; disk.folders(rt.alloc(), "a").is_err());
-    same(&rt, disk.faults(), 1);
+    same(&rt, disk.faults(), 0);
     well(&rt, scratch.remove());
 }
 

@@ -8,6 +8,8 @@ mod control;
 #[cfg(test)]
 mod disk;
 #[cfg(test)]
+mod link;
+#[cfg(test)]
 mod locks;
 #[cfg(test)]
 mod same;

@@ -41,3 +41,83 @@ fn takes_and_releases(rt: HostRuntime) {
     same(&rt, take_anew(rt, &file, "one.lock"), FAULT);
     well(&rt, scratch.remove());
 }
+
+// What stands at the place of a lock, or of its folder, and what taking it answers.
+const PLACES: &[(&str, Result<Take, Stop>)] = &[
+    ("true", Ok(Take::Taken)),
+    ("mkdir lock", Ok(Take::Taken)),
+    ("mkdir -m 1777 lock", Ok(Take::Taken)),
+    ("mkdir -m 777 lock", Err(Stop::Failed)),
+    ("mkdir -m 720 lock", Err(Stop::Failed)),
+    ("mkdir other; ln -s other lock", Ok(Take::Taken)),
+    ("mkdir lock; mkfifo lock/one.lock", Err(Stop::Failed)),
+    (
+        "mkdir lock; >other; ln -s ../other lock/one.lock",
+        Err(Stop::Failed),
+    ),
+    (
+        "mkdir lock; ln -s ../absent lock/one.lock",
+        Err(Stop::Failed),
+    ),
+];
+
+#[test]
+fn is_made_at_no_other_place(rt: HostRuntime) {
+    let scratch = well(&rt, Scratch::new(rt, "places"));
+    let folder = well(&rt, scratch.below("lock"));
+    for (before, wanted) in PLACES {
+        shell(&rt, &scratch, before);
+        same(&rt, take_anew(rt, &folder, "one.lock").0, *wanted);
+        shell(&rt, &scratch, "[ ! -e absent ]; rm -rf lock other");
+    }
+    well(&rt, scratch.remove());
+}
+
+// A lock of a guarded repository that one program holds, and what another finds that has its locks elsewhere.
+const GUARDED: &[(&str, &str, Take)] = &[
+    ("s-archive.lock", "s-archive.lock", Take::Held),
+    ("s-backup.lock", "s-backup.lock", Take::Held),
+    ("s-archive.lock", "s-backup.lock", Take::Taken),
+    ("s-archive.lock", "t-archive.lock", Take::Taken),
+    ("absent-archive.lock", "absent-archive.lock", Take::Taken),
+    ("other.lock", "other.lock", Take::Taken),
+];
+
+#[test]
+fn guards_the_repository(rt: HostRuntime) {
+    let scratch = well(&rt, Scratch::new(rt, "guarded"));
+    shell(&rt, &scratch, "mkdir -p archive/s archive/t backup/s");
+    let one = well(&rt, scratch.below("one"));
+    let two = well(&rt, scratch.below("two"));
+    let mut first = RealLocks::new(rt);
+    let mut second = RealLocks::new(rt);
+    well(&rt, first.guard(&scratch.path));
+    well(&rt, second.guard(&scratch.path));
+    for (held, asked, wanted) in GUARDED {
+        same(&rt, first.take(&one, held), Ok(Take::Taken));
+        same(&rt, second.take(&two, asked), Ok(*wanted));
+        second.release(asked);
+        first.release(held);
+        // with the lock its folder is free
+        same(&rt, second.take(&two, held), Ok(Take::Taken));
+        second.release(held);
+    }
+    well(&rt, scratch.remove());
+}
+
+// The file of a lock that is held is taken away: who comes next makes another, and who guards finds it held.
+#[test]
+fn holds_without_its_file(rt: HostRuntime) {
+    let scratch = well(&rt, Scratch::new(rt, "exchanged"));
+    shell(&rt, &scratch, "mkdir -p archive/s");
+    let folder = well(&rt, scratch.below("lock"));
+    let mut first = RealLocks::new(rt);
+    well(&rt, first.guard(&scratch.path));
+    same(&rt, first.take(&folder, "s-archive.lock"), Ok(Take::Taken));
+    shell(&rt, &scratch, "rm lock/s-archive.lock");
+    let mut second = RealLocks::new(rt);
+    well(&rt, second.guard(&scratch.path));
+    same(&rt, second.take(&folder, "s-archive.lock"), Ok(Take::Held));
+    same(&rt, second.refusals(), 1);
+    well(&rt, scratch.remove());
+}

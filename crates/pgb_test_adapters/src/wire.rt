@@ -3,7 +3,9 @@ use crate::same::{same, shell, well};
 use pgb_adapters::RealWire;
 use pgb_outside::{Stop, Wire};
 use pgb_system::Scratch;
+use std::fs::metadata;
 use std::io::{Read, Write};
+use std::os::unix::fs::MetadataExt;
 use std::os::unix::net::UnixListener;
 use std::process::Abort;
 
@@ -62,5 +64,41 @@ fn says_and_hears(rt: HostRuntime) {
     drop(listener);
     same(&rt, wire.send(b"X"), Err(Stop::Failed));
     same(&rt, wire.faults(), 1);
+    well(&rt, scratch.remove());
+}
+
+#[test]
+fn waits_for_so_long(rt: HostRuntime) {
+    let scratch = well(&rt, Scratch::new(rt, "silent"));
+    let path = well(&rt, scratch.below("socket"));
+    let listener = well(&rt, UnixListener::bind(&rt, path.as_str()));
+    let mut wire = RealWire::new(rt);
+    wire.set_timeout(1);
+    same(&rt, wire.open(&path), Ok(()));
+    same(&rt, wire.send(b"question"), Ok(()));
+    same(&rt, wire.receive(&mut [0u8; 4]), Err(Stop::Failed));
+    // what isn't read stays, up to a limit
+    let much = well(&rt, Vec::from_elem(rt.alloc(), 0u8, 1 << 20));
+    same(&rt, wire.send(&much), Err(Stop::Failed));
+    same(&rt, wire.faults(), 2);
+    drop(listener);
+    well(&rt, scratch.remove());
+}
+
+// Whether a socket of this process's user is opened where this one is expected.
+#[test]
+fn opens_a_socket_of_its_owner(rt: HostRuntime) {
+    let scratch = well(&rt, Scratch::new(rt, "owner"));
+    let path = well(&rt, scratch.below("socket"));
+    let listener = well(&rt, UnixListener::bind(&rt, path.as_str()));
+    shell(&rt, &scratch, "[ \"$(id -u)\" != 0 ] || chown 65534 socket");
+    let user = well(&rt, metadata(&rt, path.as_str())).uid();
+    let mut wire = RealWire::new(rt);
+    wire.expect_owner(user.saturating_add(1));
+    same(&rt, wire.open(&path), Err(Stop::Failed));
+    same(&rt, wire.send(b"Q"), Err(Stop::Failed));
+    wire.expect_owner(user);
+    same(&rt, wire.open(&path), Ok(()));
+    drop(listener);
     well(&rt, scratch.remove());
 }
