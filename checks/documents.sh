@@ -1,5 +1,7 @@
 #!/usr/bin/env bash
-# The documents: README has at most 8 KiB; docs/ALL-DEFINITIONS.md is what docs/tables makes; each crate, option and status has its row;
+# The documents: README has at most 8 KiB and ARCHITECTURE 15; each definition has a comment; the numbers of TESTING and the rows of PROVED
+# are those that docs/counts makes; each crate, option and status has its row; the program's hints are
+# the advice of STATUS;
 # each link leads to a file and a heading that are there; no sentence has more than 40 words; and none has a word of the list below.
 # A cell of a table, an item of a list and a heading end a sentence; what stands in code counts as one word.
 # documents.sh FILE..: the sentences of these files alone.
@@ -97,8 +99,8 @@ check_links() {
         fi
     done < <(sed 's/`[^`]*`//g' "$1" | grep -o '](\([^)]*\))' | sed 's/^](//; s/)$//')
     while IFS= read -r name; do
-        if [ ! -e "$folder/$name" ] && [ ! -e "$name" ]; then complain "$1: it names $name, which isn't there"; fi
-    done < <(grep -o '[A-Za-z0-9_/-]*\.md' "$1" | sort -u)
+        if [ ! -e "$folder/$name" ] && [ ! -e "$name" ] && [ ! -e "docs/$name" ]; then complain "$1: it names $name, which isn't there"; fi
+    done < <(grep -o '[A-Za-z0-9_./-]*\.md' "$1" | sort -u)
 }
 
 if [ $# -gt 0 ]; then
@@ -109,16 +111,23 @@ fi
 bytes=$(wc -c <README.md)
 [ "$bytes" -le "$most_bytes" ] || complain "README.md has $bytes bytes"
 
-docs/tables | cmp -s - docs/ALL-DEFINITIONS.md ||
-    complain 'docs/ALL-DEFINITIONS.md is not what docs/tables makes: docs/tables > docs/ALL-DEFINITIONS.md'
+bytes=$(wc -c <docs/ARCHITECTURE.md)
+[ "$bytes" -le 15360 ] || complain "docs/ARCHITECTURE.md has $bytes bytes"
+
+while IFS= read -r word; do complain "$word has no comment"; done < <(docs/tables --bare)
+while IFS= read -r line; do complain "$line"; done < <(docs/counts --check)
 
 # listed WHAT FILE PATTERN: the file has a row of a table in which this stands.
 listed() {
     grep -q -e "^|.*$3" "$2" || complain "$2 has no row for $1"
 }
 
-# Each crate has a row of PROVED, each option one of MOVING, and each status that a crate below pgb_command has one of STATUS.
+# Each crate has a row of PROVED, each check one of TESTING, each option one of MOVING, and each status that a crate below pgb_command has one of STATUS.
 for crate in $(sed -n 's/^\([a-z_]*\):.*/\1/p' crates.txt); do listed "the crate $crate" docs/PROVED.md "\`$crate\`"; done
+for check in checks/*.sh; do
+    # (wrong bodies are tried crate by crate)
+    if [ "$check" != checks/edits.sh ]; then listed "$check" docs/TESTING.md "\`${check#checks/}\`"; fi
+done
 for option in $(sed -n 's/^row [A-Za-z0-9]* = [a-z_]* (codes "\([a-z0-9-]*\)").*/\1/p' crates/pgb_table/specs/Table.antt); do
     # (one of a tool that isn't built)
     if [ "$option" != number ]; then listed "the option $option" docs/MOVING.md "\`$option\`"; fi
@@ -130,8 +139,21 @@ for crate in pgb_command $below; do
     done
 done
 
-for file in README.md docs/*.md contrib/README.md; do
+# The program's hints: of each status from 2 on that has a line, the last column of STATUS, and a part of the line where there are several.
+advice() {
+    sed -n 's/^| \([0-9]*\) | .* | \(.*\) | \(.*\) |$/\1\t\2\t\3/p' docs/STATUS.md | tr -d '`' |
+        awk -F '\t' '$1 > 1 && $1 < 126 && $2 != "none" { printf "%03d\t%s\t%s\n", $1, $3, $2 }' | LC_ALL=C sort
+}
+hints() {
+    sed -z 's/\\\n *//g; s/\n */ /g' crates/pgbackrest/src/hints.rt | grep -o '( *"[0-9]*", "[^"]*", "[^"]*",\? *)' |
+        sed 's/^( *"\([0-9]*\)", "\([^"]*\)", "\([^"]*\)",\? *)$/\1\t\3\t\2/' | LC_ALL=C sort
+}
+if ! diff <(advice | cut -f 1,2) <(hints | cut -f 1,2); then complain 'the hints of the program are not the advice of docs/STATUS.md'; fi
+while IFS= read -r line; do complain "$line"; done < <(paste <(advice) <(hints | cut -f 3) |
+    awk -F '\t' 'index($3, $4) == 0 { printf "the line of %s has no part \"%s\"\n", $1, $4 }')
+
+for file in README.md docs/*.md docs/decisions/*.md contrib/README.md; do
     check_links "$file"
-    if [ "$file" != docs/ALL-DEFINITIONS.md ]; then check_words "$file"; fi
+    check_words "$file"
 done
 exit "$wrong"

@@ -7,7 +7,10 @@ if ! "${counted[@]}" true 2>/dev/null; then
     printf 'strace is not here: skipped\n'
     exit 77
 fi
-places=(--stanza=demo --pg1-path="$room/pg" --repo1-path="$room/repo")
+# (nobody else changes the folder that holds the root)
+mkdir held
+ln -s held/repo repo
+places=(--stanza=demo --pg1-path="$room/pg" --repo1-path="$room/held/repo")
 
 program() {
     "${counted[@]}" "$top/bin/pgbackrest" "${places[@]}" "$@"
@@ -86,15 +89,15 @@ note=repo/settled.note
 cp "$note" kept
 for damage in 'printf x >>"$note"' 'truncate -s -1 "$note"' 'printf settles | dd of="$note" conv=notrunc status=none' ': >"$note"'; do
     eval "$damage"
-    each 5 "where $damage"
+    each 6 "where $damage"
     cat kept >"$note"
 done
 each 1 'where the note is whole again'
 rm "$note"
-each 5 'without the note'
+each 6 'without the note'
 [ ! -e "$note" ] || complain 'a command that changes no name wrote the note'
 # The root has another name with a new note, and is noted once the clock is past that: at the second push or the one behind it.
-push 7 'without the note' 24
+push 8 'without the note' 24
 each 1 'behind the push that made the note'
 push 3 'behind the push that made the note' 25
 want 0 '' --lock-path="$room/lock" archive-push "$(segment 26)"
@@ -103,8 +106,8 @@ push 2 'with the new note' 27
 # More than eight folders are synced at once, by one sync of their file system that ends well. Of the two settlings of a stanza that of its
 # backups has two folders, which are synced singly.
 mkdir -p repo/archive/demo/15-1/00000002000000{00..09}
-strace -f -qq -o calls -e trace=execve,fsync,syncfs "$top/bin/pgbackrest" --stanza=demo --repo1-path="$room/repo" info >output 2>&1 || complain "info of many folders ended with $?"
-for call in '\["sync", "-f", ' 'syncfs([0-9]*) *= 0'; do
+strace -f -qq -o calls -e trace=execve,fsync,syncfs "$top/bin/pgbackrest" --stanza=demo --repo1-path="$room/held/repo" info >output 2>&1 || complain "info of many folders ended with $?"
+for call in '\["/usr/bin/sync", "-f", ' 'syncfs([0-9]*) *= 0'; do
     [ "$(grep -c "$call" calls)" = 1 ] || complain "of many folders there isn't one call of $call"
 done
 [ "$(grep -c ' fsync(' calls)" = 2 ] || complain "of many folders some are synced singly: $(grep -c ' fsync(' calls)"

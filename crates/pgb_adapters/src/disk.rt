@@ -1,16 +1,16 @@
 // The repository, on the system's files.
 ghost use Rattle.std.specs.Prelude.{◌≡◌, None, false, map, string_bytes};
 
-use crate::handles::Handles;
-use crate::place::{Place, no_memory};
+use crate::handles::{Handles, Writes};
+use crate::place::{Place, folder_of, no_memory, unless_absent};
 use crate::progress::Progress;
-use crate::settle::{Settled, settle, settle_in, sync_files};
+use crate::settle::{Settled, are_synced_at_once, settle, settle_in, sync_files};
 use crate::walk::{folders_in, plain_nodes_below};
 use pgb_outside::{Disk, Found, Node, Seen, Stop};
 use pgb_system::Faults;
-use std::alloc::Global;
-use std::io;
+use std::alloc::{AllocError, Global};
 use std::io::ErrorKind;
+use std::{fs, io};
 
 /// A disk below a folder of the system. It tells nothing of what it holds.
 #[derive(Drop)]
@@ -18,6 +18,10 @@ pub struct RealDisk {
     place: Place,
     handles: Handles,
     settled: Settled,
+    // whether the files of a backup are synced all at once: None where it isn't decided yet
+    is_swift: Option<bool>,
+    // the file of a server that runs, where no list of backups may be written beside it
+    server: Option<String>,
     progress: Progress,
     faults: Faults,
 }
@@ -30,9 +34,23 @@ impl RealDisk {
             settled: Settled::new(&rt),
             handles: Handles::new(rt.alloc()),
             place: Place::new(rt),
+            is_swift: None,
+            server: None,
             progress: Progress::new(rt),
             faults: Faults::new(),
         }
+    }
+
+    /// From now on this process is the only one that changes names below this folder of the root.
+    pub fn is_only_writer_in(&mut self, folder: &'static str) {
+        self.settled.noted.own(folder);
+    }
+
+    /// From now on the list of backups isn't written where something stands at this path, until it was written once: a
+    /// server that runs has its file there, and an offline backup may not be listed beside it.
+    pub fn refuse_list_beside(&mut self, path: &str) -> Result<(), AllocError> {
+        self.server = Some(String::from_str(self.place.rt.alloc(), path)?);
+        Ok(())
     }
 
     /// From now on a person is told how many bytes were written.
@@ -70,7 +88,8 @@ impl Disk for RealDisk {
 
     fn open(&mut self, path: &str) -> Result<(), Stop> {
         self.handles.forget();
-        self.settled.forget();
+        self.settled.forget_root();
+        self.is_swift = None;
         let done = self.place.open(path);
         self.faults.told(&self.place.call("opening of", ""), done)
     }
@@ -93,7 +112,13 @@ impl Disk for RealDisk {
     }
 
     fn begin(&mut self, name: &str) -> Result<(), Stop> {
-        let done = begin_in_folders(&self.place, &mut self.handles, &mut self.settled, name);
+        let done = begin_in_folders(
+            &self.place,
+            &mut self.handles,
+            &mut self.settled,
+            &mut self.is_swift,
+            name,
+        );
         self.faults
             .told(&self.place.call("creation of", name), done)
     }
@@ -112,9 +137,14 @@ impl Disk for RealDisk {
     }
 
     fn rename(&mut self, from: &str, to: &str) -> Result<(), Stop> {
-        self.handles.forget_name(from);
-        self.handles.forget_name(to);
-        let done = rename_into_folders(&self.place, &mut self.settled, from, to);
+        let done = move_file(
+            &self.place,
+            &mut self.handles,
+            &mut self.settled,
+            &mut self.server,
+            from,
+            to,
+        );
         self.faults.told(&self.place.move_of(from, to), done)
     }
 
@@ -125,17 +155,19 @@ impl Disk for RealDisk {
     }
 
     fn sync_below(&mut self, folder: &str) -> Result<(), Stop> {
-        let done = sync_below(&self.place, folder);
+        let done = sync_below(&self.place, &mut self.handles, &mut self.settled, folder);
         self.faults.told(&self.place.call("sync of", folder), done)
     }
 
     fn settle(&mut self, folder: &str) -> Result<(), Stop> {
-        let done = settle(&self.place, &mut self.settled, folder);
+        let none_lost = self.handles.demand_none_lost();
+        let done = none_lost.and_then(|()| settle(&self.place, &mut self.settled, folder));
         self.faults.told(&self.place.call("sync of", folder), done)
     }
 
     fn settle_in(&mut self, folder: &str) -> Result<(), Stop> {
-        let done = settle_in(&self.place, &mut self.settled, folder);
+        let none_lost = self.handles.demand_none_lost();
+        let done = none_lost.and_then(|()| settle_in(&self.place, &mut self.settled, folder));
         self.faults.told(&self.place.call("sync of", folder), done)
     }
 }
@@ -152,9 +184,16 @@ fn names_below(alloc: Global, place: &Place, folder: &str) -> io::Result<Vec<Fou
     Ok(found)
 }
 
-fn sync_below(place: &Place, folder: &str) -> io::Result<()> {
+fn sync_below(
+    place: &Place,
+    handles: &mut Handles,
+    settled: &mut Settled,
+    folder: &str,
+) -> io::Result<()> {
+    handles.demand_none_lost()?;
+    handles.finish_all()?;
     let files = names_below(place.rt.alloc(), place, folder)?;
-    sync_files(place, folder, &files)
+    sync_files(place, handles, &mut settled.whole, folder, &files)
 }
 
 // Folders are there by their names alone, so those that lack are made.
@@ -162,37 +201,103 @@ fn begin_in_folders(
     place: &Place,
     handles: &mut Handles,
     settled: &mut Settled,
+    is_swift: &mut Option<bool>,
     name: &str,
 ) -> io::Result<()> {
     settled.noted.change(place, name)?;
-    match begin_file(place, handles, name) {
+    let before = settled.noted.before_first(place);
+    match begin_file(place, handles, settled, is_swift, name) {
         Err(e) if e.kind() == ErrorKind::NotFound => {
             settled.forget();
             place.make_folders_for(name)?;
-            begin_file(place, handles, name)
+            begin_file(place, handles, settled, is_swift, name)
         }
-        done => done,
+        Ok(()) => {
+            settled.noted.compare(place, before);
+            Ok(())
+        }
+        Err(e) => Err(e),
     }
 }
 
-// Whether a file is synced alone, as one of the log is. Those of a backup are many, and synced together: the file
-// system then has one place for the bytes of many. A segment that is fetched ahead isn't synced at all, and mostly goes
-// before it is written.
-fn is_synced_alone(name: &str) -> bool {
-    if name.starts_with("backup/") {
-        return false;
+fn begin_file(
+    place: &Place,
+    handles: &mut Handles,
+    settled: &mut Settled,
+    is_swift: &mut Option<bool>,
+    name: &str,
+) -> io::Result<()> {
+    let writes = if is_of_backup(name) {
+        writes_of_backup(place, settled, is_swift, name)?
+    } else if name.split('/').nth(2) == Some("in") {
+        // a segment that is fetched ahead isn't synced at all, and mostly goes before it is written
+        Writes::Sometime
+    } else {
+        // a file of the log is synced alone, and so is a list
+        Writes::Early
+    };
+    handles.begin(place, name, writes)
+}
+
+// Whether it lies in the folder of a backup.
+fn is_of_backup(name: &str) -> bool {
+    name.starts_with("backup/") && name.split('/').nth(3).is_some()
+}
+
+// Files of a backup are many, and synced together where that can be believed: the file system then has one place for
+// the bytes of many.
+fn writes_of_backup(
+    place: &Place,
+    settled: &mut Settled,
+    is_swift: &mut Option<bool>,
+    name: &str,
+) -> io::Result<Writes> {
+    if is_swift.is_none() {
+        *is_swift = are_synced_at_once(place, &mut settled.whole, folder_of(name))?;
     }
-    match name.split('/').nth(2) {
-        Some(folder) => folder != "in",
-        None => true,
+    match *is_swift {
+        Some(true) => Ok(Writes::Sometime),
+        _ => Ok(Writes::BeforeClose),
     }
 }
 
-fn begin_file(place: &Place, handles: &mut Handles, name: &str) -> io::Result<()> {
-    if is_synced_alone(name) {
-        return handles.begin_to_sync(place, name);
+fn move_file(
+    place: &Place,
+    handles: &mut Handles,
+    settled: &mut Settled,
+    server: &mut Option<String>,
+    from: &str,
+    to: &str,
+) -> io::Result<()> {
+    if is_list(to) {
+        demand_no_server(place, server)?;
     }
-    handles.begin(place, name)
+    handles.close(from)?;
+    handles.forget_name(to);
+    rename_into_folders(place, settled, from, to)?;
+    if is_list(to) {
+        *server = None;
+        handles.close_written()?;
+    }
+    Ok(())
+}
+
+// Whether it is the list of a stanza's backups.
+fn is_list(name: &str) -> bool {
+    name.starts_with("backup/") && name.ends_with("/backup.info")
+}
+
+fn demand_no_server(place: &Place, server: &Option<String>) -> io::Result<()> {
+    let Some(path) = server else {
+        return Ok(());
+    };
+    match unless_absent(fs::symlink_metadata(&place.rt, path.as_str()))? {
+        Some(_) => Err(io::Error::new(
+            ErrorKind::Other,
+            "a server was started in the data folder meanwhile",
+        )),
+        None => Ok(()),
+    }
 }
 
 fn rename_into_folders(

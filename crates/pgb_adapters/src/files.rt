@@ -2,6 +2,7 @@
 ghost use Rattle.std.specs.Prelude.{◌≡◌, ◌<◌, ◌≤◌, ◌+◌, ◌^◌, None, IfOk, IfSome, length, map, string_bytes};
 ghost use Rattle.pgb_outside.specs.States.{last_opened};
 
+use crate::control::{Control, is_control};
 use crate::handles::Handles;
 use crate::place::Place;
 use pgb_outside::{Files, Stop};
@@ -14,6 +15,7 @@ use std::io::ErrorKind;
 pub struct RealFiles {
     place: Place,
     handles: Handles,
+    control: Control,
     faults: Faults,
 }
 
@@ -24,6 +26,7 @@ impl RealFiles {
         RealFiles {
             handles: Handles::new(rt.alloc()),
             place: Place::new(rt),
+            control: Control::new(),
             faults: Faults::new(),
         }
     }
@@ -38,12 +41,20 @@ impl Files for RealFiles {
 
     fn open(&mut self, root: &str) -> Result<(), Stop> {
         self.handles.forget();
+        self.control.forget();
         let done = self.place.enter(root);
         self.faults.told(&self.place.call("opening of", ""), done)
     }
 
     fn read(&mut self, name: &str, at: u64, buf: &mut [u8]) -> Result<Option<usize>, Stop> {
-        let done = read_file(&self.place, &mut self.handles, name, at, buf);
+        let done = read_file(
+            &self.place,
+            &mut self.handles,
+            &mut self.control,
+            name,
+            at,
+            buf,
+        );
         self.faults.told(&self.place.call("reading of", name), done)
     }
 }
@@ -52,6 +63,7 @@ impl Files for RealFiles {
 fn read_file(
     place: &Place,
     handles: &mut Handles,
+    control: &mut Control,
     name: &str,
     at: u64,
     buf: &mut [u8],
@@ -59,14 +71,31 @@ fn read_file(
     ensures room { IfOk result (λ n. IfSome n (λ n. n ≤ length buf.old)) }
     ensures within { IfOk result (λ n. IfSome n (λ n. at + n < 2 ^ 64)) }
 {
-    if !handles.goes_on(name, at) && !place.is_file(name)? {
-        return Ok(None);
-    }
-    let Some(count) = handles.read(place, name, at, buf)? else {
+    let read = read_bytes(place, handles, control, name, at, buf)?;
+    let Some(count) = read else {
         return Ok(None);
     };
     if at.checked_add(count as u64).is_none() {
         return Err(io::Error::from(ErrorKind::InvalidInput));
     }
     Ok(Some(count))
+}
+
+fn read_bytes(
+    place: &Place,
+    handles: &mut Handles,
+    control: &mut Control,
+    name: &str,
+    at: u64,
+    buf: &mut [u8],
+) -> io::Result<Option<usize>>
+    ensures { IfOk result (λ n. IfSome n (λ n. n ≤ length buf.old)) }
+{
+    if !handles.goes_on(name, at) && !place.is_file(name)? {
+        return Ok(None);
+    }
+    if is_control(name) {
+        return control.read(place, at, buf);
+    }
+    handles.read(place, name, at, buf)
 }

@@ -15,12 +15,39 @@ const MOST: usize = 64;
 // So many bytes at once the system is asked to begin with.
 const PART: u64 = 2 << 20;
 
+// What is said where a file was closed whose bytes may not have come to the disk.
+const LOST: &str = "bytes that were written to a file were lost";
+
+/// When the bytes of a file come to the disk.
+#[derive(Clone, Copy, PartialEq)]
+pub enum Writes {
+    /// When the system chooses.
+    Sometime,
+    /// The system begins part by part, so that a sync waits for the last one alone.
+    Early,
+    /// It begins so, and the file is synced before it is closed: a fault of that writing is told by the file that wrote.
+    BeforeClose,
+}
+
 #[derive(Drop)]
 struct Kept {
     name: String,
     file: File,
     // None where the system chooses when it writes its bytes
     waiting: Option<Waiting>,
+    // whether it is synced before it is closed
+    is_owed: bool,
+}
+
+impl Kept {
+    // Makes its bytes durable where that is owed.
+    fn finish(&mut self) -> io::Result<()> {
+        if self.is_owed {
+            self.file.sync_all()?;
+            self.is_owed = false;
+        }
+        Ok(())
+    }
 }
 
 // The bytes of a file that the system wasn't asked to write: where they begin, and how many they are.
@@ -54,6 +81,10 @@ pub struct Handles {
     // the one that was opened last at the end
     writing: Vec<Kept>,
     reading: Option<Kept>,
+    // whether files are synced before they are closed
+    is_owing: bool,
+    // whether one was closed whose bytes may not have come to the disk
+    has_lost: bool,
 }
 
 impl Handles {
@@ -61,6 +92,8 @@ impl Handles {
         Handles {
             writing: Vec::new(alloc),
             reading: None,
+            is_owing: false,
+            has_lost: false,
         }
     }
 
@@ -69,8 +102,55 @@ impl Handles {
         ensures writing { self.new.writing.items ≡ [] }
         ensures reading { self.new.reading ≡ None }
     {
+        // what was lost is told by the next sync
+        let _ = self.finish_all();
         self.writing.clear();
         self.reading = None;
+        self.is_owing = false;
+    }
+
+    /// Whether files are synced before they are closed.
+    pub fn is_owing(&self) -> bool {
+        self.is_owing
+    }
+
+    /// Fails once a file was closed whose bytes may not have come to the disk.
+    pub fn demand_none_lost(&self) -> io::Result<()> {
+        if self.has_lost {
+            return Err(io::Error::new(ErrorKind::Other, LOST));
+        }
+        Ok(())
+    }
+
+    /// Makes the bytes durable of each open file of which that is owed.
+    pub fn finish_all(&mut self) -> io::Result<()> {
+        for kept in &mut self.writing {
+            if let Err(e) = kept.finish() {
+                self.has_lost = true;
+                return Err(e);
+            }
+        }
+        Ok(())
+    }
+
+    /// Closes all files that are written.
+    pub fn close_written(&mut self) -> io::Result<()> {
+        let done = self.finish_all();
+        self.writing.clear();
+        done
+    }
+
+    /// Closes the file of a name that goes on to be used: its bytes are durable where that is owed.
+    pub fn close(&mut self, name: &str) -> io::Result<()> {
+        let mut done = Ok(());
+        for kept in &mut self.writing {
+            if kept.name.as_str() == name {
+                done = kept.finish();
+            }
+        }
+        self.has_lost = self.has_lost || done.is_err();
+        self.forget_name(name);
+        done
     }
 
     /// Closes the files of a name, since it comes to mean another file.
@@ -82,24 +162,17 @@ impl Handles {
     }
 
     /// Makes the name an empty file.
-    pub fn begin(&mut self, place: &Place, name: &str) -> io::Result<()> {
+    pub fn begin(&mut self, place: &Place, name: &str, writes: Writes) -> io::Result<()> {
         let file = place.create(name)?;
-        self.write_in(place, name, file, None)
-    }
-
-    /// Makes the name an empty file that is going to be synced. The system begins to write it part by part, so that the
-    /// sync waits for the last one alone.
-    pub fn begin_to_sync(&mut self, place: &Place, name: &str) -> io::Result<()> {
-        let file = place.create(name)?;
-        self.write_in(place, name, file, Some(Waiting { from: 0, count: 0 }))
+        self.write_in(place, name, file, writes)
     }
 
     /// Makes the name an empty file where nothing stands at it, and tells whether it did.
-    pub fn begin_new(&mut self, place: &Place, name: &str) -> io::Result<bool> {
+    pub fn begin_new(&mut self, place: &Place, name: &str, writes: Writes) -> io::Result<bool> {
         let Some(file) = place.create_new(name)? else {
             return Ok(false);
         };
-        self.write_in(place, name, file, None)?;
+        self.write_in(place, name, file, writes)?;
         Ok(true)
     }
 
@@ -109,35 +182,67 @@ impl Handles {
         place: &Place,
         name: &str,
         file: File,
-        waiting: Option<Waiting>,
+        writes: Writes,
     ) -> io::Result<()> {
-        let kept = keep(place, name, file, waiting)?;
+        let mut kept = keep(place, name, file)?;
+        if writes != Writes::Sometime {
+            kept.waiting = Some(Waiting { from: 0, count: 0 });
+        }
+        if writes == Writes::BeforeClose {
+            kept.is_owed = true;
+            self.is_owing = true;
+        }
         self.writing.retain(|kept| kept.name.as_str() != name);
         if self.writing.len() >= MOST {
-            self.writing.remove(0);
+            self.close_first()?;
         }
         self.writing.push(kept).map_err(no_memory)
     }
 
+    // Closes the file that was opened first.
+    fn close_first(&mut self) -> io::Result<()> {
+        let done = match self.writing.first_mut() {
+            Some(first) => first.finish(),
+            None => return Ok(()),
+        };
+        self.writing.remove(0);
+        self.has_lost = self.has_lost || done.is_err();
+        done
+    }
+
     /// Adds bytes at the end of a file that is there.
     pub fn append(&mut self, place: &Place, name: &str, bytes: &[u8]) -> io::Result<()> {
+        let is_owing = self.is_owing;
         let kept = self.reach_end(place, name)?;
         kept.file.write_all(bytes)?;
         if let Some(waiting) = &mut kept.waiting {
             waiting.add(&kept.file, bytes.len());
         }
+        kept.is_owed = is_owing;
         Ok(())
     }
 
     /// Makes the bytes durable of a file that is there.
     pub fn sync(&mut self, place: &Place, name: &str) -> io::Result<()> {
-        self.reach_end(place, name)?.file.sync_all()
+        self.demand_none_lost()?;
+        let kept = self.reach_end(place, name)?;
+        kept.file.sync_all()?;
+        kept.is_owed = false;
+        Ok(())
+    }
+
+    /// The same, by a file of its own where none is open.
+    pub fn sync_once(&mut self, place: &Place, name: &str) -> io::Result<()> {
+        if self.is_written(name) {
+            return self.sync(place, name);
+        }
+        place.open_end(name)?.sync_all()
     }
 
     fn reach_end(&mut self, place: &Place, name: &str) -> io::Result<&mut Kept> {
         if !self.is_written(name) {
             let file = place.open_end(name)?;
-            self.write_in(place, name, file, None)?;
+            self.write_in(place, name, file, self.reopened())?;
         }
         match self
             .writing
@@ -146,6 +251,15 @@ impl Handles {
         {
             Some(kept) => Ok(kept),
             None => Err(io::Error::from(ErrorKind::NotFound)),
+        }
+    }
+
+    // How a file is written on that was closed meanwhile.
+    fn reopened(&self) -> Writes {
+        if self.is_owing {
+            Writes::BeforeClose
+        } else {
+            Writes::Sometime
         }
     }
 
@@ -177,7 +291,7 @@ impl Handles {
             let Some(file) = place.open_start(name)? else {
                 return Ok(None);
             };
-            self.reading = Some(keep(place, name, file, None)?);
+            self.reading = Some(keep(place, name, file)?);
         }
         match &self.reading {
             Some(kept) => read_some(&kept.file, at, buf).map(Some),
@@ -186,12 +300,13 @@ impl Handles {
     }
 }
 
-fn keep(place: &Place, name: &str, file: File, waiting: Option<Waiting>) -> io::Result<Kept> {
+fn keep(place: &Place, name: &str, file: File) -> io::Result<Kept> {
     let name = String::from_str(place.rt.alloc(), name)?;
     Ok(Kept {
         name,
         file,
-        waiting,
+        waiting: None,
+        is_owed: false,
     })
 }
 
@@ -204,8 +319,8 @@ fn is_of(kept: &Option<Kept>, name: &str) -> bool
     }
 }
 
-// Reads again where a signal came. No file has bytes from 2^63 on.
-fn read_some(file: &File, at: u64, buf: &mut [u8]) -> io::Result<usize>
+/// Bytes of a file from a place on. It reads again where a signal came. No file has bytes from 2^63 on.
+pub fn read_some(file: &File, at: u64, buf: &mut [u8]) -> io::Result<usize>
     ensures { IfOk result (λ n. n ≤ length buf.old) }
 {
     if i64::try_from(at).is_err() {

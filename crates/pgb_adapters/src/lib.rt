@@ -10,19 +10,24 @@
 
 mod calling;
 mod clock;
+mod control;
 mod disk;
 mod files;
 mod guarding;
 mod handles;
 mod input;
 mod locks;
+mod mounts;
 mod noted;
+mod phase;
 mod place;
 mod progress;
 mod replies;
+mod restoring;
 mod settle;
 mod sink;
 mod source;
+mod syncing;
 mod tree;
 mod walk;
 mod wire;

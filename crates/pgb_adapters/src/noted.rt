@@ -73,6 +73,14 @@ pub struct Noted {
     durable: Option<State>,
     // the node that was changed last of those that were seen
     latest: Option<State>,
+    // the folders below which no other process changes names, since this one holds their locks
+    own: Vec<&'static str>,
+    // whether what was changed last lies in it
+    is_own: bool,
+    // whether this process has looked for what its first new name did to the times of its folder
+    is_compared: bool,
+    // the device whose folders keep their times whatever is changed in them
+    blind: Option<u64>,
 }
 
 impl Noted {
@@ -83,16 +91,52 @@ impl Noted {
             changed: None,
             durable: None,
             latest: None,
+            own: Vec::new(rt.alloc()),
+            is_own: false,
+            is_compared: false,
+            blind: None,
         }
     }
 
-    /// This process changes a name. No other changes one in its folder meanwhile: that is what the locks are for.
+    /// From now on no other process changes names below this folder: that is what its lock is for. Without memory that
+    /// isn't known, and costs a few syncs.
+    pub fn own(&mut self, folder: &'static str) {
+        let _ = self.own.push(folder);
+    }
+
+    /// This process changes a name.
     pub fn change(&mut self, place: &Place, name: &str) -> io::Result<()> {
         self.young = None;
         self.durable = None;
+        self.is_own = self.own.iter().any(|own| is_below(name, own));
         let path = place.path_of(name)?;
         self.changed = Some(String::from_str(place.rt.alloc(), folder_of(&path))?);
         Ok(())
+    }
+
+    /// The folder in which this process is about to make its first name: None once it was compared, or where there is
+    /// none.
+    pub fn before_first(&self, place: &Place) -> Option<State> {
+        if self.is_compared {
+            return None;
+        }
+        state_at(place, self.changed.as_ref()?)
+    }
+
+    /// A name was made in a folder that was so before. Where that is seen by nothing, the times of its device say
+    /// nothing.
+    pub fn compare(&mut self, place: &Place, before: Option<State>) {
+        if let (Some(before), Some(changed)) = (before, &self.changed) {
+            self.is_compared = true;
+            if state_at(place, changed) == Some(before) {
+                self.blind = Some(before.device);
+            }
+        }
+    }
+
+    /// Whether a folder in this state has the names that it had in it before.
+    pub fn believes(&self, state: State) -> bool {
+        state.is_fine() && self.blind != Some(state.device)
     }
 
     /// Its file system's clock is past the times of the node that is seen.
@@ -120,8 +164,9 @@ impl Noted {
     /// Whether the names in a folder that was seen in this state are durable: these states were told, or this process
     /// made them so.
     pub fn is_durable(&self, told: &[State], path: &str, state: State) -> bool {
-        let is_own = self.durable == Some(state) && self.has_changed(path);
-        is_own || told.iter().any(|durable| *durable == state)
+        let is_known = self.durable == Some(state) && self.has_changed(path)
+            || told.iter().any(|durable| *durable == state);
+        is_known && self.believes(state)
     }
 
     /// Makes the names in a folder durable that was seen in this state.
@@ -135,23 +180,23 @@ impl Noted {
     }
 
     /// The names in a folder are durable that was in this state before they were made so, and is after it. That is
-    /// noted where the clock was past the state before it, or where no other process changes names in the folder.
-    /// Without memory it isn't.
+    /// noted where the clock was past the state before it, or where no other process changes names in the folder: this
+    /// one did, and holds its lock. Without memory it isn't.
     pub fn add(&mut self, path: &str, state: State) {
         let is_past = self
             .latest
             .as_ref()
             .is_some_and(|latest| state.is_before(latest));
-        let is_changed = self.has_changed(path);
-        if !state.is_fine() || self.synced.len() >= MOST_LINES {
+        let is_own = self.is_own && self.has_changed(path);
+        if !self.believes(state) || self.synced.len() >= MOST_LINES {
             return;
         }
         if is_past {
             let _ = self.synced.insert(0, state);
-        } else if is_changed {
+        } else if is_own {
             self.young = Some(state);
         }
-        if is_changed {
+        if is_own {
             self.durable = Some(state);
         }
     }
@@ -172,6 +217,17 @@ impl Noted {
             self.synced.clear();
         }
     }
+}
+
+fn is_below(name: &str, folder: &str) -> bool {
+    name.strip_prefix(folder)
+        .is_some_and(|rest| rest.starts_with('/'))
+}
+
+fn state_at(place: &Place, path: &str) -> Option<State> {
+    fs::metadata(&place.rt, path)
+        .ok()
+        .map(|seen| State::of(&seen))
 }
 
 fn is_in_state(folder: &File, state: State) -> bool {

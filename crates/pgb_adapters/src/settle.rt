@@ -1,10 +1,13 @@
 // Makes the names in a folder durable, and the bytes of the files below one.
+use crate::handles::Handles;
+use crate::mounts::may_hold_file_systems;
 use crate::noted::{MOST_LINES, Noted, State};
 use crate::place::{Place, folder_of, no_memory, unless_absent};
+use crate::syncing::WholeSync;
 use pgb_outside::Found;
 use std::fs::Metadata;
+use std::io::ErrorKind;
 use std::os::unix::fs::MetadataExt;
-use std::process::{Command, Stdio};
 use std::{fs, io};
 
 // With more folders or files than these, one sync of their file system is tried first.
@@ -24,18 +27,29 @@ struct Folder {
 #[derive(Drop)]
 pub struct Settled {
     folders: Vec<Folder>,
+    // whether the root's own name is durable
+    has_root: bool,
     pub noted: Noted,
+    pub whole: WholeSync,
 }
 
 impl Settled {
     pub fn new(rt: &HostRuntime) -> Self {
         Settled {
             folders: Vec::new(rt.alloc()),
+            has_root: false,
             noted: Noted::new(rt),
+            whole: WholeSync::new(),
         }
     }
 
-    /// A folder was made, or another root is opened.
+    /// Another root is opened.
+    pub fn forget_root(&mut self) {
+        self.has_root = false;
+        self.forget();
+    }
+
+    /// A folder was made.
     pub fn forget(&mut self) {
         self.folders.clear();
     }
@@ -51,7 +65,7 @@ impl Settled {
 
     // Another process may make a folder within one second.
     fn has(&self, path: &str, state: State) -> bool {
-        state.is_fine()
+        self.noted.believes(state)
             && self.folders.iter().any(|settled| settled.state == state
                 && settled.path.as_str() == path)
     }
@@ -74,11 +88,13 @@ pub fn settle(place: &Place, settled: &mut Settled, folder: &str) -> io::Result<
     if next < folders.len() && may_hold_file_systems(place) {
         next = add_folders_below(place, next, usize::MAX, &mut folders)?;
     }
+    let told = settled.noted.told(place);
+    let are_many = next < folders.len() || untold(&settled.noted, &told, &folders) > FEW;
+    see_each(&mut settled.noted, &folders);
+    settle_root(place, settled, &told)?;
+    let is_done = are_many && lie_with_root(place, &folders)? && sync_at_once(place, settled);
     let noted = &mut settled.noted;
-    let told = noted.told(place);
-    let are_many = next < folders.len() || untold(noted, &told, &folders) > FEW;
-    see_each(noted, &folders);
-    if are_many && lie_on_one_device(&folders) && sync_file_system(place).unwrap_or(false) {
+    if is_done {
         note_each(place, noted, &folders);
     } else {
         add_folders_below(place, next, usize::MAX, &mut folders)?;
@@ -94,34 +110,85 @@ pub fn settle(place: &Place, settled: &mut Settled, folder: &str) -> io::Result<
 pub fn settle_in(place: &Place, settled: &mut Settled, folder: &str) -> io::Result<()> {
     let mut folders = folders_above(place, settled, folder)?;
     add_folder(place, place.path_of(folder)?, &mut folders)?;
+    let told = settled.noted.told(place);
+    see_each(&mut settled.noted, &folders);
+    settle_root(place, settled, &told)?;
     let noted = &mut settled.noted;
-    let told = noted.told(place);
-    see_each(noted, &folders);
     sync_each(place, noted, &told, &folders)?;
     noted.write(place);
     settled.add(folders)
 }
 
-/// Makes the bytes of these files durable, which are all that lie below the folder.
-pub fn sync_files(place: &Place, folder: &str, files: &[Found]) -> io::Result<()> {
-    let are_many = files.len() > FEW;
-    if are_many && is_on_file_system(place, folder)? && sync_file_system(place).unwrap_or(false) {
-        return Ok(());
+/// Makes the bytes of these files durable, which are all that lie below the folder. Where this process syncs each that
+/// it writes, it does so here too. Else they may have been closed unsynced, and then a failed sync of all isn't made up
+/// for by one of each: the system may have forgotten what was lost.
+pub fn sync_files(
+    place: &Place,
+    handles: &mut Handles,
+    whole: &mut WholeSync,
+    folder: &str,
+    files: &[Found],
+) -> io::Result<()> {
+    let is_swift = files.len() > FEW && !handles.is_owing();
+    if is_swift && are_synced_at_once(place, whole, folder)?.unwrap_or(false) {
+        match whole.run(place) {
+            Ok(true) => return Ok(()),
+            Ok(false) => return Err(io::Error::new(
+                ErrorKind::Other,
+                "its file system's sync failed",
+            )),
+            Err(_) => {}
+        }
     }
     for file in files {
-        place.open_end(&file.name)?.sync_all()?;
+        handles.sync_once(place, &file.name)?;
     }
     Ok(())
 }
 
-// Whether the folder, and so all below it, lies on the root's file system.
-fn is_on_file_system(place: &Place, folder: &str) -> io::Result<bool> {
-    if may_hold_file_systems(place) {
-        return Ok(false);
+/// Whether one sync of the root's file system makes durable all that is written below the folder: None where that is
+/// absent.
+pub fn are_synced_at_once(
+    place: &Place,
+    whole: &mut WholeSync,
+    folder: &str,
+) -> io::Result<Option<bool>> {
+    let Some(seen) = folder_at(place, &place.path_of(folder)?)? else {
+        return Ok(None);
+    };
+    let is_with_root = seen.dev() == device_of_root(place)?;
+    Ok(Some(is_with_root && !may_hold_file_systems(place) && whole.serves(place)))
+}
+
+// The root may have been made by a command that was killed then, or by hand. Where its folder isn't to be read, it
+// can't be synced either.
+fn settle_root(place: &Place, settled: &mut Settled, told: &[State]) -> io::Result<()> {
+    if settled.has_root {
+        return Ok(());
     }
-    let root = fs::metadata(&place.rt, place.root())?;
-    let told = fs::metadata(&place.rt, place.path_of(folder)?.as_str())?;
-    Ok(told.dev() == root.dev())
+    let root = place.root().trim_end_matches('/');
+    let outer = String::from_str(place.rt.alloc(), folder_of(root))?;
+    if let Some(seen) = folder_at(place, &outer)? {
+        let state = State::of(&seen);
+        let is_mounted = seen.dev() != device_of_root(place)?;
+        if !is_mounted && !settled.noted.is_durable(told, &outer, state) {
+            unless_denied(settled.noted.sync(place, &outer, state))?;
+        }
+    }
+    settled.has_root = true;
+    Ok(())
+}
+
+fn unless_denied(done: io::Result<()>) -> io::Result<()> {
+    match done {
+        Err(e) if e.kind() == ErrorKind::PermissionDenied => Ok(()),
+        done => done,
+    }
+}
+
+// One sync of the root's whole file system, where it can be believed. Of a failure each folder tells again.
+fn sync_at_once(place: &Place, settled: &mut Settled) -> bool {
+    settled.whole.serves(place) && settled.whole.run(place).unwrap_or(false)
 }
 
 // How many of the folders are to be synced.
@@ -261,49 +328,12 @@ fn add_folders_in(place: &Place, path: &str, folders: &mut Vec<Folder>) -> io::R
     Ok(())
 }
 
-fn lie_on_one_device(folders: &[Folder]) -> bool {
-    match folders.first() {
-        Some(first) => folders
-            .iter()
-            .all(|folder| folder.state.device == first.state.device),
-        None => true,
-    }
+// Whether all lie on the root's device, as the root is now.
+fn lie_with_root(place: &Place, folders: &[Folder]) -> io::Result<bool> {
+    let device = device_of_root(place)?;
+    Ok(folders.iter().all(|folder| folder.state.device == device))
 }
 
-// Whether another file system may lie below the root: only where the system tells all that are mounted, and none of
-// them does, it doesn't.
-fn may_hold_file_systems(place: &Place) -> bool {
-    mounted_below(place).unwrap_or(true)
-}
-
-fn mounted_below(place: &Place) -> io::Result<bool> {
-    let root = fs::canonicalize(&place.rt, place.root())?;
-    let mounts = fs::read_to_string(&place.rt, "/proc/self/mountinfo")?;
-    Ok(
-        mounts
-            .lines()
-            .any(|line| may_lie_below(line, root.as_path().as_str())),
-    )
-}
-
-// The fifth word of a line is where the file system is mounted. Blanks and the like are spelled otherwise in it.
-fn may_lie_below(line: &str, root: &str) -> bool {
-    let is_plain = root.bytes().all(|b| b > b' ' && b != b'\\');
-    match line.split(' ').nth(4) {
-        Some(point) if is_plain => match point.strip_prefix(root) {
-            Some(rest) => root == "/" || rest.starts_with('/'),
-            None => false,
-        },
-        _ => true,
-    }
-}
-
-// Runs the system's own `sync` on the root's whole file system, and answers whether it ended well.
-fn sync_file_system(place: &Place) -> io::Result<bool> {
-    let mut command = Command::new(place.rt.alloc(), "sync")?;
-    command.arg("-f")?.arg(place.root())?;
-    command.stdin(Stdio::null());
-    command.stdout(Stdio::null());
-    command.stderr(Stdio::null());
-    Ok(command.status(&place.rt)?.success())
+fn device_of_root(place: &Place) -> io::Result<u64> {
+    Ok(fs::metadata(&place.rt, place.root())?.dev())
 }

@@ -7,11 +7,42 @@ use pgb_system::Faults;
 use std::io;
 use std::io::{ErrorKind, Write};
 
+// What is kept of an output: its start, and of a longer one its end.
+const MOST_FIRST: usize = 1 << 20;
+
+const MOST_LAST: usize = 1 << 12;
+
+/// What was written.
+#[derive(Drop)]
+struct Kept {
+    first: Vec<u8>,
+    last: Vec<u8>,
+}
+
+impl Kept {
+    // Where memory lacks, less is kept.
+    fn add(&mut self, bytes: &[u8]) {
+        let room = MOST_FIRST.saturating_sub(self.first.len());
+        let (first, rest) = bytes.split_at(room.min(bytes.len()));
+        let _ = self.first.extend_from_slice(first);
+        if !rest.is_empty() {
+            self.last.clear();
+            let _ = self
+                .last
+                .extend_from_slice(&rest[rest.len().saturating_sub(MOST_LAST)..]);
+        }
+    }
+}
+
 /// Each piece goes to the system at once. It tells nothing of what was written.
 #[derive(Drop)]
 pub struct RealSink {
     rt: HostRuntime,
     faults: Faults,
+    // whether a piece that can't be written counts as written
+    drops: bool,
+    // None where nothing is to be kept
+    kept: Option<Kept>,
 }
 
 impl RealSink {
@@ -21,6 +52,8 @@ impl RealSink {
         RealSink {
             rt,
             faults: Faults::new(),
+            drops: false,
+            kept: None,
         }
     }
 
@@ -28,13 +61,47 @@ impl RealSink {
     pub fn last_failure(&self) -> Option<&str> {
         self.faults.last()
     }
+
+    /// From now on what can't be written is dropped, and counts as written: a server that archives has to hear of its
+    /// segment alone, whatever reads the lines.
+    pub fn drop_what_fails(&mut self)
+        ensures { self.new.faults ≡ self.old.faults }
+    {
+        self.drops = true;
+    }
+
+    /// From now on what is written is kept, for a person to read.
+    pub fn keep(&mut self)
+        ensures { self.new.faults ≡ self.old.faults }
+    {
+        let alloc = self.rt.alloc();
+        self.kept = Some(Kept {
+            first: Vec::new(alloc),
+            last: Vec::new(alloc),
+        });
+    }
+
+    /// What was written since it was to be kept: the first MiB, and of what followed that the end.
+    pub fn kept(&self) -> (&[u8], &[u8]) {
+        match &self.kept {
+            Some(kept) => (kept.first.as_slice(), kept.last.as_slice()),
+            None => (&[], &[]),
+        }
+    }
 }
 
 impl Sink for RealSink {
     ghost state = { λ s. record { written = None; faults = s.faults.count } };
 
     fn write(&mut self, bytes: &[u8]) -> Result<usize, Stop> {
-        let done = write_some(&self.rt, bytes);
+        let done = if self.drops {
+            Ok(write_some(&self.rt, bytes).unwrap_or(bytes.len()))
+        } else {
+            write_some(&self.rt, bytes)
+        };
+        if let (Ok(count), Some(kept)) = (&done, &mut self.kept) {
+            kept.add(&bytes[..*count]);
+        }
         self.faults
             .told(&call_of(&self.rt, "writing to", "standard output"), done)
     }

@@ -81,7 +81,7 @@ fn open_file(rt: &HostRuntime, path: &str) -> io::Result<Option<File>> {
         return Ok(None);
     };
     if !seen.is_file() {
-        return Err(io::Error::from(ErrorKind::InvalidInput));
+        return Err(io::Error::new(ErrorKind::InvalidInput, "not a plain file"));
     }
     unless_absent(File::open(rt, path))
 }

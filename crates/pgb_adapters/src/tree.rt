@@ -5,10 +5,12 @@ ghost use Rattle.pgb_outside.specs.Tree.{known_path};
 use crate::handles::Handles;
 use crate::place::Place;
 use crate::progress::Progress;
+use crate::restoring::Restoring;
 use crate::walk::{Listing, nodes_below};
-use pgb_outside::{Known, Seen, Stop, Tree};
+use pgb_outside::{Known, Node, Seen, Stop, Tree};
 use pgb_system::Faults;
 use std::alloc::{AllocError, Global};
+use std::fs::{File, TryLockError};
 use std::io;
 use std::io::ErrorKind;
 
@@ -17,8 +19,15 @@ use std::io::ErrorKind;
 pub struct RealTree {
     place: Place,
     handles: Handles,
+    restoring: Restoring,
+    listing: Listing,
+    // whether the root is locked, and the lock of the one that was opened last
+    is_held: bool,
+    held: Option<File>,
     // of the file that is being read, as its reading began
     size: u64,
+    // of all files of the last listing
+    listed: u64,
     progress: Progress,
     faults: Faults,
 }
@@ -30,10 +39,40 @@ impl RealTree {
         RealTree {
             handles: Handles::new(rt.alloc()),
             place: Place::new(rt),
+            restoring: Restoring::new(),
+            listing: Listing::whole(),
+            is_held: false,
+            held: None,
             size: 0,
+            listed: 0,
             progress: Progress::new(rt),
             faults: Faults::new(),
         }
+    }
+
+    /// From now on all that was written is durable before the control file has its name.
+    pub fn restores(&mut self) {
+        self.restoring.begin();
+    }
+
+    /// From now on no other process that does so has the same root.
+    pub fn hold(&mut self) {
+        self.is_held = true;
+    }
+
+    /// From now on what can't be listed is passed over below the folders whose content no backup takes.
+    pub fn pass_over_omitted(&mut self) {
+        self.listing.pass_over = true;
+    }
+
+    /// From now on the folder of the log is such a folder, and a link in its place stands for it.
+    pub fn log_is_folder(&mut self) {
+        self.listing.log_is_folder = true;
+    }
+
+    /// How many bytes the files of the last listing have.
+    pub fn listed_bytes(&self) -> u64 {
+        self.listed
     }
 
     /// From now on a person is told how many bytes were written.
@@ -69,16 +108,21 @@ impl Tree for RealTree {
 
     fn open(&mut self, path: &str) -> Result<(), Stop> {
         self.handles.forget();
-        let done = self.place.open(path);
+        self.restoring.forget();
+        self.held = None;
+        let mut done = self.place.open(path);
+        if done.is_ok() && self.is_held {
+            done = hold(&self.place, &mut self.held);
+        }
         self.faults.told(&self.place.call("opening of", ""), done)
     }
 
     fn list(&mut self, alloc: Global) -> Result<Vec<Seen>, Stop> {
-        let how = Listing {
-            pass_over: false,
-            log_is_folder: false,
-        };
-        let done = nodes_below(alloc, &self.place, "", how);
+        let done = nodes_below(alloc, &self.place, "", self.listing);
+        if let Ok(seen) = &done {
+            self.restoring.see(seen);
+            self.listed = bytes_of(seen);
+        }
         self.faults.told(&self.place.call("listing of", ""), done)
     }
 
@@ -110,13 +154,15 @@ impl Tree for RealTree {
     }
 
     fn begin(&mut self, path: &str) -> Result<(), Stop> {
-        let done = begin_file(&self.place, &mut self.handles, path);
+        let writes = self.restoring.writes(&self.place);
+        let done = self.handles.begin(&self.place, path, writes);
         self.faults
             .told(&self.place.call("creation of", path), done)
     }
 
     fn begin_new(&mut self, path: &str) -> Result<bool, Stop> {
-        let done = self.handles.begin_new(&self.place, path);
+        let writes = self.restoring.writes(&self.place);
+        let done = self.handles.begin_new(&self.place, path, writes);
         self.faults
             .told(&self.place.call("creation of", path), done)
     }
@@ -130,15 +176,17 @@ impl Tree for RealTree {
     }
 
     fn rename(&mut self, from: &str, to: &str) -> Result<(), Stop> {
-        self.handles.forget_name(from);
-        self.handles.forget_name(to);
-        let done = self.place.rename(from, to);
+        let done = self
+            .restoring
+            .move_file(&self.place, &mut self.handles, from, to);
         self.faults.told(&self.place.move_of(from, to), done)
     }
 
     fn remove(&mut self, path: &str) -> Result<(), Stop> {
         self.handles.forget_name(path);
-        let done = remove_node(&self.place, path);
+        let done = remove_node(&self.place, path).and_then(|()| self
+            .restoring
+            .end_removal(&self.place, path));
         self.faults.told(&self.place.call("removal of", path), done)
     }
 }
@@ -186,19 +234,35 @@ fn read_known(
     }
 }
 
-// A link, or a node of another kind, gives way: its target isn't written.
-fn begin_file(place: &Place, handles: &mut Handles, path: &str) -> io::Result<()> {
-    if let Some(told) = place.look_at(path)? {
-        if !told.is_file() && !told.is_dir() {
-            place.remove(path)?;
-        }
-    }
-    handles.begin(place, path)
-}
-
 fn remove_node(place: &Place, path: &str) -> io::Result<()> {
     match place.look_at(path)? {
         Some(told) if told.is_dir() => place.remove_folder(path),
         _ => place.remove(path),
     }
+}
+
+// Where the file system can't lock a folder, none is locked.
+fn hold(place: &Place, held: &mut Option<File>) -> io::Result<()> {
+    let folder = File::open(&place.rt, place.root())?;
+    match folder.try_lock() {
+        Ok(()) => {
+            *held = Some(folder);
+            Ok(())
+        }
+        Err(TryLockError::WouldBlock) => Err(io::Error::new(
+            ErrorKind::WouldBlock,
+            "another restore works in the folder",
+        )),
+        Err(TryLockError::Error(_)) => Ok(()),
+    }
+}
+
+fn bytes_of(seen: &[Seen]) -> u64 {
+    let mut sum = 0u64;
+    for seen in seen {
+        if let Node::File { size, .. } = &seen.node {
+            sum = sum.saturating_add(*size);
+        }
+    }
+    sum
 }

@@ -21,6 +21,16 @@ pub struct Listing {
     pub log_is_folder: bool,
 }
 
+impl Listing {
+    /// Nothing is passed over.
+    pub fn whole() -> Self {
+        Listing {
+            pass_over: false,
+            log_is_folder: false,
+        }
+    }
+}
+
 #[derive(Clone, Copy)]
 enum Within {
     Data(Listing),

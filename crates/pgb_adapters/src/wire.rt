@@ -2,6 +2,7 @@
 ghost use Rattle.std.specs.Prelude.{◌≡◌, ◌≤◌, None, IfOk, OnOk, length, string_bytes};
 
 use crate::calling::{call_socket, timed};
+use crate::phase::Phase;
 use crate::place::call_of;
 use pgb_outside::{Stop, Wire};
 use pgb_system::{Faults, read_some};
@@ -20,6 +21,7 @@ pub struct RealWire {
     // of each wait
     longest: Option<Duration>,
     owner: Option<u32>,
+    phase: Phase,
     faults: Faults,
 }
 
@@ -33,6 +35,7 @@ impl RealWire {
             stream: None,
             longest: None,
             owner: None,
+            phase: Phase::new(),
             faults: Faults::new(),
         }
     }
@@ -50,6 +53,11 @@ impl RealWire {
     /// asked.
     pub fn expect_owner(&mut self, user: u32) {
         self.owner = Some(user);
+    }
+
+    /// From now on a person sees on standard error what a backup waits for.
+    pub fn show_waiting(&mut self) {
+        self.phase.show();
     }
 
     /// What failed last, for a person to read.
@@ -103,6 +111,7 @@ impl Wire for RealWire {
     }
 
     fn send(&mut self, bytes: &[u8]) -> Result<(), Stop> {
+        self.phase.send(&self.rt, bytes);
         let done = match &mut self.stream {
             Some(stream) => timed(stream.write_all(bytes)),
             None => Err(io::Error::from(ErrorKind::NotConnected)),
@@ -116,6 +125,9 @@ impl Wire for RealWire {
             Some(stream) => timed(read_some(stream, buf)),
             None => Err(io::Error::from(ErrorKind::NotConnected)),
         };
+        if let Ok(count) = &done {
+            self.phase.receive(&self.rt, &buf[..*count]);
+        }
         self.faults
             .told(&call_of(&self.rt, "reading of", &self.place), done)
     }

@@ -7,12 +7,12 @@ use Rattle.pgb_prune.specs.Rules.{rules_by}
 use Rattle.pgb_options.specs.declared.settle.Command.{Command}
 use Rattle.pgb_options.specs.Commands.{IsCommand}
 use Rattle.pgb_options.specs.Filled.{AreOptions}
-use Rattle.pgb_options.specs.Settings.{Source, Settled, value}
+use Rattle.pgb_options.specs.Settings.{Source, Settled, value, argument}
 use Rattle.pgb_table.specs.declared.table.Verb.{Verb}
 use Rattle.pgb_command.specs.Asked.{Wanted, wanted_in, rules_in, request_by, requested}
 use Rattle.pgb_command.specs.Told.{wanted_told}
 
-rules_are : (o : Options) (s : Source) → AreOptions o (value s) → rules_by o ≡ rules_in s
+rules_are : (o : Options) (s : Source) → AreOptions o (value s) (argument s) → rules_by o ≡ rules_in s
 rules_are o s is =
     let full = is.repo1_retention_full in
     let counts = is.repo1_retention_full_type in
@@ -21,7 +21,7 @@ rules_are o s is =
     let kind = is.repo1_retention_archive_type in
     cc
 
-wanted_is : (o : Options) (s : Source) → AreOptions o (value s) → wanted_told o ≡ wanted_in s
+wanted_is : (o : Options) (s : Source) → AreOptions o (value s) (argument s) → wanted_told o ≡ wanted_in s
 wanted_is o s is =
     let background = is.archive_async in
     let form = is.output in

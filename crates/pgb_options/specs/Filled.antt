@@ -1,5 +1,5 @@
 -- The fields of `Options`, each with the value in force of its option.
-use Rattle.std.specs.Prelude.{◌≡◌, ℕ, [], codes, bytes_eq, ◌||◌, Bool, false, Option, Some, None, option_map, string_bytes, if◌then◌else◌}
+use Rattle.std.specs.Prelude.{◌≡◌, ◌==◌, ℕ, [], length, codes, bytes_eq, ◌||◌, Bool, false, Option, Some, None, option_map, string_bytes, if◌then◌else◌}
 use Rattle.pgb_model.specs.Text.{Text}
 use Rattle.pgb_options.specs.declared.options.Options.{Options}
 use Rattle.pgb_options.specs.declared.options.KindWord.{KindWord}
@@ -13,7 +13,7 @@ use Rattle.pgb_options.specs.declared.options.OutputWord.TheVariants as outputs
 use Rattle.pgb_options.specs.declared.options.LogWord.{LogWord}
 use Rattle.pgb_options.specs.declared.options.LogWord.TheVariants as logs
 use Rattle.pgb_table.specs.declared.table.Opt.{Opt}
-use Rattle.pgb_table.specs.declared.table.Opt.TheVariants.{Pg1Path, Pg1Port, Pg1SocketPath, Pg1User, Pg1Database, Repo1Path, Repo1RetentionFull, Repo1RetentionFullType, Repo1RetentionDiff, Repo1RetentionArchive, Repo1RetentionArchiveType, Repo1Bundle, Repo1BundleSize, Repo1BundleLimit, ProcessMax, BackupType, RestoreType, Delta, Online, StartFast, ArchiveTimeout, ArchiveAsync, ArchiveGetQueueMax, SpoolPath, LockPath, Set, ExpireAuto, Output, Number, Config, LogLevelStderr}
+use Rattle.pgb_table.specs.declared.table.Opt.TheVariants.{Pg1Path, Pg1Port, Pg1SocketPath, Pg1User, Pg1Database, DbTimeout, Repo1Path, Repo1RetentionFull, Repo1RetentionFullType, Repo1RetentionDiff, Repo1RetentionArchive, Repo1RetentionArchiveType, Repo1Bundle, Repo1BundleSize, Repo1BundleLimit, ProcessMax, IoTimeout, BackupType, RestoreType, Delta, Online, StartFast, ArchiveTimeout, ArchiveAsync, ArchiveGetQueueMax, SpoolPath, LockPath, Set, ExpireAuto, Output, Number, Config, LogLevelStderr, LogLevelFile, LogPath}
 use Rattle.pgb_table.specs.Values.{Value, absent, flag, number, amount_of, text}
 
 -- a text, where there is one
@@ -56,7 +56,7 @@ abbrev pub or_else : {A : Type 0} → A → Option A → A
 or_else d None = d
 or_else d (Some x) = x
 
--- the words of `type`, `repo1-retention-archive-type`, `repo1-retention-full-type`, `output` and `log-level-stderr`
+-- the words of `type`, `repo1-retention-archive-type`, `repo1-retention-full-type` and `output`
 abbrev pub kind_word : Text → KindWord
 kind_word t = if bytes_eq t (codes "full") then kinds.Full else if bytes_eq t
     (codes "diff") then kinds.Diff else kinds.Incr
@@ -70,25 +70,28 @@ restore_word t = if bytes_eq t (codes "none") then restores.Plain else restores.
 abbrev pub output_word : Text → OutputWord
 output_word t = if bytes_eq t (codes "json") then outputs.Json else outputs.Text
 
-abbrev pub is_beyond_info : Text → Bool
-is_beyond_info t = bytes_eq t (codes "info") || bytes_eq t (codes "detail") || bytes_eq t (codes "debug")
-    || bytes_eq t (codes "trace")
-
--- what is told on standard error (manual, "Console Log Level")
+-- what a log has (manual, "Log Options")
 abbrev pub log_word : Text → LogWord
-log_word t = if bytes_eq t [] || bytes_eq t (codes "off") then logs.Nothing else if is_beyond_info
-    t then logs.Progress else logs.Failures
+log_word t = if bytes_eq t [] || bytes_eq t (codes "off") then logs.Nothing else if bytes_eq t
+    (codes "error") then logs.Failures else if bytes_eq t (codes "warn") then logs.Warnings else logs.Progress
 
+-- a word, where there is one
 abbrev pub word_in : Option Value → Text
 word_in v = or_else [] (text_in v)
 
--- each field has the value in force of its option
-pub record AreOptions (o : Options) (value : Opt → Option Value) : Type 0 where
+-- by `--no-` and its name an option is given without a value
+abbrev pub is_denied : Option Text → Bool
+is_denied None = false
+is_denied (Some t) = length t == 0
+
+-- each field has the value in force of its option, or what the arguments say of it
+pub record AreOptions (o : Options) (value : Opt → Option Value) (argument : Opt → Option Text) : Type 0 where
   pub pg1_path : option_map string_bytes o.pg1_path ≡ text_in (value Pg1Path)
   pub pg1_port : o.pg1_port ≡ or_else 0 (number_in (value Pg1Port))
   pub pg1_socket_path : string_bytes o.pg1_socket_path ≡ or_else [] (text_in (value Pg1SocketPath))
   pub pg1_user : string_bytes o.pg1_user ≡ or_else [] (text_in (value Pg1User))
   pub pg1_database : string_bytes o.pg1_database ≡ or_else [] (text_in (value Pg1Database))
+  pub db_timeout : o.db_timeout ≡ or_else 0 (amount_in (value DbTimeout))
   pub repo1_path : string_bytes o.repo1_path ≡ or_else [] (text_in (value Repo1Path))
   pub repo1_retention_full : o.repo1_retention_full ≡ number_in (value Repo1RetentionFull)
   pub repo1_retention_full_type : o.repo1_retention_full_type ≡ retention_word (word_in (value Repo1RetentionFullType))
@@ -100,6 +103,7 @@ pub record AreOptions (o : Options) (value : Opt → Option Value) : Type 0 wher
   pub repo1_bundle_size : o.repo1_bundle_size ≡ or_else 0 (amount_in (value Repo1BundleSize))
   pub repo1_bundle_limit : o.repo1_bundle_limit ≡ or_else 0 (amount_in (value Repo1BundleLimit))
   pub process_max : o.process_max ≡ or_else 0 (number_in (value ProcessMax))
+  pub io_timeout : o.io_timeout ≡ or_else 0 (amount_in (value IoTimeout))
   pub backup_type : o.backup_type ≡ kind_word (word_in (value BackupType))
   pub restore_type : o.restore_type ≡ restore_word (word_in (value RestoreType))
   pub delta : o.delta ≡ or_else false (flag_in (value Delta))
@@ -116,3 +120,8 @@ pub record AreOptions (o : Options) (value : Opt → Option Value) : Type 0 wher
   pub number_of : o.number ≡ number_in (value Number)
   pub config : option_map string_bytes o.config ≡ text_in (value Config)
   pub log_level_stderr : o.log_level_stderr ≡ log_word (word_in (value LogLevelStderr))
+  pub log_level_file : o.log_level_file ≡ log_word (word_in (value LogLevelFile))
+  pub log_path : option_map string_bytes o.log_path ≡ text_in (value LogPath)
+  pub given_pg1_path : option_map string_bytes o.given_pg1_path ≡ argument Pg1Path
+  pub given_repo1_path : option_map string_bytes o.given_repo1_path ≡ argument Repo1Path
+  pub no_config : o.no_config ≡ is_denied (argument Config)

@@ -58,6 +58,10 @@ in_force s o = option_or (told s o) (fallback_text (row o).fallback)
 unfoldable pub value : Source → Opt → Option Value
 value s o = option_and_then (value_of (row o).kind) (in_force s o)
 
+-- what the arguments say of an option, whatever the configuration says
+abbrev pub argument : Source → Opt → Option Text
+argument s o = value_given s.given (row o).name
+
 -- ---- the rules, in the order in which their faults are told
 
 -- the fault of the first that fails, where one does

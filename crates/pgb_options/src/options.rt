@@ -1,12 +1,12 @@
 //! The values in force, a field for each option.
 
 ghost use Rattle.std.specs.Prelude.{◌≡◌, option_map, string_bytes, IfOk, [], false};
-ghost use Rattle.pgb_options.specs.Settings.{value};
+ghost use Rattle.pgb_options.specs.Settings.{value, argument};
 ghost use Rattle.pgb_options.specs.Sources.{source_view};
 ghost use Rattle.pgb_table.specs.Views.{value_view};
-ghost use Rattle.pgb_options.specs.Filled.{text_in, number_in, amount_in, flag_in, or_else, kind_word, retention_word, restore_word, output_word, log_word, word_in, AreOptions};
+ghost use Rattle.pgb_options.specs.Filled.{text_in, number_in, amount_in, flag_in, or_else, kind_word, retention_word, restore_word, output_word, log_word, word_in, is_denied, AreOptions};
 
-use crate::source::{Source, value};
+use crate::source::{Source, argument, value};
 use pgb_table::{Opt, Value};
 use std::alloc::{AllocError, Global};
 
@@ -42,13 +42,15 @@ pub enum OutputWord {
     Json,
 }
 
-/// What is told on standard error.
+/// What a log has.
 #[derive(Clone, Copy, Debug, PartialEq, Eq)]
 pub enum LogWord {
     /// `off`, or no value: nothing.
     Nothing,
-    /// What failed, and why.
+    /// `error`: what failed, and why.
     Failures,
+    /// `warn`: warnings, too.
+    Warnings,
     /// `info` and beyond: how far the command is, too.
     Progress,
 }
@@ -67,6 +69,8 @@ pub struct Options {
     pub pg1_socket_path: String,
     pub pg1_user: String,
     pub pg1_database: String,
+    /// Seconds, 1 to 604800.
+    pub db_timeout: u64,
     pub repo1_path: String,
     /// 1 to 9999999, backups or days.
     pub repo1_retention_full: Option<u32>,
@@ -83,6 +87,8 @@ pub struct Options {
     pub repo1_bundle_limit: u64,
     /// 1 to 64.
     pub process_max: u32,
+    /// Seconds, 1 to 86400.
+    pub io_timeout: u64,
     pub backup_type: KindWord,
     pub restore_type: RestoreWord,
     pub delta: bool,
@@ -104,6 +110,15 @@ pub struct Options {
     /// Where the configuration was said to lie.
     pub config: Option<String>,
     pub log_level_stderr: LogWord,
+    pub log_level_file: LogWord,
+    /// The folder of the log's files.
+    pub log_path: Option<String>,
+    /// The data folder that the arguments name, whatever the configuration says.
+    pub given_pg1_path: Option<String>,
+    /// The repository that the arguments name, whatever the configuration says.
+    pub given_repo1_path: Option<String>,
+    /// Whether the arguments say that no configuration is read.
+    pub no_config: bool,
 }
 
 fn as_text(value: Option<Value<'_>>) -> Option<&str>
@@ -231,14 +246,34 @@ fn log_word(text: &str) -> LogWord
 {
     match text {
         "" | "off" => LogWord::Nothing,
-        "info" | "detail" | "debug" | "trace" => LogWord::Progress,
-        _ => LogWord::Failures,
+        "error" => LogWord::Failures,
+        "warn" => LogWord::Warnings,
+        _ => LogWord::Progress,
+    }
+}
+
+// The value that the arguments give an option.
+fn given(alloc: Global, source: &Source, option: Opt) -> Result<Option<String>, AllocError>
+    ensures { IfOk result (λ t. option_map string_bytes t ≡ argument (source_view source.now) option) }
+{
+    match argument(source, option) {
+        Some(text) => Ok(Some(String::from_str(alloc, text)?)),
+        None => Ok(None),
+    }
+}
+
+fn is_denied(source: &Source, option: Opt) -> bool
+    ensures { result ≡ is_denied (argument (source_view source.now) option) }
+{
+    match argument(source, option) {
+        Some(text) => text.is_empty(),
+        None => false,
     }
 }
 
 // The options, each with its value in force.
 pub(crate) fn fill(alloc: Global, source: &Source) -> Result<Options, AllocError>
-    ensures { IfOk result (λ o. AreOptions o (value (source_view source.now))) }
+    ensures { IfOk result (λ o. AreOptions o (value (source_view source.now)) (argument (source_view source.now))) }
 {
     Ok(Options {
         pg1_path: text(alloc, source, Opt::Pg1Path)?,
@@ -246,6 +281,7 @@ pub(crate) fn fill(alloc: Global, source: &Source) -> Result<Options, AllocError
         pg1_socket_path: text_or_empty(alloc, source, Opt::Pg1SocketPath)?,
         pg1_user: text_or_empty(alloc, source, Opt::Pg1User)?,
         pg1_database: text_or_empty(alloc, source, Opt::Pg1Database)?,
+        db_timeout: amount(source, Opt::DbTimeout),
         repo1_path: text_or_empty(alloc, source, Opt::Repo1Path)?,
         repo1_retention_full: number(source, Opt::Repo1RetentionFull),
         repo1_retention_full_type: retention_word(word(source, Opt::Repo1RetentionFullType)),
@@ -256,6 +292,7 @@ pub(crate) fn fill(alloc: Global, source: &Source) -> Result<Options, AllocError
         repo1_bundle_size: amount(source, Opt::Repo1BundleSize),
         repo1_bundle_limit: amount(source, Opt::Repo1BundleLimit),
         process_max: number_or_zero(source, Opt::ProcessMax),
+        io_timeout: amount(source, Opt::IoTimeout),
         backup_type: kind_word(word(source, Opt::BackupType)),
         restore_type: restore_word(word(source, Opt::RestoreType)),
         delta: flag(source, Opt::Delta),
@@ -272,5 +309,10 @@ pub(crate) fn fill(alloc: Global, source: &Source) -> Result<Options, AllocError
         number: number(source, Opt::Number),
         config: text(alloc, source, Opt::Config)?,
         log_level_stderr: log_word(word(source, Opt::LogLevelStderr)),
+        log_level_file: log_word(word(source, Opt::LogLevelFile)),
+        log_path: text(alloc, source, Opt::LogPath)?,
+        given_pg1_path: given(alloc, source, Opt::Pg1Path)?,
+        given_repo1_path: given(alloc, source, Opt::Repo1Path)?,
+        no_config: is_denied(source, Opt::Config),
     })
 }

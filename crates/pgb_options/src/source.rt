@@ -4,7 +4,7 @@ ghost use Rattle.std.specs.Prelude.{◌≡◌, ◌&&◌, map, option_map, string
 ghost use Rattle.std.specs.List.{list_any};
 ghost use Rattle.pgb_ini.specs.Views.{settings_of};
 ghost use Rattle.pgb_table.specs.Table.{verb_eq, is_for, fallback_text, is_required};
-ghost use Rattle.pgb_options.specs.Settings.{value_given, value_in, value_among, value_configured, told, in_force, value, is_wrong, is_lacking};
+ghost use Rattle.pgb_options.specs.Settings.{value_given, value_in, value_among, value_configured, told, in_force, value, argument, is_wrong, is_lacking};
 ghost use Rattle.pgb_table.specs.Views.{fallback_view, value_view};
 ghost use Rattle.pgb_options.specs.Views.{given_view};
 ghost use Rattle.pgb_options.specs.Sources.{source_view};
@@ -128,6 +128,12 @@ pub(crate) fn value<'a>(source: &'a Source, option: Opt) -> Option<Value<'a>>
         Some(text) => value_of(row_for(option).kind, text),
         None => None,
     }
+}
+
+pub(crate) fn argument<'a>(source: &'a Source, option: Opt) -> Option<&'a str>
+    ensures { option_map (λ t. t.now) result ≡ argument (source_view source.now) option }
+{
+    value_given(&source.given, row_for(option).name)
 }
 
 pub(crate) fn is_wrong(source: &Source, option: Opt) -> bool

@@ -8,12 +8,17 @@ use std::process::{Child, Command, Stdio};
 use std::time::Duration;
 use std::{io, thread};
 
+// A person sees so often that they are waited for.
+const BETWEEN: u64 = 60;
+
 /// Other processes. A turn of theirs is a second, in which they push what a server hands to its archive command, or
 /// what is ready. This program is started beside itself.
 #[derive(Drop)]
 pub struct Others {
     rt: HostRuntime,
     program: String,
+    // what they are waited for: said on standard error
+    wait: Option<&'static str>,
     // those that weren't waited for
     started: Vec<Child>,
     turns: u64,
@@ -31,8 +36,25 @@ impl Others {
             started: Vec::new(rt.alloc()),
             rt,
             program,
+            wait: None,
             turns: 0,
             faults: 0,
+        }
+    }
+
+    /// From now on a person sees what they are waited for, at the first turn and each minute.
+    pub fn show_waiting(&mut self, wait: &'static str)
+        ensures turns { self.new.turns ≡ self.old.turns }
+        ensures faults { self.new.faults ≡ self.old.faults }
+    {
+        self.wait = Some(wait);
+    }
+
+    fn show(&self) {
+        if let Some(wait) = self.wait {
+            if self.turns % BETWEEN == 0 {
+                let _ = eprintln!(self.rt; "INFO: waiting for {wait}");
+            }
         }
     }
 
@@ -62,6 +84,7 @@ impl<D: Disk, S: Disk> Aside<D, S> for Others {
     ghost state = { λ it. record { account = None; turns = it.turns; started = None; faults = it.faults } };
 
     fn turn(&mut self, _repo: &mut D, _spool: &mut S) -> Result<(), TurnStop> {
+        self.show();
         thread::sleep(&self.rt, Duration::from_secs(1));
         self.forget_ended();
         self.turns = self.turns.saturating_add(1);

@@ -81,6 +81,11 @@ h = Rehearse ∷ []
 abbrev pub every : List Verb
 every = c ++ p ++ g ++ b ++ e ++ r ++ v ++ i ++ h
 
+-- what a log has: nothing, errors, warnings too, and so on (manual, "Log Options")
+abbrev pub log_levels : List Text
+log_levels = codes "off" ∷ codes "error" ∷ codes "warn" ∷ codes "info" ∷ codes "detail" ∷ codes "debug"
+    ∷ codes "trace" ∷ []
+
 unfoldable pub row : Opt → Row
 row Stanza = word_option (codes "stanza") every stanza required
 row Pg1Path = option (codes "pg1-path") (c ++ p ++ g ++ b ++ r ++ h) path required
@@ -119,23 +124,22 @@ row Output = option (codes "output") i (words (codes "text" ∷ codes "json" ∷
 row Number = option (codes "number") h (number 1 64) required
 row Config = word_option (codes "config") every file unset
 row LogLevelConsole = option (codes "log-level-console") every anything unset
-row LogLevelFile = option (codes "log-level-file") every anything unset
-row LogLevelStderr = option (codes "log-level-stderr") every
-    (words (codes "off" ∷ codes "error" ∷ codes "warn" ∷ codes "info" ∷ codes "detail" ∷ codes "debug" ∷ codes "trace"
-    ∷ [])) unset
-row LogPath = option (codes "log-path") every anything unset
+row LogLevelFile = option (codes "log-level-file") every (words log_levels) unset
+row LogLevelStderr = option (codes "log-level-stderr") every (words log_levels) unset
+row LogPath = option (codes "log-path") every path unset
 row LogTimestamp = option (codes "log-timestamp") every flag unset
 row BufferSize = option (codes "buffer-size") every anything unset
 row CompressLevel = option (codes "compress-level") every anything unset
 row CompressLevelNetwork = option (codes "compress-level-network") every anything unset
-row DbTimeout = option (codes "db-timeout") every anything unset
+row DbTimeout = option (codes "db-timeout") every (time 1 604800) (is (codes "1800"))
 row ProtocolTimeout = option (codes "protocol-timeout") every anything unset
-row IoTimeout = option (codes "io-timeout") every anything unset
+row IoTimeout = option (codes "io-timeout") every (time 1 86400) (is (codes "1800"))
 row ArchiveModeCheck = option (codes "archive-mode-check") every flag unset
 
 -- the groups in which the rows are looked up
 abbrev pub IsOfServer : Opt → Type 0
 IsOfServer o = (o ≡ Stanza) ⊎ (o ≡ Pg1Path) ⊎ (o ≡ Pg1Port) ⊎ (o ≡ Pg1SocketPath) ⊎ (o ≡ Pg1User) ⊎ (o ≡ Pg1Database)
+    ⊎ (o ≡ DbTimeout)
 
 abbrev pub IsOfRepository : Opt → Type 0
 IsOfRepository o = (o ≡ Repo1Path) ⊎ (o ≡ Repo1Type) ⊎ (o ≡ Repo1CipherType) ⊎ (o ≡ CompressType)
@@ -148,18 +152,19 @@ abbrev pub IsOfBundle : Opt → Type 0
 IsOfBundle o = (o ≡ Repo1Bundle) ⊎ (o ≡ Repo1BundleSize) ⊎ (o ≡ Repo1BundleLimit)
 
 abbrev pub IsOfRun : Opt → Type 0
-IsOfRun o = (o ≡ ProcessMax) ⊎ (o ≡ BackupType) ⊎ (o ≡ RestoreType) ⊎ (o ≡ Delta) ⊎ (o ≡ Online) ⊎ (o ≡ StartFast)
+IsOfRun o = (o ≡ ProcessMax) ⊎ (o ≡ IoTimeout) ⊎ (o ≡ BackupType) ⊎ (o ≡ RestoreType) ⊎ (o ≡ Delta) ⊎ (o ≡ Online)
+    ⊎ (o ≡ StartFast)
 
 abbrev pub IsOfArchive : Opt → Type 0
 IsOfArchive o = (o ≡ ArchiveTimeout) ⊎ (o ≡ ArchiveAsync) ⊎ (o ≡ ArchiveGetQueueMax) ⊎ (o ≡ SpoolPath) ⊎ (o ≡ LockPath)
 
 abbrev pub IsOfCommand : Opt → Type 0
 IsOfCommand o = (o ≡ Set) ⊎ (o ≡ ExpireAuto) ⊎ (o ≡ Output) ⊎ (o ≡ Number) ⊎ (o ≡ Config) ⊎ (o ≡ LogLevelStderr)
+    ⊎ (o ≡ LogLevelFile) ⊎ (o ≡ LogPath)
 
 abbrev pub IsIgnored : Opt → Type 0
-IsIgnored o = (o ≡ LogLevelConsole) ⊎ (o ≡ LogLevelFile) ⊎ (o ≡ LogPath) ⊎ (o ≡ LogTimestamp) ⊎ (o ≡ BufferSize)
-    ⊎ (o ≡ CompressLevel) ⊎ (o ≡ CompressLevelNetwork) ⊎ (o ≡ DbTimeout) ⊎ (o ≡ ProtocolTimeout) ⊎ (o ≡ IoTimeout)
-    ⊎ (o ≡ ArchiveModeCheck)
+IsIgnored o = (o ≡ LogLevelConsole) ⊎ (o ≡ LogTimestamp) ⊎ (o ≡ BufferSize) ⊎ (o ≡ CompressLevel)
+    ⊎ (o ≡ CompressLevelNetwork) ⊎ (o ≡ ProtocolTimeout) ⊎ (o ≡ ArchiveModeCheck)
 
 abbrev pub verb_word : Verb → Text
 verb_word StanzaCreate = codes "stanza-create"

@@ -76,6 +76,8 @@ const INFO: &[Verb] = &[Verb::Info];
 
 const REHEARSE: &[Verb] = &[Verb::Rehearse];
 
+const LOG_LEVELS: &[&str] = &["off", "error", "warn", "info", "detail", "debug", "trace"];
+
 // An option that may stand in the words and in the configuration.
 fn any_place(name: &'static str, commands: &'static [Verb], kind: Kind, fallback: Fallback) -> Row
     ensures { row_view result ≡ option name.now commands.now (kind_view kind) (fallback_view fallback) }
@@ -139,12 +141,21 @@ fn server_row(option: Opt) -> Row
             Kind::Text,
             Fallback::Is("postgres"),
         ),
-        // Pg1Database, the one that is left.
-        _ => any_place(
+        Opt::Pg1Database => any_place(
             "pg1-database",
             WITH_SERVER,
             Kind::Text,
             Fallback::Is("postgres"),
+        ),
+        // DbTimeout, the one that is left.
+        _ => any_place(
+            "db-timeout",
+            EVERY,
+            Kind::Time {
+                least: 1,
+                most: 604800,
+            },
+            Fallback::Is("1800"),
         ),
     }
 }
@@ -277,6 +288,15 @@ fn run_row(option: Opt) -> Row
             Kind::Number { least: 1, most: 64 },
             Fallback::Is("1"),
         ),
+        Opt::IoTimeout => any_place(
+            "io-timeout",
+            EVERY,
+            Kind::Time {
+                least: 1,
+                most: 86400,
+            },
+            Fallback::Is("1800"),
+        ),
         Opt::BackupType => any_place(
             "type",
             BACKUP,
@@ -343,7 +363,7 @@ fn archive_row(option: Opt) -> Row
     }
 }
 
-// Of one command, the configuration, and what is told on standard error.
+// Of one command, the configuration, and the log.
 #[tactic(auto, unfolding(crate::specs::Table::row))]
 fn command_row(option: Opt) -> Row
     requires { IsOfCommand option }
@@ -367,9 +387,16 @@ fn command_row(option: Opt) -> Row
         Opt::LogLevelStderr => any_place(
             "log-level-stderr",
             EVERY,
-            Kind::Words(&["off", "error", "warn", "info", "detail", "debug", "trace"]),
+            Kind::Words(LOG_LEVELS),
             Fallback::Unset,
         ),
+        Opt::LogLevelFile => any_place(
+            "log-level-file",
+            EVERY,
+            Kind::Words(LOG_LEVELS),
+            Fallback::Unset,
+        ),
+        Opt::LogPath => any_place("log-path", EVERY, Kind::Path, Fallback::Unset),
         // Config, the one that is left.
         _ => words_alone("config", Kind::File, Fallback::Unset),
     }
@@ -383,15 +410,11 @@ fn ignored_row(option: Opt) -> Row
 {
     match option {
         Opt::LogLevelConsole => ignored("log-level-console", Kind::Anything),
-        Opt::LogLevelFile => ignored("log-level-file", Kind::Anything),
-        Opt::LogPath => ignored("log-path", Kind::Anything),
         Opt::LogTimestamp => ignored("log-timestamp", Kind::Flag),
         Opt::BufferSize => ignored("buffer-size", Kind::Anything),
         Opt::CompressLevel => ignored("compress-level", Kind::Anything),
         Opt::CompressLevelNetwork => ignored("compress-level-network", Kind::Anything),
-        Opt::DbTimeout => ignored("db-timeout", Kind::Anything),
         Opt::ProtocolTimeout => ignored("protocol-timeout", Kind::Anything),
-        Opt::IoTimeout => ignored("io-timeout", Kind::Anything),
         // ArchiveModeCheck, the one that is left.
         _ => ignored("archive-mode-check", Kind::Flag),
     }
@@ -408,7 +431,8 @@ pub fn row_for(option: Opt) -> Row
         | Opt::Pg1Port
         | Opt::Pg1SocketPath
         | Opt::Pg1User
-        | Opt::Pg1Database => server_row(option),
+        | Opt::Pg1Database
+        | Opt::DbTimeout => server_row(option),
         Opt::Repo1Path | Opt::Repo1Type | Opt::Repo1CipherType | Opt::CompressType =>
             repository_row(option),
         Opt::Repo1RetentionFull
@@ -418,6 +442,7 @@ pub fn row_for(option: Opt) -> Row
         | Opt::Repo1RetentionArchiveType => retention_row(option),
         Opt::Repo1Bundle | Opt::Repo1BundleSize | Opt::Repo1BundleLimit => bundle_row(option),
         Opt::ProcessMax
+        | Opt::IoTimeout
         | Opt::BackupType
         | Opt::RestoreType
         | Opt::Delta
@@ -433,17 +458,15 @@ pub fn row_for(option: Opt) -> Row
         | Opt::Output
         | Opt::Number
         | Opt::Config
-        | Opt::LogLevelStderr => command_row(option),
-        Opt::LogLevelConsole
+        | Opt::LogLevelStderr
         | Opt::LogLevelFile
-        | Opt::LogPath
+        | Opt::LogPath => command_row(option),
+        Opt::LogLevelConsole
         | Opt::LogTimestamp
         | Opt::BufferSize
         | Opt::CompressLevel
         | Opt::CompressLevelNetwork
-        | Opt::DbTimeout
         | Opt::ProtocolTimeout
-        | Opt::IoTimeout
         | Opt::ArchiveModeCheck => ignored_row(option),
     }
 }

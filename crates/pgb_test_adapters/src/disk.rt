@@ -267,6 +267,7 @@ const NOTES: &[(&str, &str)] = &[
 
 // Each disk stands for a program of its own.
 fn change_and_settle(rt: &impl Abort, mut disk: RealDisk, root: &str) {
+    disk.is_only_writer_in("a");
     same(rt, disk.open(root), Ok(()));
     same(rt, disk.settle_in("a"), Ok(()));
     same(rt, disk.begin("a/f"), Ok(()));
@@ -301,6 +302,76 @@ fn writes_no_note_where_nothing_is_changed(rt: HostRuntime) {
     shell(&rt, &scratch, "cmp settled.note kept; rm settled.note");
     only_settle(&rt, RealDisk::new(rt), &scratch.path);
     shell(&rt, &scratch, IS_ABSENT);
+    well(&rt, scratch.remove());
+}
+
+// A folder in which others may write too is noted only where the clock was past its last change.
+const IS_UNNOTED: &str = "now=$(stat -c '%d %i %.9Z' a | sed 's/[.]0*\\([0-9]\\)/ \\1/')
+! grep -qsx \"$now\" settled.note";
+
+#[test]
+fn notes_no_change_where_others_write(rt: HostRuntime) {
+    let scratch = well(&rt, Scratch::new(rt, "shared"));
+    let mut disk = RealDisk::new(rt);
+    disk.is_only_writer_in("b");
+    same(&rt, disk.open(&scratch.path), Ok(()));
+    for name in ["a/f", "a/g"] {
+        same(&rt, disk.begin("a/new"), Ok(()));
+        same(&rt, disk.rename("a/new", name), Ok(()));
+        same(&rt, disk.settle_in("a"), Ok(()));
+        shell(&rt, &scratch, IS_UNNOTED);
+    }
+    well(&rt, scratch.remove());
+}
+
+const LIST: &str = "backup/s/backup.info";
+
+// What is done to the server's file, and what comes of putting a new list in its place.
+const LISTS: &[(&str, Result<(), Stop>)] = &[
+    ("echo 1 >pid", Err(Stop::Failed)),
+    ("rm pid; ln -s absent pid", Err(Stop::Failed)),
+    ("rm pid", Ok(())),
+    // once it was written it may be written again
+    ("echo 1 >pid", Ok(())),
+];
+
+#[test]
+fn lists_no_backup_beside_a_server(rt: HostRuntime) {
+    let scratch = well(&rt, Scratch::new(rt, "server"));
+    let mut disk = RealDisk::new(rt);
+    let path = well(&rt, scratch.below("pid"));
+    well(&rt, disk.refuse_list_beside(&path));
+    same(&rt, disk.open(&scratch.path), Ok(()));
+    for (change, wanted) in LISTS {
+        shell(&rt, &scratch, change);
+        same(&rt, disk.begin("backup/s/new"), Ok(()));
+        same(&rt, disk.rename("backup/s/new", "backup/s/other"), Ok(()));
+        same(&rt, disk.rename("backup/s/other", LIST), *wanted);
+    }
+    well(&rt, scratch.remove());
+}
+
+// More files than are kept open.
+const MANY: usize = 70;
+
+#[test]
+fn syncs_many_files(rt: HostRuntime) {
+    let scratch = well(&rt, Scratch::new(rt, "files"));
+    let mut disk = RealDisk::new(rt);
+    same(&rt, disk.open(&scratch.path), Ok(()));
+    for number in 0..MANY {
+        let name = well(&rt, format!(in rt.alloc(); "backup/s/l/{number}"));
+        same(&rt, disk.begin(&name), Ok(()));
+        same(&rt, disk.append(&name, b"some"), Ok(()));
+    }
+    same(&rt, disk.append("backup/s/l/0", b" more"), Ok(()));
+    same(&rt, disk.sync_below("backup/s/l"), Ok(()));
+    same(&rt, disk.settle("backup/s/l"), Ok(()));
+    shell(
+        &rt,
+        &scratch,
+        "cd backup/s/l; [ \"$(cat 0 69)\" = 'some moresome' ]",
+    );
     well(&rt, scratch.remove());
 }
 

@@ -4,6 +4,8 @@
 #[cfg(test)]
 mod clock;
 #[cfg(test)]
+mod control;
+#[cfg(test)]
 mod disk;
 #[cfg(test)]
 mod link;

@@ -168,3 +168,84 @@ fn reads_what_was_there_at_the_start(rt: HostRuntime) {
     }
     well(&rt, scratch.remove());
 }
+
+#[test]
+fn writes_no_other_name_of_a_file(rt: HostRuntime) {
+    let scratch = well(&rt, Scratch::new(rt, "linked"));
+    let mut tree = RealTree::new(rt);
+    same(&rt, tree.open(&scratch.path), Ok(()));
+    shell(&rt, &scratch, "printf kept >a; ln a b");
+    same(&rt, tree.begin("b"), Ok(()));
+    same(&rt, tree.append("b", b"new"), Ok(()));
+    shell(&rt, &scratch, "[ \"$(cat a b)\" = keptnew ]");
+    well(&rt, scratch.remove());
+}
+
+fn held(rt: HostRuntime) -> RealTree {
+    let mut tree = RealTree::new(rt);
+    tree.hold();
+    tree
+}
+
+#[test]
+fn holds_its_folder(rt: HostRuntime) {
+    let scratch = well(&rt, Scratch::new(rt, "held"));
+    let other = well(&rt, scratch.below("other"));
+    let (mut first, mut second, mut free) = (held(rt), held(rt), RealTree::new(rt));
+    same(&rt, first.open(&scratch.path), Ok(()));
+    same(&rt, second.open(&scratch.path), Err(Stop::Failed));
+    let told = second.last_failure().unwrap_or("");
+    same(
+        &rt,
+        told.ends_with(": another restore works in the folder"),
+        true,
+    );
+    same(&rt, free.open(&scratch.path), Ok(()));
+    same(&rt, first.open(&other), Ok(()));
+    same(&rt, second.open(&scratch.path), Ok(()));
+    well(&rt, scratch.remove());
+}
+
+// A restore whose control file comes last, over one of before, and one over more files than are kept open.
+const RESTORED: &[(Call, &str, Result<(), Stop>)] = &[
+    (Call::Remove, "global/pg_control", Ok(())),
+    (Call::Begin, "f.pgbackrest.tmp", Ok(())),
+    (Call::Append(b"new"), "f.pgbackrest.tmp", Ok(())),
+    (Call::RenameTo("f"), "f.pgbackrest.tmp", Ok(())),
+    (Call::Begin, "postgresql.auto.conf", Ok(())),
+    (Call::Append(b"some"), "postgresql.auto.conf", Ok(())),
+    (Call::Begin, "global/pg_control.pgbackrest.tmp", Ok(())),
+    (
+        Call::Append(b"ctl"),
+        "global/pg_control.pgbackrest.tmp",
+        Ok(()),
+    ),
+    (
+        Call::RenameTo("global/pg_control"),
+        "global/pg_control.pgbackrest.tmp",
+        Ok(()),
+    ),
+    (Call::Remove, "kept", Ok(())),
+];
+
+const IS_RESTORED: &str = "[ \"$(cat f postgresql.auto.conf global/pg_control)\" = newsomectl ]";
+
+#[test]
+fn restores(rt: HostRuntime) {
+    let scratch = well(&rt, Scratch::new(rt, "restored"));
+    shell(
+        &rt,
+        &scratch,
+        "mkdir global; echo old >f; echo old >global/pg_control; echo >kept",
+    );
+    let mut tree = RealTree::new(rt);
+    tree.restores();
+    same(&rt, tree.open(&scratch.path), Ok(()));
+    same(&rt, well(&rt, tree.list(rt.alloc())).len(), 4);
+    same(&rt, tree.listed_bytes(), 9);
+    for (call, path, wanted) in RESTORED {
+        same(&rt, answer(&mut tree, *call, path), *wanted);
+    }
+    shell(&rt, &scratch, IS_RESTORED);
+    well(&rt, scratch.remove());
+}

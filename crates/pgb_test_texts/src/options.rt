@@ -2,7 +2,7 @@
 
 use crate::same::{same, same_of};
 use pgb_options::{
-    Command, ConfigPath, KindWord, Options, OutputWord, RestoreWord, RetentionWord, Usage,
+    Command, ConfigPath, KindWord, LogWord, Options, OutputWord, RestoreWord, RetentionWord, Usage,
     config_path, settle_words,
 };
 use pgb_table::Verb;
@@ -120,7 +120,23 @@ const REFUSED: &[(&str, &str)] = &[
     ),
     ("--stanza=demo --pg1-path=pg --type=full restore", "6 type"),
     ("--stanza=demo --log-timestamp=on info", "6 log-timestamp"),
-    ("--stanza=demo --log-path=. info", "1 20971520 60 true"),
+    (
+        "--stanza=demo --log-level-file=loud info",
+        "6 log-level-file",
+    ),
+    (
+        "--stanza=demo --pg1-path=pg --db-timeout=0 backup",
+        "6 db-timeout",
+    ),
+    ("--stanza=demo --db-timeout=8d info", "6 db-timeout"),
+    (
+        "--stanza=demo --pg1-path=pg --io-timeout=25h restore",
+        "6 io-timeout",
+    ),
+    (
+        "--stanza=demo --db-timeout=7d --io-timeout=1d --log-path=. --log-level-file=trace info",
+        "1 20971520 60 true",
+    ),
 ];
 
 #[test]
@@ -252,6 +268,7 @@ fn parts(rt: &impl Abort, command: &Command) {
     same(rt, options.pg1_path.as_deref(), Some("/pg"));
     same(rt, options.config.as_deref(), Some("c"));
     same(rt, options.set.as_deref(), None);
+    same(rt, options.log_path.as_deref(), None);
 }
 
 fn texts(rt: &impl Abort, options: &Options) {
@@ -265,6 +282,8 @@ fn texts(rt: &impl Abort, options: &Options) {
 
 fn numbers(rt: &impl Abort, options: &Options) {
     same(rt, options.pg1_port, 5432);
+    same(rt, options.db_timeout, 1800);
+    same(rt, options.io_timeout, 1800);
     same(rt, options.process_max, 1);
     same(rt, options.repo1_retention_full, None);
     same(rt, options.repo1_retention_diff, None);
@@ -282,6 +301,8 @@ fn choices(rt: &impl Abort, options: &Options) {
     same(rt, options.backup_type, KindWord::Incr);
     same(rt, options.restore_type, RestoreWord::Default);
     same(rt, options.output, OutputWord::Text);
+    same(rt, options.log_level_stderr, LogWord::Nothing);
+    same(rt, options.log_level_file, LogWord::Nothing);
     same(rt, options.repo1_bundle, false);
     same(rt, options.delta, false);
     same(rt, options.start_fast, false);
@@ -305,6 +326,80 @@ fn defaults(rt: HostRuntime) -> Result<(), Fail> {
             choices(&rt, &command.options);
         }
         Err(fault) => panic!(rt; "{fault:?}"),
+    }
+    Ok(())
+}
+
+const LOG_LEVELS: &[(&str, LogWord)] = &[
+    ("--stanza=demo info --log-level-file=off", LogWord::Nothing),
+    (
+        "--stanza=demo info --log-level-file=error",
+        LogWord::Failures,
+    ),
+    (
+        "--stanza=demo info --log-level-file=warn",
+        LogWord::Warnings,
+    ),
+    (
+        "--stanza=demo info --log-level-file=info",
+        LogWord::Progress,
+    ),
+    (
+        "--stanza=demo info --log-level-file=detail",
+        LogWord::Progress,
+    ),
+    (
+        "--stanza=demo info --log-level-file=debug",
+        LogWord::Progress,
+    ),
+    (
+        "--stanza=demo info --log-level-file=trace",
+        LogWord::Progress,
+    ),
+];
+
+#[test]
+fn log_levels(rt: HostRuntime) -> Result<(), Fail> {
+    let alloc = rt.alloc();
+    for &(line, want) in LOG_LEVELS {
+        match settle_words(alloc, &words(alloc, line)?, b"[global]\n") {
+            Ok(command) => same_of(&rt, line, command.options.log_level_file, want),
+            Err(fault) => panic!(rt; "{fault:?}"),
+        }
+    }
+    Ok(())
+}
+
+// What the arguments alone give.
+fn arguments(alloc: Global, options: &Options) -> Result<String, AllocError> {
+    let folder = options.given_pg1_path.as_deref().unwrap_or("none");
+    let repository = options.given_repo1_path.as_deref().unwrap_or("none");
+    let no_config = options.no_config;
+    format!(in alloc; "{folder} {repository} {no_config}")
+}
+
+const ARGUMENTS: &[(&str, &str)] = &[
+    ("", "none none false"),
+    ("--config=c", "none none false"),
+    ("--pg1-path=/a", "/a none false"),
+    ("--repo1-path /b --no-config", "none /b true"),
+];
+
+#[test]
+fn arguments_alone(rt: HostRuntime) -> Result<(), Fail> {
+    let alloc = rt.alloc();
+    let config = b"[demo]\npg1-path=/pg\nrepo1-path=/repo\n";
+    for &(line, want) in ARGUMENTS {
+        let mut words = words(alloc, line)?;
+        words.push(String::from_str(alloc, "--stanza=demo")?)?;
+        words.push(String::from_str(alloc, "restore")?)?;
+        match settle_words(alloc, &words, config) {
+            Ok(command) => {
+                let found = arguments(alloc, &command.options)?;
+                same_of(&rt, line, found.as_str(), want);
+            }
+            Err(fault) => panic!(rt; "{fault:?}"),
+        }
     }
     Ok(())
 }

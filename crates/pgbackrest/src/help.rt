@@ -1,5 +1,6 @@
 // What `--help` and `--version` print.
 use crate::meanings::meaning_of;
+use crate::reading::{Reader, Word};
 use pgb_table::{Fallback, Kind, Opt, Row, TABLE, VERBS, Verb, row_for, verb_word};
 use std::alloc::{AllocError, Global};
 
@@ -8,32 +9,42 @@ const VERSION: &str = "pgbackrest 0.1, repository format 5\n";
 const USAGE: &str = "
 usage: pgbackrest [options] command [parameters]
 
-A value is told as --name=value or --name value, y and n also as --name and --no-name. A configuration
-tells values too, as name=value below [stanza:command], [stanza], [global:command] or [global]; the
+Give a value as --name=value or --name value, y and n also as --name and --no-name. A configuration
+gives values too, as name=value below [stanza:command], [stanza], [global:command] or [global]; the
 command line comes first, then these sections in this order.
 ";
 
-const WITHOUT_EFFECT: &str = "\nTaken and not used:";
+const WITHOUT_EFFECT: &str = "\nAccepted and ignored:";
 
-/// The text that the words ask for: the help or the version alone, the help of a command by a word before or behind it.
+/// The text that the words ask for: the help of all or of a command, or the version.
+///
+/// `--help` and `--version` may stand anywhere but in the place of an option's value, and `help` and `version` in that
+/// of the command.
 pub fn asked_for(alloc: Global, words: &[String]) -> Result<Option<String>, AllocError> {
-    match words {
-        [word] if is_help(word) => Ok(Some(help(alloc)?)),
-        [word] if is_version(word) => Ok(Some(String::from_str(alloc, VERSION)?)),
-        [first, last] if is_help(first) => Ok(Some(help_on(alloc, last)?)),
-        [first, last] if last.as_str() != "help" && is_help(last) => {
-            Ok(Some(help_on(alloc, first)?))
+    let mut wish = None;
+    let mut verb = None;
+    let mut reader = Reader::new();
+    for word in words {
+        match reader.read(word.as_str()) {
+            Word::Dashed("--help" | "-h") => wish = Some(Wish::Help),
+            Word::Dashed("--version") => wish = wish.or(Some(Wish::Version)),
+            Word::Plain("help") if verb.is_none() => wish = Some(Wish::Help),
+            Word::Plain("version") if verb.is_none() => wish = wish.or(Some(Wish::Version)),
+            Word::Plain(word) => verb = verb.or(Some(word)),
+            _ => {}
         }
-        _ => Ok(None),
+    }
+    match wish {
+        Some(Wish::Help) => Ok(Some(help_on(alloc, verb.unwrap_or(""))?)),
+        Some(Wish::Version) => Ok(Some(String::from_str(alloc, VERSION)?)),
+        None => Ok(None),
     }
 }
 
-fn is_help(word: &str) -> bool {
-    matches!(word, "help" | "--help" | "-h")
-}
-
-fn is_version(word: &str) -> bool {
-    matches!(word, "version" | "--version")
+#[derive(Clone, Copy)]
+enum Wish {
+    Help,
+    Version,
 }
 
 // The help of the command that the word names, or that of all where it names none.
@@ -100,7 +111,8 @@ fn purpose_of(verb: Verb) -> &'static str {
             " NAME PATH: fetches a file of the write-ahead log, for restore_command",
         Verb::Backup => ": makes a backup of a server, running or stopped",
         Verb::Expire => ": removes what the retention no longer keeps",
-        Verb::Restore => ": makes the data folder of a backup, where it is empty",
+        Verb::Restore =>
+            ": restores a backup into an empty folder, or with --delta over an old one",
         Verb::Verify => ": looks for damage in the repository",
         Verb::Info => ": tells which backups and segments there are",
         Verb::Rehearse => ": tries all of it on empty folders",

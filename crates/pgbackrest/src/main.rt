@@ -3,23 +3,33 @@
 
 ghost use Rattle.std.specs.Prelude.{◌≤◌, length, IfOk};
 
+mod asked;
+mod devices;
+mod guards;
 mod help;
+mod hints;
+mod levels;
+mod logging;
 mod meanings;
+mod paths;
+mod reading;
+mod streams;
 mod telling;
 
+use asked::read_asked;
+use devices::{make_devices, put_line};
+use guards::{Refusal, is_fetch, is_in_recovery, refusal_of, stop_recovery};
 use help::asked_for;
-use pgb_adapters::{
-    RealClock, RealDisk, RealFiles, RealInput, RealLocks, RealReplies, RealSink, RealSource,
-    RealTree, RealWire,
-};
+use paths::absolute;
+use pgb_adapters::{RealDisk, RealFiles, RealInput, RealReplies, RealSource};
 use pgb_command::Outside;
-use pgb_others::Others;
 use pgb_system::{RealLink, RoundRobin};
 use pgb_worker::serve;
 use std::io::ErrorKind;
 use std::process::ExitCode;
-use std::{env, io};
-use telling::{begin, end, telling_of};
+use std::{env, fs, io};
+use streams::open_streams;
+use telling::{Telling, failure_of};
 
 const NOT_UTF8: u8 = 13;
 
@@ -34,18 +44,43 @@ const LOCAL: &'static str = "local";
 const WORKERS: usize = 256;
 
 fn main(rt: HostRuntime) -> ExitCode {
-    let words = match words(&rt) {
-        Ok(words) => words,
-        Err(e) if e.kind() == ErrorKind::OutOfMemory => return ExitCode::from(NO_MEMORY),
-        Err(_) => return ExitCode::from(NOT_UTF8),
-    };
-    if is_worker(&words) {
-        return ExitCode::from(work(rt));
+    let streams = open_streams(&rt);
+    let status = answer(rt);
+    drop(streams);
+    ExitCode::from(status)
+}
+
+// Does what the arguments ask for, and answers what the system is told.
+fn answer(rt: HostRuntime) -> u8 {
+    match words(&rt) {
+        Ok(words) if is_worker(&words) => work(rt),
+        Ok(words) if is_fetch(&words) && is_in_recovery(&rt) => {
+            stop_recovery(&rt, status_of(rt, &words).unwrap_or(NO_MEMORY))
+        }
+        Ok(words) => answer_to(rt, &words),
+        Err(e) => refuse_words(rt, &e),
     }
-    match asked_for(rt.alloc(), &words) {
-        Ok(Some(text)) => ExitCode::from(show(rt, &text)),
-        Ok(None) => ExitCode::from(status_of(rt, &words).unwrap_or(NO_MEMORY)),
-        Err(_) => ExitCode::from(NO_MEMORY),
+}
+
+// (a word that can't be read may be that of a fetch)
+fn refuse_words(rt: HostRuntime, error: &io::Error) -> u8 {
+    let status = if error.kind() == ErrorKind::OutOfMemory {
+        NO_MEMORY
+    } else {
+        NOT_UTF8
+    };
+    if is_in_recovery(&rt) {
+        stop_recovery(&rt, status)
+    } else {
+        status
+    }
+}
+
+fn answer_to(rt: HostRuntime, words: &[String]) -> u8 {
+    match asked_for(rt.alloc(), words) {
+        Ok(Some(text)) => show(rt, &text),
+        Ok(None) => status_of(rt, words).unwrap_or(NO_MEMORY),
+        Err(_) => NO_MEMORY,
     }
 }
 
@@ -78,52 +113,87 @@ fn words(rt: &HostRuntime) -> io::Result<Vec<String>> {
     for word in env::args(rt)?.skip(1) {
         words.push(word).map_err(|_| ErrorKind::OutOfMemory)?;
     }
-    Ok(words)
+    absolute(rt, words)
+}
+
+// The program's own file, whatever the path has where another process starts it: argument 0 where that isn't known, or
+// another file was put in its place.
+fn program(rt: &HostRuntime) -> io::Result<String> {
+    if let Ok(path) = env::current_exe(rt) {
+        let path = path.as_path().as_str();
+        if fs::metadata(rt, path).is_ok() {
+            return Ok(String::from_str(rt.alloc(), path)?);
+        }
+    }
+    Ok(env::args(rt)?.next().unwrap_or(String::new(rt.alloc())))
 }
 
 // A worker: this program, started as it is sent its first frame.
-fn worker(rt: HostRuntime, program: &str) -> io::Result<RealLink> {
+fn worker(rt: HostRuntime, program: &str, timeout: u64) -> io::Result<RealLink> {
     let alloc = rt.alloc();
     let words = vec![in alloc; String::from_str(alloc, LOCAL)?]?;
-    Ok(RealLink::new(rt, String::from_str(alloc, program)?, words))
+    let mut link = RealLink::new(rt, String::from_str(alloc, program)?, words);
+    link.set_timeout(timeout);
+    Ok(link)
 }
 
 // All workers that a command may use.
-fn workers(rt: HostRuntime, program: &str) -> io::Result<Vec<RealLink>>
+fn workers(rt: HostRuntime, program: &str, timeout: u64) -> io::Result<Vec<RealLink>>
     ensures { IfOk result (λ links. length links.items ≤ 256) }
 {
     let mut links = Vec::new(rt.alloc());
     for number in 0..WORKERS {
         links
-            .push(worker(rt, program)?)
+            .push(worker(rt, program, timeout)?)
             .map_err(|_| ErrorKind::OutOfMemory)?;
     }
     Ok(links)
 }
 
 fn status_of(rt: HostRuntime, words: &[String]) -> io::Result<u8> {
+    let asked = read_asked(rt, words)?;
+    let refused = match &asked.command {
+        Some(command) => refusal_of(&rt, command)?,
+        None => None,
+    };
+    let telling = Telling::begin(rt, asked, words)?;
+    match refused {
+        Some(refusal) => Ok(refuse(telling, &refusal)),
+        None => perform(rt, telling, words),
+    }
+}
+
+// Says why the command is refused before anything is touched.
+fn refuse(mut telling: Telling, refusal: &Refusal) -> u8 {
+    let mut out = telling.output();
+    let status = match put_line(&mut out, &refusal.line) {
+        Ok(()) => refusal.status,
+        Err(_) => NO_OUTPUT,
+    };
+    // (a person who sees less changes nothing)
+    let _ = telling.end(&out, None, status);
+    status
+}
+
+fn perform(rt: HostRuntime, mut telling: Telling, words: &[String]) -> io::Result<u8> {
     let alloc = rt.alloc();
-    let program = env::args(&rt)?.next().unwrap_or(String::new(alloc));
-    let links = workers(rt, &program)?;
-    let aside = Others::new(rt, program.clone()?);
-    let telling = telling_of(rt, words);
-    let mut repo = RealDisk::new(rt);
-    let mut tree = RealTree::new(rt);
-    begin(telling, &mut repo, &mut tree);
+    let program = program(&rt)?;
+    let devices = make_devices(rt, program.clone()?, &telling)?;
+    let links = workers(rt, &program, devices.worker_timeout)?;
     let mut outside = Outside {
-        repo,
+        repo: devices.repo,
         spool: RealDisk::new(rt),
-        tree,
-        server: RealWire::new(rt),
-        aside,
-        clock: RealClock::new(rt),
-        locks: RealLocks::new(rt),
+        tree: devices.tree,
+        server: devices.server,
+        aside: devices.aside,
+        clock: devices.clock,
+        locks: devices.locks,
         config: RealSource::new(rt),
-        out: RealSink::new(rt),
+        out: devices.out,
         links,
         turns: RoundRobin::new(),
     };
     let status = outside.run(alloc, words);
-    end(rt, telling, &outside, status);
+    let _ = telling.end(&outside.out, failure_of(&outside, status), status);
     Ok(status)
 }

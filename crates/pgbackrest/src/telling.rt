@@ -1,12 +1,21 @@
-// What a person is told on standard error, where `log-level-stderr` asks for it. It never changes what a command does.
+// What a person sees of a command beside its answer: on standard error, where `log-level-stderr` asks for it, and in the
+// log file. It never changes what a command does.
+use crate::asked::Asked;
+use crate::guards::is_for_server;
+use crate::levels::{Level, lines_of};
+use crate::logging::Log;
 use pgb_adapters::{RealClock, RealDisk, RealLocks, RealSink, RealSource, RealTree, RealWire};
 use pgb_command::Outside;
-use pgb_options::{Command, ConfigPath, LogWord, config_path, settle_words};
+use pgb_options::{Command, LogWord};
 use pgb_others::Others;
-use pgb_outside::Source;
 use pgb_system::{RealLink, RoundRobin};
 use pgb_table::Verb;
-use std::alloc::Global;
+use std::alloc::AllocError;
+
+// The status of an option that is missing, and that of a configuration that can't be read.
+const MISSING: u8 = 7;
+
+const UNREADABLE: u8 = 86;
 
 /// The objects of the system that the program works on.
 pub type System = Outside<
@@ -23,101 +32,126 @@ pub type System = Outside<
     RoundRobin,
 >;
 
-// A configuration has at most 1 MiB.
-const CONFIG_LIMIT: usize = 1 << 20;
-
-/// What a person is to be told.
-#[derive(Clone, Copy)]
+/// What a person is to see of one command.
+#[derive(Drop)]
 pub struct Telling {
-    failures: bool,
-    // of the command whose bytes are counted
-    progress: Option<Verb>,
+    rt: HostRuntime,
+    asked: Asked,
+    log: Option<Log>,
+    // whether the lines count as written that can't be
+    drops: bool,
 }
 
-const NOTHING: Telling = Telling {
-    failures: false,
-    progress: None,
-};
-
-/// What the words and their configuration ask for. Where these are refused nothing is told: the refusal is on standard
-/// output.
-pub fn telling_of(rt: HostRuntime, words: &[String]) -> Telling {
-    match command_of(rt, words) {
-        Some(command) => of_command(&command),
-        None => NOTHING,
-    }
-}
-
-fn of_command(command: &Command) -> Telling {
-    let failures = !matches!(command.options.log_level_stderr, LogWord::Nothing);
-    let is_counted = matches!(command.verb, Verb::Backup | Verb::Restore)
-        && matches!(command.options.log_level_stderr, LogWord::Progress);
-    Telling {
-        failures,
-        progress: if is_counted { Some(command.verb) } else { None },
-    }
-}
-
-fn command_of(rt: HostRuntime, words: &[String]) -> Option<Command> {
-    let alloc = rt.alloc();
-    let config = match config_path(alloc, words).ok()? {
-        ConfigPath::Nowhere => Vec::new(alloc),
-        ConfigPath::Usual(path) | ConfigPath::Named(path) => configuration(rt, &path).unwrap_or(
-            Vec::new(alloc),
-        ),
-    };
-    if config.len() > CONFIG_LIMIT {
-        return None;
-    }
-    settle_words(alloc, words, &config).ok()
-}
-
-// The bytes of the configuration, of one that is too long not all; none where it isn't there, and None where it can't
-// be read.
-fn configuration(rt: HostRuntime, path: &str) -> Option<Vec<u8>> {
-    let mut source = RealSource::new(rt);
-    let mut bytes = Vec::new(rt.alloc());
-    if !source.open(path).ok()? {
-        return Some(bytes);
-    }
-    let mut buf = [0u8; 32768];
-    for _ in 0..CONFIG_LIMIT {
-        let count = source.read(&mut buf).ok()?;
-        if count == 0 || bytes.len() > CONFIG_LIMIT {
-            return Some(bytes);
+impl Telling {
+    /// Before the command: its log file has its words.
+    pub fn begin(rt: HostRuntime, asked: Asked, words: &[String]) -> Result<Self, AllocError> {
+        let mut log = match &asked.command {
+            Some(command) => Log::of(rt, command)?,
+            None => None,
+        };
+        if let Some(log) = &mut log {
+            log.begin(words)?;
         }
-        bytes.extend_from_slice(&buf[..count]).ok()?;
+        Ok(Telling {
+            rt,
+            asked,
+            log,
+            drops: is_for_server(words),
+        })
     }
-    Some(bytes)
-}
 
-/// Before the command.
-pub fn begin(telling: Telling, repo: &mut RealDisk, tree: &mut RealTree) {
-    match telling.progress {
-        Some(Verb::Backup) => repo.tell_progress(),
-        Some(Verb::Restore) => tree.tell_progress(),
-        _ => {}
+    /// The output of the command.
+    pub fn output(&self) -> RealSink {
+        let mut out = RealSink::new(self.rt);
+        if self.log.is_some() || !matches!(self.asked.level, LogWord::Nothing) {
+            out.keep();
+        }
+        if self.drops {
+            out.drop_what_fails();
+        }
+        out
     }
-}
 
-/// Behind the command, which ended with this status.
-pub fn end(rt: HostRuntime, telling: Telling, outside: &System, status: u8) {
-    if status == 0 {
-        match telling.progress {
-            Some(Verb::Backup) => outside.repo.end_progress(),
-            Some(Verb::Restore) => outside.tree.end_progress(),
+    /// The command, where it isn't refused for its words.
+    pub fn command(&self) -> Option<&Command> {
+        self.asked.command.as_ref()
+    }
+
+    /// The command whose progress is to be seen.
+    pub fn progress(&self) -> Option<Verb> {
+        match &self.asked.command {
+            Some(command) if matches!(self.asked.level, LogWord::Progress) => Some(command.verb),
+            _ => None,
+        }
+    }
+
+    /// After the command, which ended with this status; an object of the system failed for this reason.
+    pub fn end(
+        &mut self,
+        out: &RealSink,
+        failed: Option<Failed<'_>>,
+        status: u8,
+    ) -> Result<(), AllocError> {
+        let reasons = self.reasons(failed, status)?;
+        let is_blind = self.is_blind(status);
+        for line in &lines_of(self.rt.alloc(), out.kept(), &reasons)? {
+            let is_wanted = line.level != Level::Info && line.level.is_in(self.asked.level);
+            if is_wanted || (is_blind && line.explains) {
+                let text = line.text.as_str();
+                let _ = eprintln!(self.rt; "{text}");
+            }
+            if let Some(log) = &mut self.log {
+                log.add(line)?;
+            }
+        }
+        match &mut self.log {
+            Some(log) => log.end(status),
+            None => Ok(()),
+        }
+    }
+
+    // Whether no option could be read that asks for a reason.
+    fn is_blind(&self, status: u8) -> bool {
+        let is_absent = self
+            .asked
+            .config
+            .as_ref()
+            .is_some_and(|config| !config.is_there);
+        status == UNREADABLE || (status == MISSING && is_absent)
+    }
+
+    // Why the command ended so.
+    fn reasons(&self, failed: Option<Failed<'_>>, status: u8) -> Result<Vec<String>, AllocError> {
+        let alloc = self.rt.alloc();
+        let mut reasons = Vec::new(alloc);
+        if let Some(Failed { object, reason }) = failed {
+            reasons.push(format!(in alloc; "{object}: {reason}")?)?;
+        }
+        match &self.asked.config {
+            Some(config) if status == MISSING => {
+                let path = config.path.as_str();
+                let found = if config.is_there {
+                    "was read"
+                } else {
+                    "is not there"
+                };
+                reasons.push(format!(in alloc; "configuration: '{path}' {found}")?)?;
+            }
             _ => {}
         }
-    }
-    if telling.failures {
-        if let Some((object, reason)) = failed(outside, status) {
-            let _ = eprintln!(rt; "{object}: {reason}");
-        }
+        Ok(reasons)
     }
 }
 
-// The object whose failure the status tells, and what failed of it.
-fn failed(outside: &System, status: u8) -> Option<(&'static str, &str)> {
+/// An object of the system that failed, and what failed of it.
+#[derive(Clone, Copy)]
+pub struct Failed<'a> {
+    object: &'static str,
+    reason: &'a str,
+}
+
+/// The object whose failure the status tells.
+pub fn failure_of(outside: &System, status: u8) -> Option<Failed<'_>> {
     let (object, reason) = match status {
         80 => ("repository", outside.repo.last_failure()),
         81 => ("spool", outside.spool.last_failure()),
@@ -129,5 +163,8 @@ fn failed(outside: &System, status: u8) -> Option<(&'static str, &str)> {
         87 => ("output", outside.out.last_failure()),
         _ => return None,
     };
-    Some((object, reason?))
+    Some(Failed {
+        object,
+        reason: reason?,
+    })
 }

@@ -1,0 +1,214 @@
+#!/usr/bin/env bash
+# docs/RUNBOOK.md, as an administrator types it: each of its cases that one machine can show, with servers, block by block as they stand
+# there. Changed are the paths, labels and times, and how long is waited.
+. "$(dirname "$0")/typed"
+page=docs/RUNBOOK.md
+
+# typed STATUS HEADING NUMBER [SED]
+typed() {
+    printf -- '-- %s, %s\n' "$2" "$3"
+    type_in "$1" "$page" "${@:2}"
+}
+
+# has WORD [FILE]: the output has it.
+has() {
+    grep -q -e "$1" "${2:-output}" || complain "no '$1' in: $(cat "${2:-output}")"
+}
+
+program() {
+    as_user "$room/bin/pgbackrest" --stanza=main "$@"
+}
+
+rows() {
+    [ "$(ask 'select count(*) from orders')" = "$1" ] || complain "orders has $(ask 'select count(*) from orders') rows and not $1: $2"
+}
+
+last_label() {
+    program info | sed -n 's/^.* backup: //p' | tail -n 1
+}
+
+start() {
+    as_user systemctl start postgresql@16-main
+    await_writes
+}
+
+repo=srv/pgbackrest/repo
+block README.md 'Configure' 1 >conf
+block README.md 'Configure' 2 >>etc/main/postgresql.conf
+printf 'archive_timeout = 0\n' >>etc/main/postgresql.conf
+typed 0 'Move from pgBackRest' 1
+start
+ask 'create table orders as select generate_series(1, 100) as n' >/dev/null
+program stanza-create || complain 'no stanza'
+program backup >/dev/null || complain 'no backup'
+first=$(last_label)
+
+chmod 0 $repo/archive
+ask 'create table other as select 1; select pg_switch_wal()' >/dev/null
+sleep 2
+typed 80 'Archiving is stuck' 1
+has 'ERROR: \[080\]'
+chmod 700 $repo/archive
+typed 0 'Archiving is stuck' 2 's/sleep 60/sleep 1/'
+for try in $(seq 90); do
+    if [ -z "$(find data/main/pg_wal/archive_status -name '*.ready')" ]; then break; fi
+    sleep 1
+done
+[ "$try" -lt 90 ] || complain "archiving doesn't go on"
+
+# A backup whose log isn't archived in time leaves its files.
+typed 0 'Pause backups and pushes' 2 's/sleep 3600/sleep 10/'
+sleep 1
+program --archive-timeout=2 --type=full backup >output && complain 'a backup without its log'
+has 'ERROR: \[042\]'
+typed 0 "The repository's disk is full" 2
+[ "$(wc -l <output)" = 1 ] && [ -d "$(cat output)" ] || complain "the folders that aren't listed: $(cat output)"
+folder=$(cat output)
+sleep 10
+typed 0 "The repository's disk is full" 1
+[ ! -e "$folder" ] || complain 'the folder of a failed backup stays'
+typed 0 "The repository's disk is full" 3 's/200M/2M/'
+typed 0 'Pause backups and pushes' 1 's/sleep 3600/sleep 5/'
+sleep 1
+program backup >output && complain 'a backup beside the lock'
+has 'ERROR: \[020\]'
+sleep 5
+
+as_user mkdir "$room/srv/more"
+typed 0 "The server's disk is full" 1
+rows 100 'pg_wal as a link'
+program backup >output || complain "a backup with pg_wal as a link: $(cat output)"
+
+# What isn't archived comes back from pg_wal.
+(as_user flock "$room/srv/pgbackrest/lock/main-archive.lock" sleep 12) &
+sleep 1
+ask 'insert into orders select generate_series(101, 200)' >/dev/null
+typed 0 'The server is lost' 1
+wait
+await_writes
+rows 200 'pg_wal was lost'
+has 'archive recovery complete' data/log
+rm -r data/lost srv/more
+for status in 0 1 80; do
+    ended=0
+    as_user sh -c "p() { return $status; }; $(block $page 'The server is lost' 2 | sed "s/^restore_command = '\(.*\)'\$/\1/; s#^[^;]*;#p;#; s/exit/return/; s/^/f() { /; s/\$/; }; f/")" || ended=$?
+    [ "$ended" = "$((status > 1 ? 126 : status))" ] || complain "the restore_command makes $ended of $status"
+done
+switch
+program --type=full backup >output || complain "a full backup: $(cat output)"
+second=$(last_label)
+
+as_user mkdir "$room/srv/restore"
+# on_copy QUESTION
+on_copy() {
+    as_user "$tools/psql" -h "$room/srv/restore" -p 5433 -d postgres -AtXq -c "$1"
+}
+# until_there ANSWER QUESTION: waits for this answer of the copy.
+until_there() {
+    local try
+    for try in $(seq 120); do
+        if [ "$(on_copy "$2" 2>/dev/null)" = "$1" ]; then return; fi
+        sleep 0.5
+    done
+    complain "the copy doesn't answer $1 to $2: $(tail -n 5 srv/restore/log)"
+}
+typed 0 'Restore beside production' 1
+until_there 'f|200' 'select pg_is_in_recovery(), count(*) from orders'
+ask 'insert into orders values (201)' >/dev/null
+rows 201 'beside a copy'
+find data/main/pg_wal -name 'RECOVERY*' | grep . && complain "production's pg_wal was touched"
+typed 0 'Restore beside production' 2
+
+target=$(ask 'select now()')
+sleep 1
+ask 'drop table orders' >/dev/null
+typed 0 'A table was dropped' 1
+has "$second"
+switch
+beside=$(block $page 'Restore beside production' 1 | sed "s/ restore\$/ --set=$second restore/")
+# (the settings come before the END of that block's settings)
+more=$(block $page 'A table was dropped' 2 | sed "s/2026.*'/$target'/")
+printf '%s\n' "$beside" | awk -v more="$more" '$0 == "END" { print more } { print }' >script
+as_user bash -ec "$(cat script)" >output 2>errors || complain "a recovery to a time: $(cat output errors)"
+until_there 201 'select count(*) from orders'
+sleep 1
+typed 0 'A table was dropped' 3
+rows 201 'the table was carried over'
+typed 0 'Restore beside production' 2
+
+typed 0 'One older backup, and nothing after it' 1 "s/LABEL/$second/"
+await_writes
+rows 200 'the state of an older backup'
+grep recovery_target data/main/postgresql.auto.conf && complain 'the target stays'
+rm -r data/lost
+switch
+
+# Another machine: first a standby, then one in the place of the first.
+make_host "$room/second"
+cp etc/main/* second/etc/main/
+settings "$room/second" >>second/etc/main/postgresql.conf
+chown -R --reference=data/main second/etc
+sed "s#$room/data#$room/second/data#; s#$room/socket#$room/second/socket#" conf >second/conf
+host=$room/second
+typed 0 'A standby' 1 "s#host=primary.example user=replicator#host=$room/socket user=postgres#"
+for try in $(seq 60); do
+    if ask 'select status from pg_stat_wal_receiver' | grep -q streaming; then break; fi
+    sleep 0.5
+done
+ask 'select status from pg_stat_wal_receiver' | grep -q streaming || complain "the standby doesn't stream: $(tail -n 5 second/data/log)"
+as_user systemctl stop postgresql@16-main
+rm -r second/data/main
+typed 0 'Restore on another host' 1
+await_writes
+rows 200 'on another machine'
+[ "$(ask 'show archive_mode')" = off ] || complain 'the other machine archives'
+host=$room
+as_user systemctl stop postgresql@16-main
+host=$room/second
+typed 0 'Restore on another host' 2
+[ "$(ask 'show archive_mode')" = on ] || complain "the other machine doesn't archive"
+switch
+as_user systemctl stop postgresql@16-main
+host=$room
+# (from here on the first machine's folder is that of the second)
+rm -r data/main
+mv second/data/main data/main
+start
+
+if command -v rsync >/dev/null; then
+    as_user mkdir "$room/mnt/copy"
+    typed 0 'Copy the repository, and check the copy' 1
+    # All info files are lost, and put back.
+    rm $repo/archive/main/archive.info* $repo/backup/main/backup.info*
+    program stanza-create >output && complain 'a stanza over backups'
+    has 'ERROR: \[029\]'
+    typed 0 'All info files are lost' 1
+fi
+full=$(last_label)
+rm $repo/archive/main/archive.info* $repo/backup/main/backup.info*
+typed 0 'All info files are lost, and there is no copy' 1
+typed 0 'All info files are lost, and there is no copy' 2 "s/LABEL/$full/"
+printf "archive_mode = off\nport = 5433\nunix_socket_directories = '%s'\nexternal_pid_file = ''\n" "$room/srv/restore" >>srv/restore/main/postgresql.auto.conf
+as_user "$tools/pg_ctl" -D "$room/srv/restore/main" -l "$room/srv/restore/log" -w \
+    -o "-c config_file=$room/etc/main/postgresql.conf -c data_directory=$room/srv/restore/main" start >/dev/null || complain "no server from a lost repository: $(tail -n 5 srv/restore/log)"
+until_there 'f|200' 'select pg_is_in_recovery(), count(*) from orders'
+typed 0 'Restore beside production' 2
+
+# pg_upgrade from 15 to 15, which makes another cluster as every upgrade does.
+typed 0 'An upgrade of PostgreSQL' 1
+as_user systemctl stop postgresql@16-main
+mkdir data17
+chown --reference=data/main data17
+as_user "$tools/initdb" -D "$room/data17/main" -U postgres -A trust -E UTF8 --locale=C --no-sync >/dev/null
+(cd data17 && "${as[@]}" "$tools/pg_upgrade" -b "$tools" -B "$tools" -d "$room/etc/main" -D "$room/data17/main" -U postgres -s "$room/socket" >output) ||
+    complain "pg_upgrade: $(tail -n 5 data17/output)"
+sed -i "s#$room/data/main#$room/data17/main#; s#^hba_file.*##; s#--stanza=main #--stanza=main17 #" etc/main/postgresql.conf
+typed 0 'An upgrade of PostgreSQL' 2 "s#/var/lib/postgresql/17/#$room/data17/#"
+rows 200 'after an upgrade'
+as_user "$room/bin/pgbackrest" --stanza=main17 info | grep -q 'full backup: ' || complain 'no backup after the upgrade'
+
+typed 0 'Remove a stanza' 1
+program info >output && complain 'the removed stanza is there'
+has 'ERROR: \[021\]'
+[ ! -e $repo/backup/main ] && [ -e $repo/backup/main17 ] || complain 'the wrong folders were removed'
+exit "$wrong"

@@ -1,0 +1,44 @@
+// The paths of the command line, as a process finds them that has another working folder: the server, whose
+// `restore_command` a restore writes, and what runs in the background.
+use crate::reading::{Reader, Word};
+use std::io::ErrorKind;
+use std::{env, io};
+
+const PATHS: [&str; 5] = [
+    "config",
+    "pg1-path",
+    "repo1-path",
+    "lock-path",
+    "spool-path",
+];
+
+/// The words, with each relative path of an option behind the working folder. They stay as they are where that has no
+/// name.
+pub fn absolute(rt: &HostRuntime, words: Vec<String>) -> io::Result<Vec<String>> {
+    let folder = match env::current_dir(rt) {
+        Ok(folder) => folder,
+        Err(e) if e.kind() == ErrorKind::OutOfMemory => return Err(e),
+        Err(_) => return Ok(words),
+    };
+    let folder = folder.as_path().as_str();
+    let mut reader = Reader::new();
+    let mut found = Vec::new(rt.alloc());
+    for word in &words {
+        let word = word.as_str();
+        let text = match reader.read(word) {
+            Word::Given(name, value) if is_relative(name, value) => {
+                format!(in rt.alloc(); "--{name}={folder}/{value}")?
+            }
+            Word::Value(name, value) if is_relative(name, value) => {
+                format!(in rt.alloc(); "{folder}/{value}")?
+            }
+            _ => String::from_str(rt.alloc(), word)?,
+        };
+        found.push(text).map_err(|_| ErrorKind::OutOfMemory)?;
+    }
+    Ok(found)
+}
+
+fn is_relative(name: &str, value: &str) -> bool {
+    PATHS.contains(&name) && !value.is_empty() && !value.starts_with('/')
+}
