@@ -249,3 +249,60 @@ fn restores(rt: HostRuntime) {
     shell(&rt, &scratch, IS_RESTORED);
     well(&rt, scratch.remove());
 }
+
+// A folder with a name that isn't UTF-8, what is passed over, whether the log is, and whether all can be listed then.
+const PASSED: &[(&str, bool, bool, bool)] = &[
+    ("pg_stat_tmp", false, false, false),
+    ("pg_stat_tmp", true, false, true),
+    ("pg_replslot/slot", true, false, true),
+    ("base", true, true, false),
+    ("pg_wal", true, false, false),
+    ("pg_wal", true, true, true),
+];
+
+fn listing_tree(rt: HostRuntime, pass_over: bool, log_is_folder: bool) -> RealTree {
+    let mut tree = RealTree::new(rt);
+    if pass_over {
+        tree.pass_over_omitted();
+    }
+    if log_is_folder {
+        tree.log_is_folder();
+    }
+    tree
+}
+
+#[test]
+fn passes_over_what_no_backup_takes(rt: HostRuntime) {
+    let scratch = well(&rt, Scratch::new(rt, "passed"));
+    let data = well(&rt, scratch.below("data"));
+    for (folder, pass_over, log_is_folder, listed) in PASSED {
+        let made = format!(in rt.alloc();
+            "mkdir -p data/{folder}; >data/{folder}/$(printf '\\377')"
+        );
+        shell(&rt, &scratch, &well(&rt, made));
+        let mut tree = listing_tree(rt, *pass_over, *log_is_folder);
+        same(&rt, tree.open(&data), Ok(()));
+        same(&rt, tree.list(rt.alloc()).is_ok(), *listed);
+        shell(&rt, &scratch, "rm -rf data");
+    }
+    well(&rt, scratch.remove());
+}
+
+#[test]
+fn lists_a_linked_log(rt: HostRuntime) {
+    let scratch = well(&rt, Scratch::new(rt, "linked"));
+    let data = well(&rt, scratch.below("data"));
+    shell(
+        &rt,
+        &scratch,
+        "mkdir data other; >other/f; ln -s ../other data/pg_wal",
+    );
+    for (log_is_folder, wanted) in [(false, Node::Link), (true, Node::Folder)] {
+        let mut tree = listing_tree(rt, false, log_is_folder);
+        same(&rt, tree.open(&data), Ok(()));
+        let seen = well(&rt, tree.list(rt.alloc()));
+        same(&rt, seen.len(), 1);
+        same(&rt, seen.first().map(|seen| seen.node), Some(wanted));
+    }
+    well(&rt, scratch.remove());
+}
