@@ -24,7 +24,7 @@ run() {
     [ "$status" = "$wanted" ] || complain "$what: status $status and not $wanted: $(cat output)"
 }
 
-# calls PATTERN: how many calls are so.
+# calls PATTERN: how many calls are so. (Where several processes call at once, how one ends stands in another line.)
 calls() {
     grep -Ec "$1" calls || true
 }
@@ -43,7 +43,7 @@ singly() {
     calls "fsync\([0-9]*<$1[/>]"
 }
 
-control='rename\(".*/global/pg_control\.pgbackrest\.tmp", ".*/global/pg_control"\) = 0'
+control='rename\(".*/global/pg_control\.pgbackrest\.tmp", ".*/global/pg_control"'
 mkdir held 'to here' b
 printf '#!/bin/sh\nexit 0\n' >b/sync
 chmod +x b/sync
@@ -87,12 +87,12 @@ for way in swift each; do
         nodes=$(find "$to" -type f -o -type d | wc -l)
         [ "$(singly "$to")" -gt "$nodes" ] || complain "a restore, $way: $(singly "$to") syncs of $nodes nodes"
     fi
-    [ "$(last "fsync\([0-9]*<$to/global>\) += 0")" -gt "$at" ] || complain "a restore, $way: its name is not synced"
+    [ "$(last "fsync\([0-9]*<$to/global>")" -gt "$at" ] || complain "a restore, $way: its name is not synced"
 
     # over a folder that has one
     run 0 "over another, $way" "${restored[@]}" --delta restore
-    away=$(first "unlink\(\"$to/global/pg_control\"\) = 0")
-    [ "$(first "fsync\([0-9]*<$to/global>\) += 0")" -gt "$away" ] || complain "over another, $way: the old control file may come back"
+    away=$(first "unlink\(\"$to/global/pg_control\"")
+    [ "$(first "fsync\([0-9]*<$to/global>")" -gt "$away" ] || complain "over another, $way: the old control file may come back"
     if [ "$way" = each ]; then
         [ "$(calls 'fsync\([0-9]*<.*/PG_VERSION>\)')" -ge 1 ] || complain 'a file that was kept is not synced'
     fi
@@ -114,7 +114,7 @@ sleep 1.1
 run 0 'each file of a backup' --repo1-path="$room/held here/repo" --pg1-path="$room/pg" --no-online --no-expire-auto --type=full backup
 [ "$(calls 'syncfs\(')" = 0 ] || complain 'each file of a backup: it syncs at once'
 files=$(find "$label" -type f | wc -l)
-[ "$(calls 'fsync\([0-9]*<.*/backup/demo/.*\) += 0')" -ge "$files" ] || complain "of $files files $(calls 'fsync\(') are synced"
+[ "$(calls 'fsync\([0-9]*<.*/backup/demo/')" -ge "$files" ] || complain "of $files files $(calls 'fsync\(') are synced"
 sleep 1.1
 options=(-e inject=fsync:error=EIO:when=20)
 run 80 'a file whose sync fails' --repo1-path="$room/held here/repo" --pg1-path="$room/pg" --no-online --no-expire-auto --type=full backup
@@ -124,7 +124,7 @@ mv 'held here' held
 # The folder that holds a root which others made is synced once.
 mkdir -p made/repo
 run 0 'a stanza in a folder that is there' --repo1-path="$room/made/repo" --pg1-path="$room/pg" --no-online stanza-create
-[ "$(calls 'fsync\([0-9]*<.*/made>\) += 0')" = 1 ] || complain 'the folder that holds the root is not synced'
+[ "$(calls 'fsync\([0-9]*<.*/made>')" = 1 ] || complain 'the folder that holds the root is not synced'
 
 # One restore at a time.
 rm -rf to
