@@ -146,8 +146,8 @@ impl RealLink {
         }
     }
 
-    /// From now on a worker is lost that says nothing, or takes nothing, for so long, and then reads nothing for so long
-    /// again. 0 is never.
+    /// From now on a worker is lost that says nothing, or takes nothing, for so long, and then reads nothing for so
+    /// long again. 0 is never.
     pub fn set_timeout(&mut self, seconds: u64) {
         self.longest = if seconds == 0 {
             None

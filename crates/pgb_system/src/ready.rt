@@ -48,8 +48,8 @@ fn is_idle(before: &Option<String>, now: &Option<String>) -> bool {
     }
 }
 
-/// Waits until a pipe of a worker is ready. One that is silent for so many milliseconds may be summing a large file: it is
-/// waited for as long as it reads, which is looked at each time that they are over.
+/// Waits until a pipe of a worker is ready. One that is silent for so many milliseconds may be summing a large file: it
+/// is waited for as long as it reads, which is looked at each time that they are over.
 pub(crate) fn wait_for(
     rt: &HostRuntime,
     worker: u32,
