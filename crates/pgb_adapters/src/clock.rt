@@ -46,8 +46,8 @@ impl RealClock {
         }
     }
 
-    /// From now on a second that is waited for is over by the clock of this folder's file system too, which may be that of
-    /// another machine. Where no file can be made there, the system's clock stands for it.
+    /// From now on a second that is waited for is over by the clock of this folder's file system too, which may be that
+    /// of another machine. Where no file can be made there, the system's clock stands for it.
     pub fn by_folder(&mut self, path: &str) -> Result<(), AllocError> {
         self.touched = Some(format!(in self.rt.alloc(); "{path}/{TOUCHED}")?);
         Ok(())

@@ -47,8 +47,8 @@ pub fn hold_file(rt: &HostRuntime, folder: &str, name: &str) -> io::Result<Optio
     ))
 }
 
-// None where another file came to stand there meanwhile. A file that is there is opened to read and write it, which waits
-// for nobody even where it has just become a pipe.
+// None where another file came to stand there meanwhile. A file that is there is opened to read and write it, which
+// waits for nobody even where it has just become a pipe.
 fn open_lock(rt: &HostRuntime, path: &str) -> io::Result<Option<File>> {
     let mut how = OpenOptions::new();
     how.read(true).write(true);

@@ -47,8 +47,8 @@ impl RealLocks {
         }
     }
 
-    /// From now on a stanza's lock is also one of its folder in this repository. So two programs exclude each other that
-    /// have other places for their locks, as another folder for temporary files.
+    /// From now on a stanza's lock is also one of its folder in this repository. So two programs exclude each other
+    /// that have other places for their locks, as another folder for temporary files.
     pub fn guard(&mut self, repo_root: &str) -> Result<(), AllocError>
         ensures { ⟦<RealLocks as Locks>⟧.state self.new ≡ ⟦<RealLocks as Locks>⟧.state self.old }
     {

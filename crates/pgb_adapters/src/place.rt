@@ -235,8 +235,8 @@ pub fn make_folders(rt: &HostRuntime, path: &str) -> io::Result<()> {
     how.mode(FOLDER_MODE).recursive(true).create(rt, path)
 }
 
-/// Makes the names in a folder durable, and answers the folder: None where it is absent. Some file systems can't; that is
-/// a fault, whose text names the folder.
+/// Makes the names in a folder durable, and answers the folder: None where it is absent. Some file systems can't; that
+/// is a fault, whose text names the folder.
 pub fn sync_folder(rt: &HostRuntime, path: &str) -> io::Result<Option<File>> {
     let Some(folder) = unless_absent(File::open(rt, path))? else {
         return Ok(None);
@@ -270,8 +270,9 @@ pub enum Opened {
     Other,
 }
 
-/// Opens the file of a path. What is no file isn't opened: a pipe would wait for who is at its other end, and a link may
-/// lead anywhere. The system can't be asked for that at the opening itself, so it is looked at before and behind it.
+/// Opens the file of a path. What is no file isn't opened: a pipe would wait for who is at its other end, and a link
+/// may lead anywhere. The system can't be asked for that at the opening itself, so it is looked at before and behind
+/// it.
 pub fn open_plain(rt: &HostRuntime, how: &OpenOptions, path: &str) -> io::Result<Opened> {
     let Some(seen) = unless_absent(fs::symlink_metadata(rt, path))? else {
         return Ok(Opened::Absent);

@@ -66,6 +66,10 @@ impl Source for RealSource {
             Some(file) => read_some(file, buf),
             None => Ok(0),
         };
+        // it is closed at its end
+        if matches!(done, Ok(0)) && !buf.is_empty() {
+            self.file = None;
+        }
         self.faults
             .told(&call_of(&self.rt, "reading of", &self.place), done)
     }

@@ -13,8 +13,8 @@ use std::{fs, io};
 /// How a data folder is listed.
 #[derive(Clone, Copy)]
 pub struct Listing {
-    /// Below the folders whose content no backup takes, what can't be listed is passed over: a folder that can't be read,
-    /// and a name that isn't UTF-8.
+    /// Below the folders whose content no backup takes, what can't be listed is passed over: a folder that can't be
+    /// read, and a name that isn't UTF-8.
     pub pass_over: bool,
     /// The folder of the log is such a folder too, and an empty one where a link to it stands in its place: so for the
     /// backup of a running server, whose log isn't taken from there.

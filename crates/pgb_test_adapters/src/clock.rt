@@ -15,7 +15,8 @@ fn waits_until_a_second_is_over(rt: HostRuntime) {
     same(&rt, clock.wait_past(first), Ok(()));
 }
 
-// What stands in a folder whose clock is looked at. A file that is made behind that is of a later second than one before.
+// What stands in a folder whose clock is looked at. A file that is made behind that is of a later second than one
+// before.
 const FOLDERS: &[&str] = &[
     "mkdir data",
     "mkdir data; ln -s ../other data/pgsql_tmp.pgbackrest; >other",
