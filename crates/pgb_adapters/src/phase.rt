@@ -50,7 +50,8 @@ impl Phase {
 }
 
 fn has(bytes: &[u8], word: &[u8]) -> bool {
-    bytes.windows(word.len()).any(|part| part == word)
+    let size = word.len();
+    size > 0 && bytes.windows(size).any(|part| part == word)
 }
 
 fn segment_in(bytes: &[u8]) -> Option<&str> {

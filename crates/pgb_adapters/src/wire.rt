@@ -94,6 +94,18 @@ impl RealWire {
         let text = "the socket belongs to another user than the data folder";
         Err(io::Error::new(ErrorKind::PermissionDenied, text))
     }
+
+    fn hear(&mut self, buf: &mut [u8]) -> io::Result<usize>
+        ensures room { IfOk result (λ n. n ≤ length buf.old) }
+        ensures same { (self.new.place ≡ self.old.place) × (self.new.faults ≡ self.old.faults) }
+    {
+        let Some(stream) = &mut self.stream else {
+            return Err(io::Error::from(ErrorKind::NotConnected));
+        };
+        let count = timed(read_some(stream, buf))?;
+        self.phase.receive(&self.rt, &buf[..count]);
+        Ok(count)
+    }
 }
 
 impl Wire for RealWire {
@@ -121,13 +133,7 @@ impl Wire for RealWire {
     }
 
     fn receive(&mut self, buf: &mut [u8]) -> Result<usize, Stop> {
-        let done = match &mut self.stream {
-            Some(stream) => timed(read_some(stream, buf)),
-            None => Err(io::Error::from(ErrorKind::NotConnected)),
-        };
-        if let Ok(count) = &done {
-            self.phase.receive(&self.rt, &buf[..*count]);
-        }
+        let done = self.hear(buf);
         self.faults
             .told(&call_of(&self.rt, "reading of", &self.place), done)
     }
