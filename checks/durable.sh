@@ -1,147 +1,173 @@
 #!/usr/bin/env bash
-# What is durable when, by the calls that strace sees: a restore before its control file has its name, the files of a backup before it is
-# listed, each by one sync of the file system where that is believed, and else by the handle that wrote it. A late failure is told.
+# What is on the disk when, seen by strace: all of a restore before the control file gets its name, and the name then; all of a backup
+# before it is listed; by which syncs, where a whole file system's can't be relied on; and that a restore whose sync fails is none.
 . "$(dirname "$0")/common"
-strace=(strace -f -qq -y -o calls)
-if ! "${strace[@]}" true 2>/dev/null; then
+calls=execve,open,openat,creat,mkdir,mkdirat,rename,renameat,renameat2,link,linkat,unlink,unlinkat,rmdir,ftruncate
+calls=$calls,write,writev,pwrite64,copy_file_range,fsync,fdatasync,syncfs,sync
+if ! strace -f -qq -y -o calls -e trace="$calls" true 2>/dev/null; then
     printf 'strace is not here: skipped\n'
     exit 77
 fi
-if [ "$(findmnt -no FSTYPE -T "$room")" != ext4 ]; then
-    printf 'the folder for checks is not on ext4: skipped\n'
-    exit 77
-fi
-traced=(-e trace=execve,openat,write,rename,unlink,fsync,syncfs)
+# The runner owns all of it. No server runs in it, so a part of it will do.
+chown -R "$(id -u):$(id -g)" pg
+rm -r pg/base/4 pg/base/5
+memory=
+trap 'for place in $memory; do umount "$place"; done; rm -rf "$room"' EXIT
+ours=("$top/bin/pgbackrest" --no-config --stanza=demo)
+backup=(--pg1-path="$room/pg" --lock-path="$room/lock" --no-online --no-expire-auto --type=full backup)
 
-# run STATUS WHAT WORD..: the program ends so under strace, with the options that `options` has.
-options=()
-run() {
-    local status=0 wanted=$1 what=$2
-    shift 2
-    "${strace[@]}" "${traced[@]}" "${options[@]}" "$top/bin/pgbackrest" --no-config --stanza=demo --lock-path="$room/lock" "$@" \
-        >output 2>&1 || status=$?
-    [ "$status" = "$wanted" ] || complain "$what: status $status and not $wanted: $(cat output)"
+# traced WORD..: the program ends with 0, and its calls are known.
+traced() {
+    strace -f -qq -y -s 300 -o calls -e trace="$calls" "${ours[@]}" "$@" >output 2>errors || complain "$* ended with $?: $(cat output errors)"
+    label=$(sed -n 's/^INFO: new backup label = //p' output)
 }
 
-# calls PATTERN: how many calls are so.
-calls() {
-    grep -Ec "$1" calls || true
+# The calls, each as one line when it has ended.
+ended() {
+    awk '
+        { pid = $1; sub(/^[0-9]+ +/, "") }
+        / <unfinished \.\.\.>$/ { sub(/ <unfinished \.\.\.>$/, ""); begun[pid] = $0; next }
+        /^<\.\.\. [a-z0-9_]+ resumed>/ { sub(/^<\.\.\. [a-z0-9_]+ resumed>/, ""); $0 = begun[pid] $0 }
+        !/ = -1 E/ { print }
+    ' calls
 }
 
-# The number of the first and the last line of calls that is so.
-first() {
-    grep -En -m 1 "$1" calls | cut -d: -f1
+# unsynced ROOT LAST EACH: of what was changed at and below the root that which isn't on the disk as LAST gets its name, and that which
+# isn't at the end. A sync of the whole file system counts unless EACH is y; then a file whose first sync is by another opening isn't
+# enough.
+unsynced() {
+    ended | awk -v root="$1" -v last="$2" -v each="$3" '
+        function outer(path) { sub(/\/[^\/]*$/, "", path); return path }
+        function change(path) { if (path == root || index(path, root "/") == 1) dirty[path] = 1 }
+        function tell(when,    path) { for (path in dirty) print when ": " path }
+        {
+            name = $0
+            sub(/\(.*/, "", name)
+            split($0, quoted, "\"")
+            held = $0
+            sub(/^[a-z0-9_]+\([0-9]+</, "", held)
+            sub(/>.*/, "", held)
+        }
+        name ~ /^(open|openat|creat)$/ && /O_CREAT/ {
+            if (!(quoted[2] in dirty)) opened[quoted[2]] = 0
+            change(quoted[2]); change(outer(quoted[2]))
+        }
+        name ~ /^(open|openat|creat)$/ && /O_WRONLY|O_RDWR/ { opened[quoted[2]]++ }
+        name ~ /^(mkdir|mkdirat|link|linkat)$/ { change(quoted[2]); change(outer(quoted[2])) }
+        name ~ /^(unlink|unlinkat|rmdir)$/ { delete dirty[quoted[2]]; change(outer(quoted[2])) }
+        name ~ /^(write|writev|pwrite64|copy_file_range|ftruncate)$/ { change(held) }
+        name ~ /^rename/ {
+            change(outer(quoted[2])); change(outer(quoted[4]))
+            if (quoted[4] == last) {
+                named++
+                # (its folder has just changed, and is synced behind this)
+                delete dirty[outer(last)]
+                tell("as " last " gets its name")
+            }
+            if (quoted[2] in dirty) { delete dirty[quoted[2]]; change(quoted[4]) }
+            if (quoted[4] == last) change(outer(last))
+        }
+        name ~ /^(fsync|fdatasync)$/ {
+            if (each == "y" && (held in dirty) && opened[held] > 1) print "opened again: " held
+            delete dirty[held]
+        }
+        name == "syncfs" && each != "y" { delete dirty }
+        END {
+            tell("at the end")
+            if (named == 0) print "never named: " last
+        }
+    '
 }
 
-last() {
-    grep -En "$1" calls | tail -n 1 | cut -d: -f1
+# synced WHAT ROOT LAST EACH
+synced() {
+    unsynced "$2" "$3" "$4" >found
+    [ ! -s found ] || complain "$1: $(wc -l <found) aren't synced, $(head -n 3 found | tr '\n' ' ')"
 }
 
-# how many files and folders below a path were synced singly
-singly() {
-    calls "fsync\([0-9]*<$1[/>]"
+want_stanza() {
+    "${ours[@]}" --repo1-path="$1" --pg1-path="$room/pg" --lock-path="$room/lock" --no-online stanza-create >output 2>errors ||
+        complain "stanza-create in $1 ended with $?: $(cat output errors)"
 }
 
-control='rename\(".*/global/pg_control\.pgbackrest\.tmp", ".*/global/pg_control"\) = 0'
-mkdir held 'to here' b
-printf '#!/bin/sh\nexit 0\n' >b/sync
-chmod +x b/sync
-chown -R "$(id -u)" pg
-PATH=$room/b:$PATH
-run 0 'a stanza' --repo1-path="$room/held/repo" --pg1-path="$room/pg" --no-online stanza-create
+# A program of this name that comes first in PATH isn't the system's.
+mkdir strange
+printf '#!/bin/sh\necho called >>%s/strange/called\nexit 0\n' "$room" >strange/sync
+chmod 755 strange/sync
+system=$PATH
+PATH=$room/strange:$PATH
 
-# The files of a backup are synced all at once, by the system's own program.
-run 0 'a backup' --repo1-path="$room/held/repo" --pg1-path="$room/pg" --no-online --no-expire-auto backup
-[ "$(calls 'syncfs\(.*\) += 0')" -ge 1 ] || complain 'the files of a backup are not synced at once'
-[ "$(calls 'execve\("/[a-z/]*/sync", \[".*", "-f"')" = "$(calls 'syncfs\(')" ] || complain 'another program syncs'
-[ "$(calls 'fsync\([0-9]*<.*/pg_data/base/')" = 0 ] || complain 'a file of a backup is synced singly'
+# A backup, and its control file, which is read until two readings are the same.
+repo=$room/repo
+want_stanza "$repo"
+traced --repo1-path="$repo" "${backup[@]}"
+synced 'a backup' "$repo/backup/demo/$label" "$repo/backup/demo/backup.info" n
+strace -f -qq -y -o calls -e trace=read,pread64,preadv "${ours[@]}" --repo1-path="$repo" "${backup[@]}" >output 2>errors ||
+    complain "a backup ended with $?: $(cat output)"
+readings=$(grep -F "<$room/pg/global/pg_control>" calls | cut -d' ' -f1 | sort | uniq -c | sort -n | tail -n 1 | awk '{ print $1 + 0 }')
+[ "${readings:-0}" -ge 2 ] || complain "who stores the control file reads it ${readings:-0} times"
 
-# Where that fails, nothing is listed.
-options=(-e inject=syncfs:error=EIO)
-sleep 1.1
-run 80 'a backup whose sync fails' --repo1-path="$room/held/repo" --pg1-path="$room/pg" --no-online --no-expire-auto --type=full backup
-options=()
-[ "$(grep -c '^2.*F=' held/repo/backup/demo/backup.info)" = 1 ] || complain 'a backup is listed whose sync failed'
+# A restore into a new folder, and one of a few files.
+traced --repo1-path="$repo" --pg1-path="$room/new" restore
+synced 'a restore' "$room/new" "$room/new/global/pg_control" n
+printf 'x' >>new/PG_VERSION
+printf 'x' >>new/base/1/PG_VERSION
+traced --repo1-path="$repo" --pg1-path="$room/new" --delta restore
+synced 'a restore of a few files' "$room/new" "$room/new/global/pg_control" n
+[ ! -e strange/called ] || complain "another program than the system's was asked to sync"
+PATH=$system
 
-# A restore: the control file of before is away first, all is on the disk before the new one has its name, and then that.
-for way in swift each; do
-    to="$room/to"
-    [ "$way" = swift ] || to="$room/to here"
-    restored=(--repo1-path="$room/held/repo" --pg1-path="$to" --type=none)
-    rm -rf "$to"
-    mkdir "$to"
-    run 0 "a restore, $way" "${restored[@]}" restore
-    at=$(last "$control")
-    [ -n "$at" ] || complain "a restore, $way: the control file is not renamed"
-    [ "$(last 'rename\(|write\([0-9]*<.*/to( here)?/')" = "$at" ] || complain "a restore, $way: the control file is not last"
-    if [ "$way" = swift ]; then
-        [ "$(last 'syncfs\(.*\) += 0')" -lt "$at" ] || complain "a restore, $way: no sync before the control file"
-        [ "$(singly "$to")" = 1 ] || complain "a restore, $way: $(singly "$to") single syncs"
+# fails FOLDER: where a sync of this folder fails, a restore does.
+fails() {
+    local status=0
+    rm -rf failed
+    mkdir failed
+    strace -f -qq -o /dev/null -P "$1" -e trace=fsync,fdatasync,syncfs -e inject=fsync,fdatasync,syncfs:error=EIO \
+        "${ours[@]}" --repo1-path="$repo" --pg1-path="$room/failed" restore >output 2>errors || status=$?
+    [ "$status" = 82 ] || complain "a restore ended with $status and not 82, as $1 wasn't synced: $(cat output)"
+}
+fails "$room/failed/global"
+fails "$room/failed"
+[ ! -e failed/global/pg_control ] || complain 'a control file is there, though its folder is not synced'
+
+# A repository's root that a stanza-create made before it was killed: the next one syncs the folder that holds it.
+create=(--repo1-path="$room/deep/below/repo" --pg1-path="$room/pg" --lock-path="$room/lock" --no-online stanza-create)
+{
+    strace -f -qq -o /dev/null -e trace=fsync -e inject=fsync:signal=KILL:when=1 "${ours[@]}" "${create[@]}" || true
+} >output 2>&1
+[ -d deep/below/repo ] || mkdir -p deep/below/repo
+traced "${create[@]}"
+ended >found
+grep -q -e "^fsync([0-9]*<$room/deep/below>) = 0" -e '^syncfs(' found || complain 'the folder that holds a new repository is never synced'
+
+# mounted FOLDER: a file system in memory there, whose sync says nothing of the files.
+mounted() {
+    mkdir -p "$1"
+    if [ "$(id -u)" = 0 ] && mount -t tmpfs none "$1" 2>/dev/null; then
+        memory="$room/$1 $memory"
     else
-        [ "$(calls 'syncfs\(')" = 0 ] || complain "a restore, $way: it syncs at once"
-        # each file, the control file under its other name, each folder, and that of the control file again
-        nodes=$(find "$to" -type f -o -type d | wc -l)
-        [ "$(singly "$to")" -gt "$nodes" ] || complain "a restore, $way: $(singly "$to") syncs of $nodes nodes"
+        printf 'no file system in memory can be mounted: %s is skipped\n' "$1"
+        return 1
     fi
-    [ "$(last 'fsync\([0-9]*<.*/global>\) += 0')" -gt "$at" ] || complain "a restore, $way: its name is not synced"
-
-    # over a folder that has one
-    run 0 "over another, $way" "${restored[@]}" --delta restore
-    away=$(first 'unlink\(".*/global/pg_control"\) = 0')
-    [ "$(first 'fsync\([0-9]*<.*/global>\) += 0')" -gt "$away" ] || complain "over another, $way: the old control file may come back"
-    if [ "$way" = each ]; then
-        [ "$(calls 'fsync\([0-9]*<.*/PG_VERSION>\)')" -ge 1 ] || complain 'a file that was kept is not synced'
-    fi
-
-    # A failure is told, and then there is no control file.
-    options=(-e inject=syncfs:error=EIO)
-    [ "$way" = swift ] || options=(-e inject=fsync:error=EIO:when=20)
-    rm -rf "$to"
-    mkdir "$to"
-    run 82 "a failing sync, $way" "${restored[@]}" restore
-    options=()
-    [ ! -e "$to/global/pg_control" ] || complain "a failing sync, $way: the control file has its name"
-done
-
-# Where a sync of all isn't believed, the handle that wrote each file of a backup syncs it; in a path with a blank it isn't.
-mv held 'held here'
-label=$(ls -d 'held here'/repo/backup/demo/*F | head -n 1)
-sleep 1.1
-run 0 'each file of a backup' --repo1-path="$room/held here/repo" --pg1-path="$room/pg" --no-online --no-expire-auto --type=full backup
-[ "$(calls 'syncfs\(')" = 0 ] || complain 'each file of a backup: it syncs at once'
-files=$(find "$label" -type f | wc -l)
-[ "$(calls 'fsync\([0-9]*<.*/backup/demo/.*\) += 0')" -ge "$files" ] || complain "of $files files $(calls 'fsync\(') are synced"
-sleep 1.1
-options=(-e inject=fsync:error=EIO:when=20)
-run 80 'a file whose sync fails' --repo1-path="$room/held here/repo" --pg1-path="$room/pg" --no-online --no-expire-auto --type=full backup
-options=()
-mv 'held here' held
-
-# The folder that holds a root which others made is synced once.
-mkdir -p made/repo
-run 0 'a stanza in a folder that is there' --repo1-path="$room/made/repo" --pg1-path="$room/pg" --no-online stanza-create
-[ "$(calls 'fsync\([0-9]*<.*/made>\) += 0')" = 1 ] || complain 'the folder that holds the root is not synced'
-
-# One restore at a time.
-rm -rf to
-mkdir to
-status=0
-flock to "$top/bin/pgbackrest" --no-config --stanza=demo --repo1-path="$room/held/repo" --pg1-path="$room/to" --log-level-stderr=warn --type=none \
-    restore >output 2>&1 || status=$?
-[ "$status" = 82 ] && grep -q 'another restore works in the folder' output || complain "a second restore: $status: $(cat output)"
-[ -z "$(ls to)" ] || complain 'a second restore wrote something'
-
-# A server that is started while an offline backup reads.
-head -c 300M /dev/urandom >pg/base/1/99999
-sleep 1.1
-before=$(ls -d held/repo/backup/demo/*F | wc -l)
-"$top/bin/pgbackrest" --no-config --stanza=demo --lock-path="$room/lock" --repo1-path="$room/held/repo" --pg1-path="$room/pg" --no-online \
-    --no-expire-auto --type=full --log-level-stderr=warn backup >output 2>&1 &
-backup=$!
-while [ "$(ls -d held/repo/backup/demo/*F | wc -l)" = "$before" ]; do sleep 0.01; done
-printf '%s\n' $$ >pg/postmaster.pid
-status=0
-wait $backup || status=$?
-[ "$status" = 80 ] && grep -q 'a server was started in the data folder meanwhile' output || complain "a server meanwhile: $status: $(cat output)"
-[ "$(grep -c '^2.*F=' held/repo/backup/demo/backup.info)" = 1 ] || complain 'a backup beside a server is listed'
+}
+# The repository in it, and a restore into it.
+if mounted memory; then
+    want_stanza "$room/memory/repo"
+    traced --repo1-path="$room/memory/repo" "${backup[@]}"
+    synced 'a backup in memory' "$room/memory/repo/backup/demo/$label" "$room/memory/repo/backup/demo/backup.info" y
+    traced --repo1-path="$repo" --pg1-path="$room/memory/new" restore
+    synced 'a restore in memory' "$room/memory/new" "$room/memory/new/global/pg_control" y
+fi
+# The backups alone in it.
+if mounted other/backup; then
+    want_stanza "$room/other"
+    traced --repo1-path="$room/other" "${backup[@]}"
+    synced 'a backup in another file system than the root' "$room/other/backup/demo/$label" "$room/other/backup/demo/backup.info" y
+    mkdir other/backup/demo/x{01..12}
+    traced --repo1-path="$room/other" info
+    ended >found
+    for folder in demo demo/x{01..12}; do
+        grep -q "^fsync([0-9]*<$room/other/backup/$folder>) = 0" found || complain "$folder in another file system isn't synced"
+    done
+fi
 exit "$wrong"

@@ -1,6 +1,6 @@
 #!/usr/bin/env bash
-# What the program tells on standard error: nothing unless `log-level-stderr` asks for it; then what failed, with its path and the system's
-# reason, and of a backup and a restore how many bytes were written.
+# What the program writes to standard error: nothing unless `log-level-stderr` asks for it; then the line of the error, what failed with
+# its path and the system's reason, and the advice, and of a backup and a restore how many bytes were written.
 . "$(dirname "$0")/common"
 
 data=$room/pg
@@ -9,14 +9,15 @@ program() {
     "$top/bin/pgbackrest" --stanza=demo --pg1-path="$data" --repo1-path="$repository" "$@"
 }
 
-# fails STATUS OUTPUT REASON WORD..: the program ends so, and tells this reason and nothing else on standard error.
+# fails STATUS OUTPUT REASON WORD..: the program ends so, and standard error has this line, this reason and an advice.
 fails() {
     local status=0 wanted=$1 line=$2 reason=$3
     shift 3
     program "$@" >output 2>errors || status=$?
     [ "$status" = "$wanted" ] || complain "$* ended with $status and not $wanted"
     [ "$(cat output)" = "$line" ] || complain "$* wrote '$(cat output)' and not '$line'"
-    [ "$(cat errors)" = "$reason" ] || complain "$* told '$(cat errors)' and not '$reason'"
+    [ "$(head -n 2 errors)" = "$line"$'\n'"$reason" ] || complain "$* told '$(cat errors)' and not '$reason'"
+    [ "$(tail -n +3 errors | cut -c 1-6)" = 'HINT: ' ] || complain "$* has no advice, or more: $(cat errors)"
 }
 
 lock=(--lock-path="$room/lock")

@@ -52,7 +52,7 @@ fn connect(stream: &UnixStream, path: &str) -> io::Result<()> {
 
 /// What waited for too long, as the system says it of a socket, is an error of its own.
 pub fn timed<T: Drop>(done: io::Result<T>) -> io::Result<T>
-    ensures { IfOk done (λ v. result ≡ Ok v) }
+    ensures { IfOk result (λ v. done ≡ Ok v) }
 {
     match done {
         Err(e) if e.kind() == ErrorKind::WouldBlock => Err(io::Error::new(

@@ -66,6 +66,10 @@ impl Source for RealSource {
             Some(file) => read_some(file, buf),
             None => Ok(0),
         };
+        // it is closed at its end
+        if matches!(done, Ok(0)) && !buf.is_empty() {
+            self.file = None;
+        }
         self.faults
             .told(&call_of(&self.rt, "reading of", &self.place), done)
     }
@@ -77,7 +81,7 @@ fn open_file(rt: &HostRuntime, path: &str) -> io::Result<Option<File>> {
         return Ok(None);
     };
     if !seen.is_file() {
-        return Err(io::Error::from(ErrorKind::InvalidInput));
+        return Err(io::Error::new(ErrorKind::InvalidInput, "not a plain file"));
     }
     unless_absent(File::open(rt, path))
 }

@@ -69,7 +69,13 @@ fn start(rt: &HostRuntime, program: &str, words: &[String]) -> io::Result<Starte
 }
 
 // Writes a frame to a worker, in parts of which each is taken at once.
-fn give(started: &mut Started, frame: &[u8], longest: Option<u64>) -> io::Result<()> {
+fn give(
+    rt: &HostRuntime,
+    started: &mut Started,
+    frame: &[u8],
+    longest: Option<u64>,
+) -> io::Result<()> {
+    let worker = started.child.id();
     let Some(input) = &mut started.child.stdin else {
         return broken();
     };
@@ -77,19 +83,25 @@ fn give(started: &mut Started, frame: &[u8], longest: Option<u64>) -> io::Result
         return input.write_all(frame);
     };
     for part in frame.chunks(AT_ONCE) {
-        wait_for(input.as_raw_fd(), Ready::ToWrite, longest)?;
+        wait_for(rt, worker, input.as_raw_fd(), Ready::ToWrite, longest)?;
         input.write_all(part)?;
     }
     Ok(())
 }
 
 // What a worker says next.
-fn hear(started: &mut Started, buf: &mut [u8], longest: Option<u64>) -> io::Result<usize>
+fn hear(
+    rt: &HostRuntime,
+    started: &mut Started,
+    buf: &mut [u8],
+    longest: Option<u64>,
+) -> io::Result<usize>
     ensures { IfOk result (λ n. n ≤ length buf.old) }
 {
     if let Some(longest) = longest {
         if started.output.buffer().is_empty() {
-            wait_for(started.output.get_ref().as_raw_fd(), Ready::ToRead, longest)?;
+            let pipe = started.output.get_ref().as_raw_fd();
+            wait_for(rt, started.child.id(), pipe, Ready::ToRead, longest)?;
         }
     }
     read_some(&mut started.output, buf)
@@ -134,7 +146,8 @@ impl RealLink {
         }
     }
 
-    /// From now on a worker is lost that says nothing, or takes nothing, for so long. 0 is never.
+    /// From now on a worker is lost that says nothing, or takes nothing, for so long, and then reads nothing for so long
+    /// again. 0 is never.
     pub fn set_timeout(&mut self, seconds: u64) {
         self.longest = if seconds == 0 {
             None
@@ -156,7 +169,7 @@ impl RealLink {
             self.started = Some(start(&self.rt, self.program.as_str(), &self.words)?);
         }
         let done = match &mut self.started {
-            Some(started) => give(started, frame, self.longest),
+            Some(started) => give(&self.rt, started, frame, self.longest),
             None => broken(),
         };
         if done.is_err() {
@@ -171,7 +184,7 @@ impl RealLink {
             × (self.new.given ≡ self.old.given) × (self.new.faults ≡ self.old.faults) }
     {
         let done = match &mut self.started {
-            Some(started) => hear(started, buf, self.longest),
+            Some(started) => hear(&self.rt, started, buf, self.longest),
             None => broken(),
         };
         let is_over = matches!(done, Ok(0)) && !buf.is_empty();

@@ -18,6 +18,8 @@ const WORKERS: &[(&str, Result<usize, Stop>)] = &[
     ("true", Ok(0)),
     ("exec >&-; exec sleep 60", Ok(0)),
     ("exec sleep 60", Err(Stop::Failed)),
+    // silent, but at work
+    ("for i in 1 2 3 4 5 6; do sleep 0.5; done; echo", Ok(1)),
 ];
 
 // Each process that was started and has ended is waited for.

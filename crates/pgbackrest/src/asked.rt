@@ -27,7 +27,7 @@ pub struct Looked {
 }
 
 /// What these words ask for.
-pub fn asked(rt: HostRuntime, words: &[String]) -> Result<Asked, AllocError> {
+pub fn read_asked(rt: HostRuntime, words: &[String]) -> Result<Asked, AllocError> {
     let alloc = rt.alloc();
     let mut bytes = Vec::new(alloc);
     let mut config = None;

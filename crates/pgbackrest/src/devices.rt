@@ -26,7 +26,7 @@ pub struct Devices {
 }
 
 /// The objects of a command, whose background processes run this program.
-pub fn devices(rt: HostRuntime, program: String, telling: &Telling) -> io::Result<Devices>
+pub fn make_devices(rt: HostRuntime, program: String, telling: &Telling) -> io::Result<Devices>
     ensures { IfOk result (λ d. (⟦<RealLocks as Locks>⟧.state d.locks).taken ≡ []) }
 {
     let mut devices = Devices {

@@ -21,9 +21,13 @@ pub fn is_fetch(words: &[String]) -> bool {
     words.iter().any(|word| word.as_str() == "archive-get")
 }
 
-/// Whether a word is that of a command by which a server archives.
-pub fn is_push(words: &[String]) -> bool {
-    words.iter().any(|word| matches!(word.as_str(), "archive-push" | "archive-push:async"))
+/// Whether a word is that of a command that a server calls, or that works for one in the background. Its status alone
+/// counts there, whatever becomes of its lines.
+pub fn is_for_server(words: &[String]) -> bool {
+    words.iter().any(|word| matches!(
+        word.as_str(),
+        "archive-push" | "archive-push:async" | "archive-get"
+    ))
 }
 
 /// Whether the working folder is that of a server in a recovery, behind which it goes live. A standby asks again.
@@ -51,7 +55,7 @@ pub struct Refusal {
 }
 
 /// Why this command may not run here and as this user.
-pub fn refusal(rt: &HostRuntime, command: &Command) -> Result<Option<Refusal>, AllocError> {
+pub fn refusal_of(rt: &HostRuntime, command: &Command) -> Result<Option<Refusal>, AllocError> {
     if is_in_another(rt, command) {
         return Ok(Some(wrong_folder(rt.alloc())?));
     }
@@ -94,34 +98,31 @@ fn is_working_folder(rt: &HostRuntime, path: &str) -> bool {
     }
 }
 
-// The folder whose owner isn't root, where root runs a command that writes in it: its server could not read what is left.
+// The folder whose owner isn't root, where root runs a command that writes: its server could not read what is left.
 fn other_owner<'a>(rt: &HostRuntime, command: &'a Command) -> Option<&'a str> {
-    if !is_owned_by_root(rt, "/proc/self") {
+    if !writes(command.verb) || !is_owned_by_root(rt, "/proc/self") {
         return None;
     }
     let repository = command.options.repo1_path.as_str();
-    let is_new = writes_repository(command.verb) && !is_there(rt, repository);
     if writes_repository(command.verb) && is_of_another(rt, repository) {
-        Some(repository)
-    } else if (is_new || writes_data(command.verb)) && is_of_another(rt, data_folder(command)) {
-        Some(data_folder(command))
-    } else if writes_spool(command) && is_of_another(rt, &command.options.spool_path) {
-        Some(command.options.spool_path.as_str())
-    } else {
-        None
+        return Some(repository);
     }
+    if is_of_another(rt, data_folder(command)) {
+        return Some(data_folder(command));
+    }
+    if writes_spool(command) && is_of_another(rt, &command.options.spool_path) {
+        return Some(command.options.spool_path.as_str());
+    }
+    None
+}
+
+fn writes(verb: Verb) -> bool {
+    !matches!(verb, Verb::Verify | Verb::Info)
 }
 
 // What a restore leaves is for the user whose the repository is.
 fn writes_repository(verb: Verb) -> bool {
-    !matches!(
-        verb,
-        Verb::ArchiveGet | Verb::ArchiveGetAsync | Verb::Verify | Verb::Info
-    )
-}
-
-fn writes_data(verb: Verb) -> bool {
-    matches!(verb, Verb::ArchiveGet | Verb::Restore | Verb::Rehearse)
+    !matches!(verb, Verb::ArchiveGet | Verb::ArchiveGetAsync)
 }
 
 fn writes_spool(command: &Command) -> bool {

@@ -57,7 +57,7 @@ const HINTS: &[(&str, &str, &str)] = &[
     (
         "024",
         "",
-        "put archive.info back from a copy of the repository, or make a new stanza",
+        "put archive.info back from a copy of the repository: see RUNBOOK",
     ),
     (
         "025",
@@ -74,8 +74,8 @@ const HINTS: &[(&str, &str, &str)] = &[
     (
         "029",
         "",
-        "see that the right disk is mounted; put the info files back from a copy of the repository; never \
-         remove the files",
+        "see that the right disk is mounted, then put the info files back from a copy of the repository: see \
+         RUNBOOK; never remove the files",
     ),
     ("030", "", "hand over what the server gives for %p and %f"),
     (

@@ -1,7 +1,7 @@
 //! The program: the system's files and output, handed to the commands.
 #![tactic(auto)]
 
-ghost use Rattle.std.specs.Prelude.{◌≡◌, ◌≤◌, [], length, IfOk};
+ghost use Rattle.std.specs.Prelude.{◌≤◌, length, IfOk};
 
 mod asked;
 mod devices;
@@ -16,9 +16,9 @@ mod reading;
 mod streams;
 mod telling;
 
-use asked::asked;
-use devices::{devices, put_line};
-use guards::{Refusal, is_fetch, is_in_recovery, refusal, stop_recovery};
+use asked::read_asked;
+use devices::{make_devices, put_line};
+use guards::{Refusal, is_fetch, is_in_recovery, refusal_of, stop_recovery};
 use help::asked_for;
 use paths::absolute;
 use pgb_adapters::{RealDisk, RealFiles, RealInput, RealReplies, RealSource};
@@ -29,7 +29,7 @@ use std::io::ErrorKind;
 use std::process::ExitCode;
 use std::{env, fs, io};
 use streams::open_streams;
-use telling::{Telling, failed};
+use telling::{Telling, failure_of};
 
 const NOT_UTF8: u8 = 13;
 
@@ -151,15 +151,15 @@ fn workers(rt: HostRuntime, program: &str, timeout: u64) -> io::Result<Vec<RealL
 }
 
 fn status_of(rt: HostRuntime, words: &[String]) -> io::Result<u8> {
-    let asked = asked(rt, words)?;
+    let asked = read_asked(rt, words)?;
     let refused = match &asked.command {
-        Some(command) => refusal(&rt, command)?,
+        Some(command) => refusal_of(&rt, command)?,
         None => None,
     };
     let telling = Telling::begin(rt, asked, words)?;
     match refused {
         Some(refusal) => Ok(refuse(telling, &refusal)),
-        None => run(rt, telling, words),
+        None => perform(rt, telling, words),
     }
 }
 
@@ -175,10 +175,10 @@ fn refuse(mut telling: Telling, refusal: &Refusal) -> u8 {
     status
 }
 
-fn run(rt: HostRuntime, mut telling: Telling, words: &[String]) -> io::Result<u8> {
+fn perform(rt: HostRuntime, mut telling: Telling, words: &[String]) -> io::Result<u8> {
     let alloc = rt.alloc();
     let program = program(&rt)?;
-    let devices = devices(rt, program.clone()?, &telling)?;
+    let devices = make_devices(rt, program.clone()?, &telling)?;
     let links = workers(rt, &program, devices.worker_timeout)?;
     let mut outside = Outside {
         repo: devices.repo,
@@ -194,6 +194,6 @@ fn run(rt: HostRuntime, mut telling: Telling, words: &[String]) -> io::Result<u8
         turns: RoundRobin::new(),
     };
     let status = outside.run(alloc, words);
-    let _ = telling.end(&outside.out, failed(&outside, status), status);
+    let _ = telling.end(&outside.out, failure_of(&outside, status), status);
     Ok(status)
 }

@@ -1,7 +1,7 @@
 // What a person sees of a command beside its answer: on standard error, where `log-level-stderr` asks for it, and in the
 // log file. It never changes what a command does.
 use crate::asked::Asked;
-use crate::guards::is_push;
+use crate::guards::is_for_server;
 use crate::levels::{Level, lines_of};
 use crate::logging::Log;
 use pgb_adapters::{RealClock, RealDisk, RealLocks, RealSink, RealSource, RealTree, RealWire};
@@ -56,7 +56,7 @@ impl Telling {
             rt,
             asked,
             log,
-            drops: is_push(words),
+            drops: is_for_server(words),
         })
     }
 
@@ -151,7 +151,7 @@ pub struct Failed<'a> {
 }
 
 /// The object whose failure the status tells.
-pub fn failed(outside: &System, status: u8) -> Option<Failed<'_>> {
+pub fn failure_of(outside: &System, status: u8) -> Option<Failed<'_>> {
     let (object, reason) = match status {
         80 => ("repository", outside.repo.last_failure()),
         81 => ("spool", outside.spool.last_failure()),
