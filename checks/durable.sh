@@ -147,5 +147,5 @@ printf '%s\n' $$ >pg/postmaster.pid
 status=0
 wait $backup || status=$?
 [ "$status" = 80 ] && grep -q 'a server was started in the data folder meanwhile' output || complain "a server meanwhile: $status: $(cat output)"
-[ "$(grep -c '^2.*F=' held/repo/backup/demo/backup.info)" = 1 ] || complain 'a backup beside a server is listed'
+[ "$(grep -c '^2.*F=' held/repo/backup/demo/backup.info)" = 2 ] || complain 'a backup beside a server is listed'
 exit "$wrong"
