@@ -34,6 +34,8 @@ cp pg/PG_VERSION other
 cp pg/global/pg_control other/global
 printf '\377' | dd of=other/global/pg_control bs=1 seek=1 conv=notrunc status=none
 chmod -R a+rX other
+# (the socket is that of the user whose the data folder is)
+chown -R --reference=pg other
 refuse 47 "ERROR: [047]: control file has system $(told other), server has system $(told pg)
 " --pg1-path="$room/other"
 
