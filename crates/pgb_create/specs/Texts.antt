@@ -1,7 +1,7 @@
 -- The status and the message of each refusal of stanza-create (own).
 use Rattle.std.specs.Prelude.{ℕ, ◌++◌, codes, decimal, string_bytes}
 use Rattle.pgb_model.specs.Text.{Text}
-use Rattle.pgb_stage.specs.Texts.{damaged_text, history_text, mismatch_text}
+use Rattle.pgb_stage.specs.Texts.{shown, damaged_text, history_text, mismatch_text}
 use Rattle.pgb_server_texts.specs.Texts.{server_status, server_message}
 use Rattle.pgb_create.specs.declared.fault.CreateFault.{CreateFault}
 use Rattle.pgb_create.specs.declared.fault.CreateFault.TheVariants.{Server, InfoDamaged, HistoryDiffers, StanzaMismatch, ArchiveLost, FilesFound}
@@ -23,4 +23,4 @@ create_message (StanzaMismatch kept found) = mismatch_text kept found
 create_message (ArchiveLost label) = codes "archive info is missing, backup info lists '"
     ++ (string_bytes label ++ codes "'")
 create_message (FilesFound name) = codes "info files are missing, repository holds '"
-    ++ (string_bytes name ++ codes "'")
+    ++ (shown (string_bytes name) ++ codes "'")

@@ -4,7 +4,7 @@ ghost use Rattle.pgb_create.specs.Texts.{create_status, create_message};
 
 use crate::fault::CreateFault;
 use pgb_server_texts::{server_message, server_status};
-use pgb_stage::{bytes_of, damaged_text, history_text, mismatch_text};
+use pgb_stage::{bytes_of, damaged_text, history_text, mismatch_text, quoted};
 use pgb_text::NoMemory;
 use std::alloc::Global;
 
@@ -34,8 +34,13 @@ pub fn create_message(alloc: Global, fault: &CreateFault) -> Result<Vec<u8>, NoM
         CreateFault::ArchiveLost { label } => bytes_of(format!(in alloc;
             "archive info is missing, backup info lists '{label}'"
         )),
-        CreateFault::FilesFound { name } => bytes_of(format!(in alloc;
-            "info files are missing, repository holds '{name}'"
-        )),
+        CreateFault::FilesFound { name } => {
+            quoted(
+                alloc,
+                "info files are missing, repository holds '",
+                name,
+                "'",
+            )
+        }
     }
 }
