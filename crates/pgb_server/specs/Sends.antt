@@ -7,8 +7,8 @@ use Rattle.pgb_model.specs.Text.{Text}
 unfoldable pub parameter : Text → Text → Text
 parameter name value = name ++ 0 ∷ (value ++ 0 ∷ [])
 
--- the parameters of a session and a last 0; the server ends neither a backup's long start nor a session that is idle
--- meanwhile, whatever it does by default
+-- the parameters of a session and a last 0; by these two settings the server ends neither a backup's long start nor a
+-- session that is idle meanwhile
 unfoldable pub parameters : Text → Text → Text
 parameters user database = parameter (codes "user") user ++ parameter (codes "database") database
     ++ parameter (codes "application_name") (codes "pgbackrest") ++ parameter (codes "statement_timeout") (codes "0")
