@@ -103,8 +103,7 @@ impl Handles {
         ensures reading { self.new.reading ≡ None }
     {
         // what was lost is told by the next sync
-        let _ = self.finish_all();
-        self.writing.clear();
+        let _ = self.close_written();
         self.reading = None;
         self.is_owing = false;
     }
@@ -134,7 +133,9 @@ impl Handles {
     }
 
     /// Closes all files that are written.
-    pub fn close_written(&mut self) -> io::Result<()> {
+    pub fn close_written(&mut self) -> io::Result<()>
+        ensures { self.new.writing.items ≡ [] }
+    {
         let done = self.finish_all();
         self.writing.clear();
         done

@@ -5,7 +5,7 @@ use crate::noted::{MOST_LINES, Noted, State};
 use crate::place::{Place, folder_of, no_memory, unless_absent};
 use crate::syncing::WholeSync;
 use pgb_outside::Found;
-use std::fs::Metadata;
+use std::fs::{DirEntry, Metadata};
 use std::io::ErrorKind;
 use std::os::unix::fs::MetadataExt;
 use std::{fs, io};
@@ -316,16 +316,30 @@ fn add_folders_in(place: &Place, path: &str, folders: &mut Vec<Folder>) -> io::R
         return Ok(());
     };
     for entry in entries {
-        let entry = entry?;
-        if let Some(told) = unless_absent(entry.metadata())? {
-            if told.is_dir() {
-                let name = entry.file_name();
-                let below = format!(in place.rt.alloc(); "{path}/{name}")?;
-                push_folder(below, &told, folders)?;
-            }
+        match entry {
+            Ok(entry) => add_entry(place, path, &entry, folders)?,
+            // no command reads a name that isn't UTF-8
+            Err(e) if e.kind() == ErrorKind::InvalidFilename => {}
+            Err(e) => return Err(e),
         }
     }
     Ok(())
+}
+
+fn add_entry(
+    place: &Place,
+    path: &str,
+    entry: &DirEntry,
+    folders: &mut Vec<Folder>,
+) -> io::Result<()> {
+    match unless_absent(entry.metadata())? {
+        Some(told) if told.is_dir() => {
+            let name = entry.file_name();
+            let below = format!(in place.rt.alloc(); "{path}/{name}")?;
+            push_folder(below, &told, folders)
+        }
+        _ => Ok(()),
+    }
 }
 
 // Whether all lie on the root's device, as the root is now.

@@ -211,7 +211,8 @@ const HINTS: &[(&str, &str, &str)] = &[
     (
         "076",
         "",
-        "look up the message of that step; remove what the rehearsal made",
+        "look up the message of that step; remove what the rehearsal made, which is nothing in the repository \
+         where that message is of 29",
     ),
     (
         "080",

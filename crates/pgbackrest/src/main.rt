@@ -29,7 +29,7 @@ use std::io::ErrorKind;
 use std::process::ExitCode;
 use std::{env, fs, io};
 use streams::open_streams;
-use telling::{Telling, failure_of};
+use telling::{Telling, end_progress, failure_of};
 
 const NOT_UTF8: u8 = 13;
 
@@ -194,6 +194,9 @@ fn perform(rt: HostRuntime, mut telling: Telling, words: &[String]) -> io::Resul
         turns: RoundRobin::new(),
     };
     let status = outside.run(alloc, words);
+    if status == 0 {
+        end_progress(&outside, telling.progress());
+    }
     let _ = telling.end(&outside.out, failure_of(&outside, status), status);
     Ok(status)
 }

@@ -4,12 +4,13 @@ use crate::reading::{Reader, Word};
 use std::io::ErrorKind;
 use std::{env, io};
 
-const PATHS: [&str; 5] = [
+const PATHS: [&str; 6] = [
     "config",
     "pg1-path",
     "repo1-path",
     "lock-path",
     "spool-path",
+    "log-path",
 ];
 
 /// The words, with each relative path of an option behind the working folder. They stay as they are where that has no

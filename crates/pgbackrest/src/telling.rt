@@ -150,6 +150,15 @@ pub struct Failed<'a> {
     reason: &'a str,
 }
 
+/// Shows how much a command has written that ended well.
+pub fn end_progress(outside: &System, progress: Option<Verb>) {
+    match progress {
+        Some(Verb::Backup) => outside.repo.end_progress(),
+        Some(Verb::Restore) => outside.tree.end_progress(),
+        _ => {}
+    }
+}
+
 /// The object whose failure the status tells.
 pub fn failure_of(outside: &System, status: u8) -> Option<Failed<'_>> {
     let (object, reason) = match status {
