@@ -88,7 +88,10 @@ fn read_whole(place: &Place) -> io::Result<Option<Vec<u8>>> {
     };
     let mut bytes = Vec::new(place.rt.alloc());
     let mut room = [0u8; 8192];
-    while bytes.len() < MOST_BYTES {
+    for _ in 0..MOST_BYTES {
+        if bytes.len() >= MOST_BYTES {
+            break;
+        }
         let count = read_some(&file, bytes.len() as u64, &mut room)?;
         if count == 0 {
             return Ok(Some(bytes));
