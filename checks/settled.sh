@@ -89,15 +89,15 @@ note=repo/settled.note
 cp "$note" kept
 for damage in 'printf x >>"$note"' 'truncate -s -1 "$note"' 'printf settles | dd of="$note" conv=notrunc status=none' ': >"$note"'; do
     eval "$damage"
-    each 6 "where $damage"
+    each 5 "where $damage"
     cat kept >"$note"
 done
 each 1 'where the note is whole again'
 rm "$note"
-each 6 'without the note'
+each 5 'without the note'
 [ ! -e "$note" ] || complain 'a command that changes no name wrote the note'
 # The root has another name with a new note, and is noted once the clock is past that: at the second push or the one behind it.
-push 8 'without the note' 24
+push 7 'without the note' 24
 each 1 'behind the push that made the note'
 push 3 'behind the push that made the note' 25
 want 0 '' --lock-path="$room/lock" archive-push "$(segment 26)"

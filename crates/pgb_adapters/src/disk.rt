@@ -272,6 +272,7 @@ fn move_file(
     if is_list(to) {
         demand_no_server(place, server)?;
     }
+    handles.demand_in_place(place, from)?;
     handles.close(from)?;
     handles.forget_name(to);
     rename_into_folders(place, settled, from, to)?;
@@ -294,7 +295,7 @@ fn demand_no_server(place: &Place, server: &Option<String>) -> io::Result<()> {
     match unless_absent(fs::symlink_metadata(&place.rt, path.as_str()))? {
         Some(_) => Err(io::Error::new(
             ErrorKind::Other,
-            "a server was started in the data folder meanwhile",
+            "a server was started in the data folder meanwhile: stop it, and back up again",
         )),
         None => Ok(()),
     }

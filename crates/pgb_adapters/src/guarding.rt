@@ -10,10 +10,10 @@ const ENOLCK: i32 = 37;
 
 const EOPNOTSUPP: i32 = 95;
 
-// Others may write to a folder.
-const WRITABLE: u32 = 0o022;
+// Each user may write to a folder.
+const WRITABLE: u32 = 0o002;
 
-// Of a folder that others may write to, each takes away his own names alone.
+// Of a folder that each may write to, one takes away his own names alone.
 const STICKY: u32 = 0o1000;
 
 /// Who holds a folder of a repository.
@@ -74,13 +74,14 @@ fn is_at(rt: &HostRuntime, path: &str, file: &File) -> io::Result<bool> {
     }
 }
 
-// A folder in which others can exchange the locks holds none.
+// A folder in which anyone can exchange the locks holds none. Its group may: the folder that a service manager makes for
+// a server's sockets mostly is its group's, and only who is trusted is in that.
 fn demand_safe(rt: &HostRuntime, folder: &str) -> io::Result<()> {
     demand_own(&fs::symlink_metadata(rt, folder)?)?;
     let seen = fs::metadata(rt, folder)?;
     demand_own(&seen)?;
     if seen.mode() & WRITABLE != 0 && seen.mode() & STICKY == 0 {
-        let text = "its folder may be written to by others, and isn't sticky";
+        let text = "its folder may be written to by all users, and isn't sticky";
         return Err(io::Error::new(ErrorKind::PermissionDenied, text));
     }
     Ok(())
@@ -94,7 +95,8 @@ fn demand_own(seen: &Metadata) -> io::Result<()> {
     Err(io::Error::new(ErrorKind::PermissionDenied, text))
 }
 
-/// Holds the folder of the stanza whose lock this name is, in the repository's part that the lock is of.
+/// Holds the folder of the stanza whose lock this name is, in the repository's part that the lock is of. Before it is
+/// made the nearest one above it stands for it.
 pub fn hold_folder(rt: &HostRuntime, root: &str, name: &str) -> io::Result<Hold> {
     let (part, stanza) = if let Some(stanza) = name.strip_suffix("-archive.lock") {
         ("archive", stanza)
@@ -103,9 +105,7 @@ pub fn hold_folder(rt: &HostRuntime, root: &str, name: &str) -> io::Result<Hold>
     } else {
         return Ok(Hold::Ours(None));
     };
-    // behind a slash nothing but a folder is opened
-    let path = format!(in rt.alloc(); "{root}/{part}/{stanza}/")?;
-    let Some(folder) = unless_absent(File::open(rt, path.as_str()))? else {
+    let Some(folder) = open_nearest(rt, root, part, stanza)? else {
         return Ok(Hold::Ours(None));
     };
     match folder.try_lock() {
@@ -114,6 +114,31 @@ pub fn hold_folder(rt: &HostRuntime, root: &str, name: &str) -> io::Result<Hold>
         Err(TryLockError::Error(e)) if has_no_locks(&e) => Ok(Hold::Ours(None)),
         Err(TryLockError::Error(e)) => Err(e),
     }
+}
+
+// A process may hold the locks of both parts, and can't lock the root twice; so that stands for the archive's alone.
+fn open_nearest(
+    rt: &HostRuntime,
+    root: &str,
+    part: &str,
+    stanza: &str,
+) -> io::Result<Option<File>> {
+    let own = format!(in rt.alloc(); "{root}/{part}/{stanza}")?;
+    if let Some(folder) = open_folder(rt, &own)? {
+        return Ok(Some(folder));
+    }
+    let outer = format!(in rt.alloc(); "{root}/{part}")?;
+    match open_folder(rt, &outer)? {
+        None if part == "archive" => open_folder(rt, root),
+        folder => Ok(folder),
+    }
+}
+
+// None where it is absent.
+fn open_folder(rt: &HostRuntime, path: &str) -> io::Result<Option<File>> {
+    // behind a slash nothing but a folder is opened
+    let path = format!(in rt.alloc(); "{path}/")?;
+    unless_absent(File::open(rt, path.as_str()))
 }
 
 // Whether the file system can't lock a folder: one of a network mostly locks files alone that are open to be written.

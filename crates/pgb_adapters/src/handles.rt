@@ -1,7 +1,7 @@
 // The files that stay open between calls: those that are being written, and the last one that was read.
 ghost use Rattle.std.specs.Prelude.{◌≡◌, [], ◌↔◌, ◌<◌, ◌≤◌, None, IfOk, IfSome, IsSomeAnd, IsTrue, length, string_bytes};
 
-use crate::place::{Place, no_memory};
+use crate::place::{Place, is_same, no_memory};
 use std::alloc::Global;
 use std::fs::File;
 use std::io;
@@ -17,6 +17,9 @@ const PART: u64 = 2 << 20;
 
 // What is said where a file was closed whose bytes may not have come to the disk.
 const LOST: &str = "bytes that were written to a file were lost";
+
+// What is said where another process writes to the same name.
+const EXCHANGED: &str = "another process has put a file in its place";
 
 /// When the bytes of a file come to the disk.
 #[derive(Clone, Copy, PartialEq)]
@@ -154,6 +157,24 @@ impl Handles {
         done
     }
 
+    /// Fails where another file stands at the name of one that is written: a process wrote it whose locks aren't seen
+    /// here, as one of another host may. A network's server is asked anew as a file is opened.
+    pub fn demand_in_place(&self, place: &Place, name: &str) -> io::Result<()> {
+        let mut writing = self.writing.iter();
+        let Some(kept) = writing.find(|kept| kept.name.as_str() == name) else {
+            return Ok(());
+        };
+        let own = kept.file.metadata()?;
+        let is_in_place = match place.open_start(name)? {
+            Some(file) => is_same(&own, &file.metadata()?),
+            None => false,
+        };
+        if is_in_place {
+            return Ok(());
+        }
+        Err(io::Error::new(ErrorKind::Other, EXCHANGED))
+    }
+
     /// Closes the files of a name, since it comes to mean another file.
     pub fn forget_name(&mut self, name: &str) {
         self.writing.retain(|kept| kept.name.as_str() != name);
@@ -232,12 +253,15 @@ impl Handles {
         Ok(())
     }
 
-    /// The same, by a file of its own where none is open.
+    /// The same, by a file of its own where none is open. A file that this process may not write to is synced too.
     pub fn sync_once(&mut self, place: &Place, name: &str) -> io::Result<()> {
         if self.is_written(name) {
             return self.sync(place, name);
         }
-        place.open_end(name)?.sync_all()
+        match place.open_start(name)? {
+            Some(file) => file.sync_all(),
+            None => Err(io::Error::from(ErrorKind::NotFound)),
+        }
     }
 
     fn reach_end(&mut self, place: &Place, name: &str) -> io::Result<&mut Kept> {

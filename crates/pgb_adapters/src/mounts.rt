@@ -1,5 +1,5 @@
 // The file systems that are mounted, as the system tells.
-use crate::place::Place;
+use crate::place::{Place, folder_of};
 use std::os::unix::fs::MetadataExt;
 use std::{fs, io};
 
@@ -13,7 +13,13 @@ pub fn may_hold_file_systems(place: &Place) -> bool {
 
 /// The kind of the root's file system, as `ext4`: None where it isn't known.
 pub fn kind_of_root(place: &Place) -> Option<String> {
-    kind_at(place).unwrap_or(None)
+    kind_at(place, place.root()).unwrap_or(None)
+}
+
+/// The kind of the file system on which the folder lies that holds a name: a link may lead to it.
+pub fn kind_of_folder(place: &Place, name: &str) -> Option<String> {
+    let path = place.path_of(name).ok()?;
+    kind_at(place, folder_of(&path)).unwrap_or(None)
 }
 
 fn mounted_below(place: &Place) -> io::Result<bool> {
@@ -46,27 +52,27 @@ fn may_lie_below(line: &str, root: &str) -> bool {
     }
 }
 
-// The root lies on the file system that is mounted nearest above it.
-fn kind_at(place: &Place) -> io::Result<Option<String>> {
-    let root = fs::canonicalize(&place.rt, place.root())?;
-    let root = root.as_path().as_str();
-    if !is_plain(root) {
+// A folder lies on the file system that is mounted nearest above it.
+fn kind_at(place: &Place, folder: &str) -> io::Result<Option<String>> {
+    let path = fs::canonicalize(&place.rt, folder)?;
+    let path = path.as_path().as_str();
+    if !is_plain(path) {
         return Ok(None);
     }
-    let device = fs::metadata(&place.rt, root)?.dev();
+    let device = fs::metadata(&place.rt, path)?.dev();
     let mounts = fs::read_to_string(&place.rt, MOUNTS)?;
-    match nearest(&mounts, root).and_then(|line| kind_of(line, device)) {
+    match nearest(&mounts, path).and_then(|line| kind_of(line, device)) {
         Some(kind) => Ok(Some(String::from_str(place.rt.alloc(), kind)?)),
         None => Ok(None),
     }
 }
 
-fn nearest<'a>(mounts: &'a str, root: &str) -> Option<&'a str> {
+fn nearest<'a>(mounts: &'a str, path: &str) -> Option<&'a str> {
     let mut found = None;
     let mut longest = 0;
     for line in mounts.lines() {
         if let Some(point) = point_of(line) {
-            if holds(point, root) && point.len() >= longest {
+            if holds(point, path) && point.len() >= longest {
                 longest = point.len();
                 found = Some(line);
             }
@@ -75,8 +81,8 @@ fn nearest<'a>(mounts: &'a str, root: &str) -> Option<&'a str> {
     found
 }
 
-fn holds(point: &str, root: &str) -> bool {
-    match root.strip_prefix(point) {
+fn holds(point: &str, path: &str) -> bool {
+    match path.strip_prefix(point) {
         Some(rest) => point == "/" || rest.is_empty() || rest.starts_with('/'),
         None => false,
     }

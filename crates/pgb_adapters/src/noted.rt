@@ -114,6 +114,11 @@ impl Noted {
         Ok(())
     }
 
+    /// Whether this process changes names: it has done so, or holds a lock for it.
+    pub fn is_of_writer(&self) -> bool {
+        self.changed.is_some() || !self.own.is_empty()
+    }
+
     /// The folder in which this process is about to make its first name: None once it was compared, or where there is
     /// none.
     pub fn before_first(&self, place: &Place) -> Option<State> {

@@ -1,13 +1,12 @@
 // What is written into a data folder comes to the disk: all of a restore before the control file has its name, and a
 // single file where the file system tells of some failures at a sync alone.
 use crate::handles::{Handles, Writes};
-use crate::mounts::{kind_of_root, may_hold_file_systems};
+use crate::mounts::{kind_of_folder, may_hold_file_systems};
 use crate::place::{Place, sync_folder};
 use crate::syncing::WholeSync;
 use crate::walk::{Listing, nodes_below};
 use pgb_outside::{Node, Seen};
 use std::io;
-use std::io::ErrorKind;
 
 const CONTROL: &str = "global/pg_control";
 
@@ -21,7 +20,7 @@ const LOCAL: &[&str] = &["ext4", "xfs", "btrfs", "tmpfs"];
 pub struct Restoring {
     // whether all of it is durable before the control file has its name
     is_on: bool,
-    // None where nothing was written yet
+    // of all files of a restore: None where none was written yet
     writes: Option<Writes>,
     // whether files were there before, which may stay
     keeps: bool,
@@ -55,33 +54,27 @@ impl Restoring {
         self.keeps = self.keeps || seen.iter().any(is_file);
     }
 
-    /// How files are written.
-    pub fn writes(&mut self, place: &Place) -> Writes {
+    /// How the file of a path is written.
+    pub fn writes(&mut self, place: &Place, path: &str) -> Writes {
+        if self.is_on {
+            self.writes_of_all(place)
+        } else {
+            writes_of_one(place, path)
+        }
+    }
+
+    // All files of a restore are synced together where that can be believed.
+    fn writes_of_all(&mut self, place: &Place) -> Writes {
         if let Some(writes) = self.writes {
             return writes;
         }
-        let writes = self.choose(place);
-        self.writes = Some(writes);
-        writes
-    }
-
-    // All files of a restore are synced together where that can be believed. Outside of one a single file is waited for
-    // only where it has to be.
-    fn choose(&mut self, place: &Place) -> Writes {
-        if !self.is_on {
-            let kind = kind_of_root(place);
-            let is_local = kind.is_some_and(|kind| LOCAL.contains(&kind.as_str()));
-            return if is_local {
-                Writes::Sometime
-            } else {
-                Writes::BeforeClose
-            };
-        }
-        if !may_hold_file_systems(place) && self.whole.serves(place) {
+        let writes = if !may_hold_file_systems(place) && self.whole.serves(place) {
             Writes::Early
         } else {
             Writes::BeforeClose
-        }
+        };
+        self.writes = Some(writes);
+        writes
     }
 
     fn is_of_control(&self, path: &str) -> bool {
@@ -122,16 +115,8 @@ impl Restoring {
 
     fn sync_all(&mut self, place: &Place, handles: &mut Handles) -> io::Result<()> {
         handles.demand_none_lost()?;
-        if self.writes(place) == Writes::Early {
-            match self.whole.run(place) {
-                Ok(true) => return Ok(()),
-                Ok(false) => return Err(io::Error::new(
-                    ErrorKind::Other,
-                    "its file system's sync failed",
-                )),
-                // it wasn't begun
-                Err(_) => self.keeps = true,
-            }
+        if self.writes_of_all(place) == Writes::Early {
+            return self.whole.demand(place);
         }
         handles.finish_all()?;
         let seen = nodes_below(place.rt.alloc(), place, "", Listing::whole())?;
@@ -139,6 +124,16 @@ impl Restoring {
             sync_files(place, handles, &seen)?;
         }
         sync_folders(place, &seen)
+    }
+}
+
+// Outside of a restore a single file is waited for only where it has to be.
+fn writes_of_one(place: &Place, path: &str) -> Writes {
+    let kind = kind_of_folder(place, path);
+    if kind.is_some_and(|kind| LOCAL.contains(&kind.as_str())) {
+        Writes::Sometime
+    } else {
+        Writes::BeforeClose
     }
 }
 

@@ -112,7 +112,6 @@ pub fn settle_in(place: &Place, settled: &mut Settled, folder: &str) -> io::Resu
     add_folder(place, place.path_of(folder)?, &mut folders)?;
     let told = settled.noted.told(place);
     see_each(&mut settled.noted, &folders);
-    settle_root(place, settled, &told)?;
     let noted = &mut settled.noted;
     sync_each(place, noted, &told, &folders)?;
     noted.write(place);
@@ -120,8 +119,8 @@ pub fn settle_in(place: &Place, settled: &mut Settled, folder: &str) -> io::Resu
 }
 
 /// Makes the bytes of these files durable, which are all that lie below the folder. Where this process syncs each that
-/// it writes, it does so here too. Else they may have been closed unsynced, and then a failed sync of all isn't made up
-/// for by one of each: the system may have forgotten what was lost.
+/// it writes, it does so here too. Else they may have been closed unsynced, and one sync of each doesn't make up for a
+/// sync of all that fails.
 pub fn sync_files(
     place: &Place,
     handles: &mut Handles,
@@ -131,14 +130,7 @@ pub fn sync_files(
 ) -> io::Result<()> {
     let is_swift = files.len() > FEW && !handles.is_owing();
     if is_swift && are_synced_at_once(place, whole, folder)?.unwrap_or(false) {
-        match whole.run(place) {
-            Ok(true) => return Ok(()),
-            Ok(false) => return Err(io::Error::new(
-                ErrorKind::Other,
-                "its file system's sync failed",
-            )),
-            Err(_) => {}
-        }
+        return whole.demand(place);
     }
     for file in files {
         handles.sync_once(place, &file.name)?;
@@ -161,9 +153,10 @@ pub fn are_synced_at_once(
 }
 
 // The root may have been made by a command that was killed then, or by hand. Where its folder isn't to be read, it
-// can't be synced either.
+// can't be synced either. Others may change names there all the time, so that the note tells nothing of it; a process
+// that only reads leaves it alone.
 fn settle_root(place: &Place, settled: &mut Settled, told: &[State]) -> io::Result<()> {
-    if settled.has_root {
+    if settled.has_root || !settled.noted.is_of_writer() {
         return Ok(());
     }
     let root = place.root().trim_end_matches('/');

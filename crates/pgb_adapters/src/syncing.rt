@@ -56,6 +56,15 @@ impl WholeSync {
         Ok(command.status(&place.rt)?.success())
     }
 
+    /// Syncs the root's whole file system, on which files were closed unsynced: the system may have forgotten what was
+    /// lost of them, so nothing makes up for a sync that fails or can't be begun.
+    pub fn demand(&mut self, place: &Place) -> io::Result<()> {
+        if self.run(place)? {
+            return Ok(());
+        }
+        Err(io::Error::new(ErrorKind::Other, "its file system's sync failed"))
+    }
+
     fn program_for(&mut self, place: &Place) -> Option<&'static str> {
         if !self.is_looked_for {
             self.is_looked_for = true;

@@ -154,14 +154,14 @@ impl Tree for RealTree {
     }
 
     fn begin(&mut self, path: &str) -> Result<(), Stop> {
-        let writes = self.restoring.writes(&self.place);
+        let writes = self.restoring.writes(&self.place, path);
         let done = self.handles.begin(&self.place, path, writes);
         self.faults
             .told(&self.place.call("creation of", path), done)
     }
 
     fn begin_new(&mut self, path: &str) -> Result<bool, Stop> {
-        let writes = self.restoring.writes(&self.place);
+        let writes = self.restoring.writes(&self.place, path);
         let done = self.handles.begin_new(&self.place, path, writes);
         self.faults
             .told(&self.place.call("creation of", path), done)

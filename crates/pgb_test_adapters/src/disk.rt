@@ -351,6 +351,22 @@ fn lists_no_backup_beside_a_server(rt: HostRuntime) {
     well(&rt, scratch.remove());
 }
 
+// Another process has begun the same name anew: what it has written so far gets no good name.
+#[test]
+fn renames_its_own_file_alone(rt: HostRuntime) {
+    let scratch = well(&rt, Scratch::new(rt, "exchanged"));
+    let mut disk = RealDisk::new(rt);
+    same(&rt, disk.open(&scratch.path), Ok(()));
+    for (exchange, wanted) in [("rm a; echo half >a", Err(Stop::Failed)), ("true", Ok(()))] {
+        same(&rt, disk.begin("a"), Ok(()));
+        same(&rt, disk.append("a", b"own"), Ok(()));
+        shell(&rt, &scratch, exchange);
+        same(&rt, disk.rename("a", "b"), wanted);
+    }
+    shell(&rt, &scratch, "[ \"$(cat b)\" = own ]");
+    well(&rt, scratch.remove());
+}
+
 // More files than are kept open.
 const MANY: usize = 70;
 

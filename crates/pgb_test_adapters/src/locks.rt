@@ -48,7 +48,8 @@ const PLACES: &[(&str, Result<Take, Stop>)] = &[
     ("mkdir lock", Ok(Take::Taken)),
     ("mkdir -m 1777 lock", Ok(Take::Taken)),
     ("mkdir -m 777 lock", Err(Stop::Failed)),
-    ("mkdir -m 720 lock", Err(Stop::Failed)),
+    ("mkdir -m 702 lock", Err(Stop::Failed)),
+    ("mkdir -m 2775 lock", Ok(Take::Taken)),
     ("mkdir other; ln -s other lock", Ok(Take::Taken)),
     ("mkdir lock; mkfifo lock/one.lock", Err(Stop::Failed)),
     (
@@ -79,7 +80,9 @@ const GUARDED: &[(&str, &str, Take)] = &[
     ("s-backup.lock", "s-backup.lock", Take::Held),
     ("s-archive.lock", "s-backup.lock", Take::Taken),
     ("s-archive.lock", "t-archive.lock", Take::Taken),
-    ("absent-archive.lock", "absent-archive.lock", Take::Taken),
+    ("absent-archive.lock", "absent-archive.lock", Take::Held),
+    ("absent-archive.lock", "absent-backup.lock", Take::Taken),
+    ("absent-archive.lock", "s-archive.lock", Take::Taken),
     ("other.lock", "other.lock", Take::Taken),
 ];
 
