@@ -93,6 +93,24 @@ logged archive-push 2 "$warning"
 program "${all[@]}" --log-path="$room/file" --log-level-file=info archive-push "$(segment 17)" >output 2>&1 ||
     complain "a push whose log can't be written ended with $?: $(cat output)"
 
+# Nor does a pipe that nobody reads in its place.
+mkfifo log/demo-info.log
+timeout 20 "$top/bin/pgbackrest" --stanza=demo "${repo[@]}" "${to_file[@]}" info >output 2>&1 ||
+    complain "info whose log is a pipe ended with $?: $(cat output)"
+
+# What works beside a push ends with 1 in place of more, and with the status itself where it is called by hand.
+status=0
+program --no-config "${all[@]}" --spool-path="$room/spool" --other archive-push:async </dev/null >/dev/null 2>&1 || status=$?
+[ "$status" = 1 ] || complain "a push in the background ended with $status and not 1"
+tells 4 --no-config "${all[@]}" --spool-path="$room/spool" --other archive-push:async
+
+# No text stands in place of a file that a server hands over or asks for.
+for word in --help -h --version; do
+    tells 4 --no-config "${all[@]}" "$word" archive-push "$(segment 17)"
+    tells 4 --no-config "${data[@]}" "${repo[@]}" archive-get "$(basename "$(segment 16)")" pg_wal/RECOVERYXLOG "$word"
+done
+tells 3 help archive-push "$(segment 17)"
+
 # The help and the version, wherever their words stand.
 "$top/bin/pgbackrest" --version >version
 "$top/bin/pgbackrest" --help backup >help
@@ -100,6 +118,10 @@ for words in '--help backup' 'backup --help' '--stanza=demo backup --help' 'back
     # shellcheck disable=SC2086
     "$top/bin/pgbackrest" $words >output 2>&1 || complain "$words ended with $?"
     cmp -s help output || complain "$words writes something else than the help of backup"
+done
+for words in 'archive-push --help' 'help archive-push' '-h archive-push'; do
+    # shellcheck disable=SC2086
+    "$top/bin/pgbackrest" $words 2>&1 | grep -q '^archive-push PATH: ' || complain "$words doesn't write the help of archive-push"
 done
 for words in '--stanza=demo --version' 'backup --version' '--version --stanza=demo backup'; do
     # shellcheck disable=SC2086

@@ -244,7 +244,15 @@ if [ "$(id -u)" = 0 ]; then
         # shellcheck disable=SC2086
         owned repo $words
     done
-    owned pg "${get[@]}"
+    # The top of a file system may be root's while the stanza's folders aren't.
+    owned repo/archive/demo archive-push "$(segment 20)"
+    owned repo/backup/demo --type=full backup
+    # (no log that the folder's user couldn't go on with)
+    owned pg --log-path="$room/log" --log-level-file=info "${get[@]}"
+    mkdir theirs
+    chown 65534 theirs
+    ends_well --log-path="$room/theirs/log" --log-level-file=info info
+    [ ! -e log ] && [ ! -e theirs/log ] || complain 'root left a log for another user'
     owned pg --delta restore
     owned pg --repo1-path="$room/fresh" stanza-create
     [ ! -e fresh ] || complain "a repository was made for another user's cluster"

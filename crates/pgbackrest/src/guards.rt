@@ -21,6 +21,11 @@ pub fn is_fetch(words: &[String]) -> bool {
     words.iter().any(|word| word.as_str() == "archive-get")
 }
 
+/// Whether a word is that of a command that a push or a fetch starts beside itself.
+pub fn is_beside(words: &[String]) -> bool {
+    words.iter().any(|word| matches!(word.as_str(), "archive-push:async" | "archive-get:async"))
+}
+
 /// Whether a word is that of a command that a server calls, or that works for one in the background. Its status alone
 /// counts there, whatever becomes of its lines.
 pub fn is_for_server(words: &[String]) -> bool {
@@ -59,10 +64,19 @@ pub fn refusal_of(rt: &HostRuntime, command: &Command) -> Result<Option<Refusal>
     if is_in_another(rt, command) {
         return Ok(Some(wrong_folder(rt.alloc())?));
     }
-    match other_owner(rt, command) {
-        Some(path) => Ok(Some(not_owner(rt.alloc(), path)?)),
-        None => Ok(None),
+    if is_root() && writes(command.verb) {
+        for path in &folders_of(rt.alloc(), command)? {
+            if is_of_another(rt, path) {
+                return Ok(Some(not_owner(rt.alloc(), path)?));
+            }
+        }
     }
+    Ok(None)
+}
+
+/// Whether the program runs as root.
+pub fn is_root() -> bool {
+    libc::geteuid() == ROOT
 }
 
 fn wrong_folder(alloc: Global) -> Result<Refusal, AllocError> {
@@ -98,22 +112,22 @@ fn is_working_folder(rt: &HostRuntime, path: &str) -> bool {
     }
 }
 
-// The folder whose owner isn't root, where root runs a command that writes: its server could not read what is left.
-fn other_owner<'a>(rt: &HostRuntime, command: &'a Command) -> Option<&'a str> {
-    if !writes(command.verb) || !is_owned_by_root(rt, "/proc/self") {
-        return None;
+// The folders in which the command leaves files: where one is another user's, he could not read what root leaves. The
+// top of a file system may be root's while what stands in it isn't.
+fn folders_of(alloc: Global, command: &Command) -> Result<Vec<String>, AllocError> {
+    let mut folders = Vec::new(alloc);
+    if writes_repository(command.verb) {
+        let repository = command.options.repo1_path.as_str();
+        let stanza = command.stanza.as_str();
+        folders.push(String::from_str(alloc, repository)?)?;
+        folders.push(format!(in alloc; "{repository}/archive/{stanza}")?)?;
+        folders.push(format!(in alloc; "{repository}/backup/{stanza}")?)?;
     }
-    let repository = command.options.repo1_path.as_str();
-    if writes_repository(command.verb) && is_of_another(rt, repository) {
-        return Some(repository);
+    folders.push(String::from_str(alloc, data_folder(command))?)?;
+    if writes_spool(command) {
+        folders.push(command.options.spool_path.clone()?)?;
     }
-    if is_of_another(rt, data_folder(command)) {
-        return Some(data_folder(command));
-    }
-    if writes_spool(command) && is_of_another(rt, &command.options.spool_path) {
-        return Some(command.options.spool_path.as_str());
-    }
-    None
+    Ok(folders)
 }
 
 fn writes(verb: Verb) -> bool {
@@ -141,12 +155,23 @@ pub fn data_folder(command: &Command) -> &str {
     }
 }
 
-fn is_owned_by_root(rt: &HostRuntime, path: &str) -> bool {
-    seen(rt, path).is_some_and(|seen| seen.uid() == ROOT)
-}
-
 fn is_of_another(rt: &HostRuntime, path: &str) -> bool {
     seen(rt, path).is_some_and(|seen| seen.uid() != ROOT)
+}
+
+/// Whether the folder is another user's than root's, or where it isn't there, the nearest one above it.
+pub fn is_below_another(rt: &HostRuntime, folder: &str) -> bool {
+    let mut path = folder;
+    for _ in 0..folder.len() {
+        if is_there(rt, path) {
+            return is_of_another(rt, path);
+        }
+        match path.rsplit_once('/') {
+            Some((above, _)) => path = above,
+            None => return false,
+        }
+    }
+    false
 }
 
 fn is_there(rt: &HostRuntime, path: &str) -> bool {

@@ -19,10 +19,12 @@ const WITHOUT_EFFECT: &str = "\nAccepted and ignored:";
 /// The text that the words ask for: the help of all or of a command, or the version.
 ///
 /// `--help` and `--version` may stand anywhere but in the place of an option's value, and `help` and `version` in that
-/// of the command.
+/// of the command. Where a server names a file of its log, no text is in place of storing or fetching it: the words are
+/// refused then as others are.
 pub fn asked_for(alloc: Global, words: &[String]) -> Result<Option<String>, AllocError> {
     let mut wish = None;
     let mut verb = None;
+    let mut has_parameter = false;
     let mut reader = Reader::new();
     for word in words {
         match reader.read(word.as_str()) {
@@ -30,15 +32,29 @@ pub fn asked_for(alloc: Global, words: &[String]) -> Result<Option<String>, Allo
             Word::Dashed("--version") => wish = wish.or(Some(Wish::Version)),
             Word::Plain("help") if verb.is_none() => wish = Some(Wish::Help),
             Word::Plain("version") if verb.is_none() => wish = wish.or(Some(Wish::Version)),
-            Word::Plain(word) => verb = verb.or(Some(word)),
+            Word::Plain(word) => {
+                has_parameter = verb.is_some();
+                verb = verb.or(Some(word));
+            }
             _ => {}
         }
+    }
+    if has_parameter && verb.is_some_and(is_on_log) {
+        return Ok(None);
     }
     match wish {
         Some(Wish::Help) => Ok(Some(help_on(alloc, verb.unwrap_or(""))?)),
         Some(Wish::Version) => Ok(Some(String::from_str(alloc, VERSION)?)),
         None => Ok(None),
     }
+}
+
+// Whether it is a command that stores or fetches a file of the write-ahead log.
+fn is_on_log(word: &str) -> bool {
+    matches!(
+        word,
+        "archive-push" | "archive-push:async" | "archive-get" | "archive-get:async"
+    )
 }
 
 #[derive(Clone, Copy)]
@@ -110,11 +126,11 @@ fn purpose_of(verb: Verb) -> &'static str {
         Verb::ArchiveGet =>
             " NAME PATH: fetches a file of the write-ahead log, for restore_command",
         Verb::Backup => ": makes a backup of a server, running or stopped",
-        Verb::Expire => ": removes what the retention no longer keeps",
+        Verb::Expire => ": removes what retention doesn't keep",
         Verb::Restore =>
             ": restores a backup into an empty folder, or with --delta over an old one",
         Verb::Verify => ": looks for damage in the repository",
-        Verb::Info => ": tells which backups and segments there are",
+        Verb::Info => ": reports backups and WAL",
         Verb::Rehearse => ": tries all of it on empty folders",
         Verb::ArchivePushAsync => ": stores the files of the write-ahead log that are ready",
         Verb::ArchiveGetAsync => " NAME: fetches the segments that follow one into the spool",

@@ -14,8 +14,8 @@ const HINTS: &[(&str, &str, &str)] = &[
     (
         "007",
         "",
-        "give it, or set it in the configuration: without --config that is /etc/pgbackrest/pgbackrest.conf \
-         alone",
+        "give it; all but --stanza may stand in the configuration: without --config that is \
+         /etc/pgbackrest/pgbackrest.conf alone",
     ),
     ("008", "", "leave it out"),
     ("009", "", "correct the line"),

@@ -2,16 +2,17 @@
 ghost use Rattle.std.specs.Prelude.{◌≤◌, IfSome};
 ghost use Rattle.pgb_outside.specs.States.{last_second};
 
+use crate::guards::{is_below_another, is_root};
 use crate::levels::{Level, Line, level_of};
 use pgb_options::{Command, LogWord};
 use pgb_stamp::date_of;
 use pgb_table::verb_word;
 use std::alloc::{AllocError, Global};
 use std::fs::{DirBuilder, OpenOptions};
-use std::io;
-use std::io::Write;
+use std::io::{ErrorKind, Write};
 use std::os::unix::fs::{DirBuilderExt, OpenOptionsExt};
 use std::time::{SystemTime, UNIX_EPOCH};
+use std::{fs, io};
 
 const FILE_MODE: u32 = 0o640;
 
@@ -41,13 +42,16 @@ pub struct Log {
 }
 
 impl Log {
-    /// The log that the command asks for.
+    /// The log that the command asks for. Root leaves none where the folder's user could not go on with it.
     pub fn of(rt: HostRuntime, command: &Command) -> Result<Option<Log>, AllocError> {
         let level = command.options.log_level_file;
         let folder = match &command.options.log_path {
             Some(folder) if !matches!(level, LogWord::Nothing) => folder.clone()?,
             _ => return Ok(None),
         };
+        if is_root() && is_below_another(&rt, &folder) {
+            return Ok(None);
+        }
         let mut text = Vec::new(rt.alloc());
         text.extend_from_slice(START.as_bytes())?;
         Ok(Some(Log {
@@ -146,9 +150,21 @@ fn append(rt: &HostRuntime, folder: &str, path: &str, text: &[u8]) -> io::Result
         .mode(FOLDER_MODE)
         .recursive(true)
         .create(rt, folder)?;
+    demand_plain(rt, path)?;
     let mut how = OpenOptions::new();
     how.append(true).create(true).mode(FILE_MODE);
     how.open(rt, path)?.write_all(text)
+}
+
+// Opening a pipe would wait for who reads it.
+fn demand_plain(rt: &HostRuntime, path: &str) -> io::Result<()> {
+    match fs::symlink_metadata(rt, path) {
+        Ok(seen) if !seen.is_file() => {
+            Err(io::Error::new(ErrorKind::InvalidInput, "it is no plain file"))
+        }
+        Err(e) if e.kind() != ErrorKind::NotFound => Err(e),
+        _ => Ok(()),
+    }
 }
 
 // The time, in UTC.

@@ -18,7 +18,7 @@ mod telling;
 
 use asked::read_asked;
 use devices::{make_devices, put_line};
-use guards::{Refusal, is_fetch, is_in_recovery, refusal_of, stop_recovery};
+use guards::{Refusal, is_beside, is_fetch, is_in_recovery, is_root, refusal_of, stop_recovery};
 use help::asked_for;
 use paths::absolute;
 use pgb_adapters::{RealDisk, RealFiles, RealInput, RealReplies, RealSource};
@@ -28,7 +28,7 @@ use pgb_worker::serve;
 use std::io::ErrorKind;
 use std::process::ExitCode;
 use std::{env, fs, io};
-use streams::open_streams;
+use streams::{has_no_streams, open_streams};
 use telling::{Telling, end_progress, failure_of};
 
 const NOT_UTF8: u8 = 13;
@@ -50,10 +50,12 @@ fn main(rt: HostRuntime) -> ExitCode {
     ExitCode::from(status)
 }
 
-// Does what the arguments ask for, and answers what the system is told.
+// Does what the arguments ask for, and answers what the system is told. A server that is the first process of its
+// container adopts what was started beside a push or a fetch, and takes any end but 0 and 1 for a crash of its own.
 fn answer(rt: HostRuntime) -> u8 {
     match words(&rt) {
         Ok(words) if is_worker(&words) => work(rt),
+        Ok(words) if is_beside(&words) && has_no_streams(&rt) => answer_to(rt, &words).min(1),
         Ok(words) if is_fetch(&words) && is_in_recovery(&rt) => {
             stop_recovery(&rt, status_of(rt, &words).unwrap_or(NO_MEMORY))
         }
@@ -156,7 +158,11 @@ fn status_of(rt: HostRuntime, words: &[String]) -> io::Result<u8> {
         Some(command) => refusal_of(&rt, command)?,
         None => None,
     };
-    let telling = Telling::begin(rt, asked, words)?;
+    let mut telling = Telling::new(rt, asked, words);
+    // (what root leaves where a command is refused could be in the way of the right user)
+    if refused.is_none() || !is_root() {
+        telling.open_log(words)?;
+    }
     match refused {
         Some(refusal) => Ok(refuse(telling, &refusal)),
         None => perform(rt, telling, words),

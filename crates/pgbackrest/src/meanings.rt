@@ -31,7 +31,7 @@ pub fn meaning_of(option: Opt) -> &'static str {
         Opt::SpoolPath => "the folder of what is pushed and fetched that way",
         Opt::LockPath => "the folder of the locks",
         Opt::Set => "label of the backup to restore; default: the latest",
-        Opt::ExpireAuto => "whether the retention is kept behind a backup",
+        Opt::ExpireAuto => "whether to expire after a backup",
         Opt::Output => "the report's form",
         Opt::Number => "size: N × 100 files and N × 2 segments of 1 MiB",
         Opt::Config => "the configuration's file",

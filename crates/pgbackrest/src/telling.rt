@@ -43,21 +43,25 @@ pub struct Telling {
 }
 
 impl Telling {
-    /// Before the command: its log file has its words.
-    pub fn begin(rt: HostRuntime, asked: Asked, words: &[String]) -> Result<Self, AllocError> {
-        let mut log = match &asked.command {
-            Some(command) => Log::of(rt, command)?,
-            None => None,
-        };
-        if let Some(log) = &mut log {
-            log.begin(words)?;
-        }
-        Ok(Telling {
+    /// Before the command, which has no log file yet.
+    pub fn new(rt: HostRuntime, asked: Asked, words: &[String]) -> Self {
+        Telling {
             rt,
             asked,
-            log,
+            log: None,
             drops: is_for_server(words),
-        })
+        }
+    }
+
+    /// From now on its log file has the lines, and first its words.
+    pub fn open_log(&mut self, words: &[String]) -> Result<(), AllocError> {
+        if let Some(command) = &self.asked.command {
+            self.log = Log::of(self.rt, command)?;
+        }
+        match &mut self.log {
+            Some(log) => log.begin(words),
+            None => Ok(()),
+        }
     }
 
     /// The output of the command.
