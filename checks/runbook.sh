@@ -99,6 +99,9 @@ wait
 await_writes
 rows 200 'pg_wal was lost'
 has 'archive recovery complete' data/log
+newest=$(sed -n 's#^.* min/max .*/##p' output)
+served=$(sed -n 's/^.*restored log file "\([0-9A-F]\{24\}\)".*/\1/p' data/log | tail -n 1)
+[ -n "$newest" ] && [ ! "$served" \< "$newest" ] || complain "the recovery ended with '$served', the archive with '$newest'"
 rm -r data/lost srv/more
 for status in 0 1 80; do
     ended=0
