@@ -18,12 +18,19 @@ exec /bin/sh -c "$2"
 END
 chmod 755 bin/*
 
+# (to cron a percent sign is the end of the line)
+grep % "$top/contrib/crontab" && complain 'a percent sign in contrib/crontab'
 # cron NUMBER STATUS: a line of cron, as cron has it run.
 cron() {
     local status=0 line
     line=$(grep -v '^#' "$top/contrib/crontab" | sed -n "$1p" | cut -d' ' -f6- | here)
     as_user sh -c "$line" >output 2>errors || status=$?
     [ "$status" = "$2" ] || complain "'$line' ended with $status and not $2: $(cat output errors)"
+}
+
+# mails_nothing WHAT: the last line of cron wrote nothing.
+mails_nothing() {
+    [ ! -s output ] && [ ! -s errors ] || complain "$1 writes to cron's mail: $(cat output errors)"
 }
 
 # looks STATUS PATTERN [OPTION..]: the check ends so, and its one line has this.
@@ -41,15 +48,17 @@ looks 2 'CRITICAL - info: ERROR: \[021\]'
 as_user pgbackrest --stanza=main stanza-create
 looks 2 'no full backup; no backup'
 cron 1 0
-grep -q 'new backup label = .*F$' output || complain "a full backup: $(cat output)"
+mails_nothing 'a full backup'
+as_user pgbackrest --stanza=main info | grep -q 'full backup: .*F$' || complain 'cron made no full backup'
 ask 'create table more as select 1 as n' >/dev/null
 cron 2 0
-grep -q 'new backup label = .*I$' output || complain "an incremental backup: $(cat output)"
+mails_nothing 'an incremental backup'
+as_user pgbackrest --stanza=main info | grep -q 'incr backup: .*I$' || complain 'cron made no incremental backup'
 cron 3 0
-[ ! -s output ] || complain "a verification: $(cat output)"
+mails_nothing 'a verification'
 switch
 cron 4 0
-[ ! -s output ] || complain "a check: $(cat output)"
+mails_nothing 'a check'
 looks 0 'OK - full backup 0 h ago; backup 0 h ago; archived 0.* MiB free'
 looks 2 'full backup 0 h ago' -f -1
 looks 2 'backup 0 h ago' -a -1
@@ -78,6 +87,7 @@ sed -i 's/^\[main\]$/archive-timeout=1\n\n[main]/' conf
 as_user pgbackrest --stanza=main backup >output 2>errors && complain 'a backup without its log'
 looks 2 '1 unlisted backup folders, run expire'
 cron 2 42
+grep -q 'ERROR: \[042\]' errors || complain "cron's mail of a failed backup: $(cat errors)"
 [ "$(ls srv/pgbackrest/repo/backup/main)" = "$before" ] || complain "the folders of failed backups stay: $(ls srv/pgbackrest/repo/backup/main)"
 cp conf.kept conf
 wait

@@ -1,6 +1,6 @@
 #!/usr/bin/env bash
-# docs/RUNBOOK.md, as an administrator types it: each of its cases that one machine can show, with servers, block by block as they stand
-# there. Changed are the paths, labels and times, and how long is waited.
+# docs/RUNBOOK.md, as an administrator types it: each of its cases that one machine can show, with servers, block by block. Changed are the
+# paths, labels and times, how long is waited, the ballast's size, and whose folders are made.
 . "$(dirname "$0")/typed"
 page=docs/RUNBOOK.md
 
@@ -61,21 +61,32 @@ typed 0 'Pause backups and pushes' 2 's/sleep 3600/sleep 10/'
 sleep 1
 program --archive-timeout=2 --type=full backup >output 2>errors && complain 'a backup without its log'
 has 'ERROR: \[042\]'
-typed 0 "The repository's disk is full" 2
+typed 0 "The repository's disk is full" 3
 [ "$(wc -l <output)" = 1 ] && [ -d "$(cat output)" ] || complain "the folders that aren't listed: $(cat output)"
 folder=$(cat output)
+mv $repo/backup/main/backup.info kept.info
+typed 0 "The repository's disk is full" 3
+[ "$(cat output)" = "$folder" ] || complain "the folders that aren't listed, by the copy of the list: $(cat output)"
+mv $repo/backup/main/backup.info.copy kept.copy
+typed 0 "The repository's disk is full" 3
+[ "$(cat output)" = 'refused: look why' ] || complain "folders without a list: $(cat output)"
+mv kept.info $repo/backup/main/backup.info
+mv kept.copy $repo/backup/main/backup.info.copy
 sleep 10
 typed 0 "The repository's disk is full" 1
 [ ! -e "$folder" ] || complain 'the folder of a failed backup stays'
-typed 0 "The repository's disk is full" 3 's/200M/2M/'
+typed 0 "The repository's disk is full" 2
+typed 0 "The repository's disk is full" 4 's/200M/2M/'
 typed 0 'Pause backups and pushes' 1 's/sleep 3600/sleep 5/'
 sleep 1
 program backup >output 2>errors && complain 'a backup beside the lock'
 has 'ERROR: \[020\]'
 sleep 5
 
-as_user mkdir "$room/srv/more"
 typed 0 "The server's disk is full" 1
+await_writes
+typed 0 "The server's disk is full" 2
+[ -L data/main/pg_wal ] && [ ! -e data/main/pg_wal.old ] || complain "pg_wal wasn't moved"
 rows 100 'pg_wal as a link'
 program backup >output 2>errors || complain "a backup with pg_wal as a link: $(cat output)"
 
@@ -88,6 +99,9 @@ wait
 await_writes
 rows 200 'pg_wal was lost'
 has 'archive recovery complete' data/log
+newest=$(sed -n 's#^.* min/max .*/##p' output)
+served=$(sed -n 's/^.*restored log file "\([0-9A-F]\{24\}\)".*/\1/p' data/log | tail -n 1)
+[ -n "$newest" ] && [ ! "$served" \< "$newest" ] || complain "the recovery ended with '$served', the archive with '$newest'"
 rm -r data/lost srv/more
 for status in 0 1 80; do
     ended=0
@@ -98,7 +112,6 @@ switch
 program --type=full backup >output 2>errors || complain "a full backup: $(cat output)"
 second=$(last_label)
 
-as_user mkdir "$room/srv/restore"
 # on_copy QUESTION
 on_copy() {
     as_user "$tools/psql" -h "$room/srv/restore" -p 5433 -d postgres -AtXq -c "$1"
@@ -125,16 +138,12 @@ ask 'drop table orders' >/dev/null
 typed 0 'A table was dropped' 1
 has "$second"
 switch
-beside=$(block $page 'Restore beside production' 1 | sed "s/ restore\$/ --set=$second restore/")
-# (the settings come before the END of that block's settings)
-more=$(block $page 'A table was dropped' 2 | sed "s/2026.*'/$target'/")
-printf '%s\n' "$beside" | awk -v more="$more" '$0 == "END" { print more } { print }' >script
-as_user bash -ec "$(cat script)" >output 2>errors || complain "a recovery to a time: $(cat output errors)"
+typed 0 'A table was dropped' 2 "s/LABEL/$second/; s/2026.*'/$target'/"
 until_there 201 'select count(*) from orders'
 sleep 1
 typed 0 'A table was dropped' 3
 rows 201 'the table was carried over'
-typed 0 'Restore beside production' 2
+[ ! -e srv/restore/main ] || complain 'the copy stays'
 
 typed 0 'One older backup, and nothing after it' 1 "s/LABEL/$second/"
 await_writes
@@ -156,16 +165,17 @@ for try in $(seq 60); do
     sleep 0.5
 done
 ask 'select status from pg_stat_wal_receiver' | grep -q streaming || complain "the standby doesn't stream: $(tail -n 5 second/data/log)"
-as_user systemctl stop postgresql@16-main
-rm -r second/data/main
+# (its server and its folder are in the place of those that Debian's package makes)
 typed 0 'Restore on another host' 1
+rm -r second/data/fresh
+typed 0 'Restore on another host' 2
 await_writes
 rows 200 'on another machine'
 [ "$(ask 'show archive_mode')" = off ] || complain 'the other machine archives'
 host=$room
 as_user systemctl stop postgresql@16-main
 host=$room/second
-typed 0 'Restore on another host' 2
+typed 0 'Restore on another host' 3
 [ "$(ask 'show archive_mode')" = on ] || complain "the other machine doesn't archive"
 switch
 as_user systemctl stop postgresql@16-main
@@ -182,7 +192,7 @@ if command -v rsync >/dev/null; then
     rm $repo/archive/main/archive.info* $repo/backup/main/backup.info*
     program stanza-create >output 2>errors && complain 'a stanza over backups'
     has 'ERROR: \[029\]'
-    typed 0 'All info files are lost' 1
+    typed 0 'Info files are lost or damaged (22, 24, 29, or 21 though the disk is mounted)' 1
 fi
 full=$(last_label)
 rm $repo/archive/main/archive.info* $repo/backup/main/backup.info*
