@@ -166,7 +166,11 @@ const HINTS: &[(&str, &str, &str)] = &[
     ("056", "", "see who may read the file, and its disk"),
     ("060", "", "see info, --stanza and repo1-path"),
     ("061", "", "info lists the labels"),
-    ("062", "", "move what is there away, or give --delta"),
+    (
+        "062",
+        "",
+        "move what is there away, or give --delta where a PG_VERSION is there",
+    ),
     (
         "063",
         "",
