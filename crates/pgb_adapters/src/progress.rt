@@ -11,6 +11,8 @@ const MIB: u128 = 1_048_576;
 pub struct Progress {
     rt: HostRuntime,
     is_told: bool,
+    // whether the sum of what there is to do is shown, once it is known
+    has_total: bool,
     bytes: u64,
     // when the first bytes were counted, and when they were told last
     began: Option<Instant>,
@@ -22,6 +24,7 @@ impl Progress {
         Progress {
             rt,
             is_told: false,
+            has_total: false,
             bytes: 0,
             began: None,
             told: None,
@@ -31,6 +34,19 @@ impl Progress {
     /// From now on it is told how far it is.
     pub fn tell(&mut self) {
         self.is_told = true;
+    }
+
+    /// From now on a person sees how much there is to do, once that is known.
+    pub fn expect_total(&mut self) {
+        self.has_total = true;
+    }
+
+    /// So many bytes are to be looked at.
+    pub fn show_total(&self, bytes: u64) {
+        if self.has_total {
+            let mib = u128::from(bytes) / MIB;
+            let _ = eprintln!(self.rt; "INFO: {bytes} bytes listed, {mib} MiB");
+        }
     }
 
     /// Counts bytes that were written, and tells the sum every ten seconds.

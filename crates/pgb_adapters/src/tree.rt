@@ -80,6 +80,11 @@ impl RealTree {
         self.progress.tell();
     }
 
+    /// From now on a person sees how many bytes a listing has.
+    pub fn show_total(&mut self) {
+        self.progress.expect_total();
+    }
+
     /// Tells how many bytes were written in all.
     pub fn end_progress(&self) {
         self.progress.end();
@@ -122,6 +127,7 @@ impl Tree for RealTree {
         if let Ok(seen) = &done {
             self.restoring.see(seen);
             self.listed = bytes_of(seen);
+            self.progress.show_total(self.listed);
         }
         self.faults.told(&self.place.call("listing of", ""), done)
     }

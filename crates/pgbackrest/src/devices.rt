@@ -65,6 +65,7 @@ impl Devices {
         match progress {
             Some(Verb::Backup) => {
                 self.repo.tell_progress();
+                self.tree.show_total();
                 self.server.show_waiting();
                 self.aside.show_waiting("the server's archive_command");
             }
