@@ -82,7 +82,8 @@ for way in swift each; do
         [ "$(last 'syncfs\(.*\) += 0')" -lt "$at" ] || complain "a restore, $way: no sync before the control file"
         [ "$(singly "$to")" = 1 ] || complain "a restore, $way: $(singly "$to") single syncs"
     else
-        [ "$(calls 'syncfs\(')" = 0 ] || complain "a restore, $way: it syncs at once"
+        # (what a refused backup left in the repository is synced at once there)
+        [ "$(calls 'execve\("[^"]*/sync", \[".*", "-f", ".*/to here"')" = 0 ] || complain "a restore, $way: it syncs at once"
         # each file, the control file under its other name, each folder, and that of the control file again
         nodes=$(find "$to" -type f -o -type d | wc -l)
         [ "$(singly "$to")" -gt "$nodes" ] || complain "a restore, $way: $(singly "$to") syncs of $nodes nodes"
