@@ -7,7 +7,7 @@ ghost use Rattle.pgb_worker_dispatch.specs.Run.{AreReady};
 
 use crate::others::Storing;
 use crate::serving::{add_row, greeting};
-use pgb_memory::{MemClock, MemDisk, MemLocks, MemNode, MemTree, MemWire, named_bytes};
+use pgb_memory::{MemClock, MemDisk, MemLocks, MemNode, MemTree, MemWire};
 use pgb_model::{ArchiveInfo, BackupInfo, Kind};
 use pgb_outside::{Disk, Link, Locks, Tree};
 use pgb_plan::PlanSettings;
@@ -117,10 +117,11 @@ impl Case {
 pub(crate) fn stanza(alloc: Global) -> Result<Named, AllocError> {
     let first =
         "archive/demo/15-1/0000000100000000/000000010000000000000002-a9993e364706816aba3e25717850c26c9cd0d89d";
-    let held = named_bytes(alloc, &[(first, b"abc".as_slice())])?;
-    let mut made = MemDisk::new(alloc, held, Vec::new(alloc))?;
+    let mut made = MemDisk::new(alloc, Vec::new(alloc), Vec::new(alloc))?;
     let _ = create(alloc, &mut made, "demo", &CONTROL);
-    Ok(names_of(alloc, &made))
+    let mut names = names_of(alloc, &made);
+    names.push((String::from_str(alloc, first)?, b"abc".to_vec(alloc)?))?;
+    Ok(names)
 }
 
 /// The names that a disk holds.
