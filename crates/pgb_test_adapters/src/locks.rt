@@ -90,27 +90,23 @@ const GUARDED: &[(&str, &str, Take)] = &[
 fn guards_the_repository(rt: HostRuntime) {
     let scratch = well(&rt, Scratch::new(rt, "guarded"));
     shell(&rt, &scratch, "mkdir -p archive/s archive/t backup/s");
-    for (held, asked, wanted) in GUARDED {
-        guards(rt, &scratch, held, asked, *wanted);
-    }
-    well(&rt, scratch.remove());
-}
-
-fn guards(rt: HostRuntime, scratch: &Scratch, held: &str, asked: &str, wanted: Take) {
     let one = well(&rt, scratch.below("one"));
     let two = well(&rt, scratch.below("two"));
-    let mut first = RealLocks::new(rt);
-    let mut second = RealLocks::new(rt);
-    let mut third = RealLocks::new(rt);
-    well(&rt, first.guard(&scratch.path));
-    well(&rt, second.guard(&scratch.path));
-    well(&rt, third.guard(&scratch.path));
-    same(&rt, first.take(&one, held), Ok(Take::Taken));
-    same(&rt, second.take(&two, asked), Ok(wanted));
-    second.release(asked);
-    first.release(held);
-    // with the lock its folder is free
-    same(&rt, third.take(&two, held), Ok(Take::Taken));
+    for (held, asked, wanted) in GUARDED {
+        let mut first = RealLocks::new(rt);
+        let mut second = RealLocks::new(rt);
+        let mut third = RealLocks::new(rt);
+        well(&rt, first.guard(&scratch.path));
+        well(&rt, second.guard(&scratch.path));
+        well(&rt, third.guard(&scratch.path));
+        same(&rt, first.take(&one, held), Ok(Take::Taken));
+        same(&rt, second.take(&two, asked), Ok(*wanted));
+        second.release(asked);
+        first.release(held);
+        // with the lock its folder is free
+        same(&rt, third.take(&two, held), Ok(Take::Taken));
+    }
+    well(&rt, scratch.remove());
 }
 
 // The file of a lock that is held is taken away: who comes next makes another, and who guards finds it held.
