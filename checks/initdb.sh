@@ -102,7 +102,7 @@ rm pg/global/pg_control
 refuse 28 "ERROR: [028]: 'global/pg_control' is missing
 "
 want 7 "ERROR: [007]: option 'pg1-path' is missing
-" --stanza=demo stanza-create
+" --no-config --stanza=demo stanza-create
 want 2 'ERROR: [002]: no command found
 '
 program --help >help
