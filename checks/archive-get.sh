@@ -21,7 +21,7 @@ END
     chown --reference=pg "$1/backup_label"
 }
 
-# recover FOLDER ASIDE: puts a backup's folder in the place of the cluster's, which is put aside, with what tells a server to recover.
+# recover FOLDER ASIDE: puts a backup's folder in the place of the cluster's, which is put aside, with what makes a server recover.
 recover() {
     mv pg "$2"
     mv "$1" pg
@@ -83,7 +83,7 @@ start_server
 has_tables rows1 rows2 rows3 rows4
 stop_server fast
 
-# fetch STATUS OUTPUT NAME PATH: archive-get, which leaves a file at the path just where it ends with 0.
+# fetch STATUS OUTPUT NAME PATH: archive-get, which leaves a file at the path exactly where it ends with 0.
 served=pg_wal/served
 fetch() {
     want "$1" "$2" archive-get "$3" "$4"

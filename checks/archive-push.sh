@@ -62,7 +62,7 @@ truncate -s -1 "pg/pg_wal/$last"
 want 31 "ERROR: [031]: segment size 16777216, found 16777215 bytes
 " archive-push "pg_wal/$last"
 
-# Where all info files are lost no stanza is made beside the stored segments, and each file stays.
+# Where all info files are lost no stanza is made over the stored segments, and each file stays.
 rm repo/archive/demo/archive.info* repo/backup/demo/backup.info*
 found=$(find repo/archive repo/backup -type f | LC_ALL=C sort)
 want 29 "ERROR: [029]: info files are missing, repository holds '$(head -n 1 <<<"${found#repo/}")'

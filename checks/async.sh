@@ -1,6 +1,6 @@
 #!/usr/bin/env bash
 # archive-push with archive-async of a server of PostgreSQL 15 under load: each file that the server saw archived is stored as it is,
-# though drains are killed, and the server restarted. A segment that is refused is told so, and one that isn't ready isn't archived.
+# though drains are killed, and the server restarted. A segment that is refused is reported so, and one that isn't ready isn't archived.
 . "$(dirname "$0")/server"
 mkdir spool
 chown --reference=pg spool
@@ -65,12 +65,12 @@ done
 [ -e "pg/pg_wal/archive_status/$last.done" ] || complain "$last isn't archived"
 [ -z "$(find repo spool -type f ! -perm 600)" ] || complain 'a file has another mode than 600'
 
-# A segment that is stored: its drain says so, and it is told without a line. Its mark is gone, and so is no other.
+# A segment that is stored: its drain says so, and no line reports it. Its mark is gone, and so is no other.
 mv "pg/pg_wal/archive_status/$last.done" "pg/pg_wal/archive_status/$last.ready"
 want 0 '' archive-push "pg_wal/$last"
 [ ! -e "$out/$last.ok" ] || complain "the mark of $last is left"
 
-# One that is no segment is refused, and the refusal told; then it is as if it was never asked.
+# One that is no segment is refused, and the refusal reported; then it is as if it was never asked.
 make_segments 240 1
 torn=0000000100000000000000F0
 chown --reference=pg "pg/pg_wal/$torn"
@@ -102,7 +102,7 @@ program archive-push "pg_wal/$last" >output 2>errors || status=$?
 [ "$status" = 39 ] || complain "other bytes: ended with $status and '$(cat output)'"
 grep -q '^ERROR: \[039\]: \[34\] ' output || complain "other bytes: wrote '$(cat output)'"
 
-# No drain is left behind.
+# No drain is left running.
 for _ in $(seq 50); do
     if [ -z "$(drains)" ]; then break; fi
     sleep 0.1

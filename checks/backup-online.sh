@@ -1,6 +1,6 @@
 #!/usr/bin/env bash
 # backup of a running server of PostgreSQL 15 under load, of each kind, whose log is archived by archive-push: each file of the label's
-# folder, and each that is left of a backup before, by its time or its digest, has the sum that the manifest tells, the log of its span
+# folder, and each that is left of a backup before, by its time or its digest, has the sum that the manifest states, the log of its span
 # is archived, and the backup is restored and recovers to the end of the archive. What is refused leaves the list as it was, and the
 # server in no backup.
 . "$(dirname "$0")/server"
@@ -10,13 +10,13 @@ export PATH=$room:$PATH
 
 online=(--start-fast)
 
-# The list as the info file tells it.
+# The list as the info file states it.
 listed() {
     sed -n '/^\[backup:current\]$/,/^$/p' repo/backup/demo/backup.info
 }
 
 is_listed() {
-    program info | grep -q "$1 backup: $2$"
+    program info | grep "$1 backup: $2$" >/dev/null
 }
 
 # back_up KIND OPTION..: a backup of this kind, whose label is then in `label`.
@@ -29,7 +29,7 @@ back_up() {
     [ ! -s errors ] || complain "the backup wrote to standard error: $(cat errors)"
 }
 
-# check_files LABEL: the files in the folder are those that the manifest tells with bytes, each with its size and sum; and those that it
+# check_files LABEL: the files in the folder are those that the manifest lists with bytes, each with its size and sum; and those that it
 # has of other backups lie in their folders, each with its sum.
 check_files() {
     local folder=repo/backup/demo/$1
@@ -82,7 +82,7 @@ for kind in full full diff incr incr; do
     labels+=("$label")
 done
 
-# By digests a file is left whose time alone is another, and one is stored that has the size and the time that are told, and other bytes.
+# By digests a file is left whose time alone is another, and one is stored that has the listed size and time, and other bytes.
 "${as[@]}" touch pg/pg_hba.conf
 was=$(stat -c %y pg/pg_ident.conf)
 "${as[@]}" sed -i '1s/^# P/# Q/' pg/pg_ident.conf
@@ -115,7 +115,7 @@ refuse 44 "ERROR: [044]: 'elsewhere' is a link
 "
 rm pg/elsewhere
 
-# A log that isn't archived in time: after so many turns the first segment that is missing is told.
+# A log that isn't archived in time: after that many waits the first segment that is missing is reported.
 ask "alter system set archive_command = 'false'" >/dev/null
 ask 'select pg_reload_conf()' >/dev/null
 sleep 1

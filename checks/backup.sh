@@ -1,5 +1,5 @@
 #!/usr/bin/env bash
-# backup of a stopped cluster of PostgreSQL 15: the files of the label's folder are the cluster's, byte by byte, and its manifest tells
+# backup of a stopped cluster of PostgreSQL 15: the files of the label's folder are the cluster's, byte by byte, and its manifest lists
 # each with its sum; what is refused leaves the list as it was; an incremental one stores what changed; and one that was killed hurts
 # nothing.
 . "$(dirname "$0")/common"
@@ -32,7 +32,7 @@ compare() {
     while read -r path; do
         cmp -s "pg/$path" "$folder/pg_data/$path" || complain "$path isn't stored as it is"
     done <found
-    # Each as `pg_data/PATH={"checksum":"SUM","size":BYTES,`, and so in the manifest, but for the time.
+    # Each as `pg_data/PATH={"checksum":"SUM","size":BYTES,`, and so in the manifest, except for the time.
     taken -exec sha1sum {} + | while read -r sum path; do
         printf 'pg_data/%s={"checksum":"%s","size":%s\n' "${path#./}" "$sum" "$(stat -c %s "pg/$path")"
     done | LC_ALL=C sort >wanted
@@ -44,10 +44,10 @@ compare() {
 
 # is_listed LABEL: info lists it.
 is_listed() {
-    "$top/bin/pgbackrest" --stanza=demo --repo1-path="$room/repo" info | grep -q "full backup: $1$"
+    "$top/bin/pgbackrest" --stanza=demo --repo1-path="$room/repo" info | grep "full backup: $1$" >/dev/null
 }
 
-# The list as the info file tells it.
+# The list as the info file states it.
 listed() {
     sed -n '/^\[backup:current\]$/,/^$/p' repo/backup/demo/backup.info
 }
@@ -106,7 +106,7 @@ later=$(sed -n 's/^INFO: new backup label = \([0-9]\{8\}-[0-9]\{6\}F_[0-9]\{8\}-
 (cd "repo/backup/demo/$later/pg_data" && find . -type f | LC_ALL=C sort) >found
 printf '%s\n' ./base/1/99999 ./global/pg_control | cmp -s - found || complain "$later has other files: $(cat found)"
 
-# A backup that is killed at any moment leaves a list of whole backups, and the next one ends well.
+# A backup that is killed at any moment leaves a list of whole backups, and the next one succeeds.
 for moment in 0.02 0.05 0.1 0.2 0.4; do
     program "${full[@]}" backup >output 2>errors &
     sleep "$moment"

@@ -49,11 +49,11 @@ as_user pgbackrest --stanza=main stanza-create
 looks 2 'no full backup; no backup'
 cron 1 0
 mails_nothing 'a full backup'
-as_user pgbackrest --stanza=main info | grep -q 'full backup: .*F$' || complain 'cron made no full backup'
+as_user pgbackrest --stanza=main info | grep 'full backup: .*F$' >/dev/null || complain 'cron made no full backup'
 ask 'create table more as select 1 as n' >/dev/null
 cron 2 0
 mails_nothing 'an incremental backup'
-as_user pgbackrest --stanza=main info | grep -q 'incr backup: .*I$' || complain 'cron made no incremental backup'
+as_user pgbackrest --stanza=main info | grep 'incr backup: .*I$' >/dev/null || complain 'cron made no incremental backup'
 cron 3 0
 mails_nothing 'a verification'
 switch
@@ -65,6 +65,15 @@ looks 2 'backup 0 h ago' -a -1
 looks 2 'MiB free' -m 999999999
 looks 2 'no folder' -r "$room/nowhere"
 looks 2 'CRITICAL - info: ' -s other
+
+# The server's warnings come before the answer, and before what is wrong.
+printf '#!/bin/sh\n%s\n%s\nexec %s/psql "$@"\n' 'echo "WARNING:  database \"postgres\" has a collation version mismatch" >&2' \
+    'echo "HINT:  Rebuild all objects in this database" >&2' "$tools" >bin/psql
+chmod 755 bin/psql
+looks 0 'OK - full backup 0 h ago; backup 0 h ago; archived 0.* MiB free'
+printf '#!/bin/sh\n%s\nexec %s/psql -p 1 "$@"\n' 'echo "WARNING:  a collation" >&2' "$tools" >bin/psql
+looks 2 'server: psql: error: '
+rm bin/psql
 
 # A verification waits for a backup's lock, and a held one ends with cron's line.
 (as_user flock "$room/srv/pgbackrest/lock/main-backup.lock" sleep 4) &
@@ -86,6 +95,13 @@ cp conf conf.kept
 sed -i 's/^\[main\]$/archive-timeout=1\n\n[main]/' conf
 as_user pgbackrest --stanza=main backup >output 2>errors && complain 'a backup without its log'
 looks 2 '1 unlisted backup folders, run expire'
+# (beside a backup nothing is said of folders)
+(as_user flock "$room/srv/pgbackrest/lock/main-backup.lock" sleep 3) &
+holder=$!
+sleep 1
+looks 2 'archiving fails at 0'
+grep unlisted output && complain 'the check takes a running backup for a failed one'
+wait "$holder"
 cron 2 42
 grep -q 'ERROR: \[042\]' errors || complain "cron's mail of a failed backup: $(cat errors)"
 [ "$(ls srv/pgbackrest/repo/backup/main)" = "$before" ] || complain "the folders of failed backups stay: $(ls srv/pgbackrest/repo/backup/main)"

@@ -1,9 +1,10 @@
 #!/usr/bin/env bash
-# The documents: README has at most 8 KiB and ARCHITECTURE 15,000 bytes; each definition has a comment; the numbers of TESTING and the rows of PROVED
-# are those that docs/counts makes; each crate, option and status has its row; the program's hints are
-# the advice of STATUS;
+# The documents: README has at most 8 KiB and ARCHITECTURE 15,000 bytes; a case of RUNBOOK has at most ten lines to type; each definition
+# has a comment; the numbers of TESTING and DEFINITIONS and the rows of PROVED are those that docs/counts makes, and none is above its bound
+# in docs/bounds; each crate, option and status has its row; the program's hints are the advice of STATUS;
 # each link leads to a file and a heading that are there; no sentence has more than 40 words; and none has a word of the list below.
-# A cell of a table, an item of a list and a heading end a sentence; what stands in code counts as one word.
+# Sentences of comments in the crates' code, definitions and proofs are read too.
+# A cell of a table, an item of a list and a heading end a sentence; what is in code counts as one word.
 # documents.sh FILE..: the sentences of these files alone.
 set -euo pipefail
 cd "$(dirname "$0")/.."
@@ -13,7 +14,20 @@ most_bytes=8192
 # What a reader of the field would stumble over; GLOSSARY.md has the field's words.
 dialect="is well|are well|ends well|ended well|end well|so many|hasn't (a|an|the|its|their|that|this)|haven't (a|an|the|their)"
 dialect="$dialect|has not the|just where|just so|just these|just as the|just this|want of memory|who (asks|reads|writes|removed|only|knows)"
-dialect="$dialect|comes behind|come behind|behind another|but by|take it away|taken away|is no WAL|is none of these calls|the same of (a|an|the|it)|it tells so|tells so|let go|lets go|is said of it|but for what"
+dialect="$dialect|comes behind|come behind|behind another|but by|take it away|taken away|is no WAL|is none of these calls|the same of (a|an|the|it)|let go|lets go|is said of it|but for what"
+
+# And what documents don't say either.
+document_dialect="tell|tells|telling|told|stands? for|stood for|settles?|settled|settling|loose|tight|drains?|drained|draining|hears?|heard|talks?|strangers"
+document_dialect="$document_dialect|a stop (in|of|at|leaves|undoes|may)|stops (leave|may)|stopped (backup|command|push|restore|expiry)|, to last|a person (is|reads)|mends|mended"
+document_dialect="$document_dialect|before and behind|a 0 behind|behind (it|them|which)|behind the (rename|text|reading|start|end|listing|backup)|lies behind|in front|anew"
+document_dialect="$document_dialect|(reads|of|with|and) (the|its|these) words|own words|the words alone|takes? away|taken back|goes first"
+
+# And what comments don't say either, whatever the identifiers are named: those stand in code, and are left out.
+comment_dialect="tell|tells|told|telling|so much|settle|settles|settled|settling|stands? for|stood|loose|tight|beside|to last|the same of"
+comment_dialect="$comment_dialect|a stop (leaves|may leave|left)|stops (leave|may leave)|(no|each|every) stop (takes|leaves|removes)"
+comment_dialect="$comment_dialect|hears?|heard|goes on|go on|went on|(is|are) wanted|lets? .* go|(takes?|taken|took) .* away"
+comment_dialect="$comment_dialect|(one|left|right|stands?) behind|behind (it|them|all|calls|turns|the other|the others|the locks|the stages)|who (neither|waits|uses|leaves)"
+comment_dialect="$comment_dialect|(what|whatever) (came|comes) of|seats?|but for|just the|taken? away|misuse|isn't built|where (it|that) is built"
 
 wrong=0
 complain() {
@@ -61,19 +75,68 @@ sentences() {
     ' "$1"
 }
 
+# own_text FILE: without what docs/counts copies into it, which are the first comments of the crates.
+own_text() {
+    case $1 in
+    docs/PROVED.md) sed 's/^\(| `[a-z_0-9]*` |\)[^|]*|/\1 |/' "$1" ;;
+    *) cat "$1" ;;
+    esac
+}
+
 # check_words FILE: its sentences are short, and without dialect.
 check_words() {
     local found
-    found=$(sentences "$1" | awk -F '\t' -v most="$most_words" -v dialect="$dialect" '
-        {
-            words = 0
-            count = split($2, parts, /[ \t]+/)
-            for (i = 1; i <= count; i++) if (parts[i] ~ /[A-Za-z0-9]/) words++
-            if (words > most) print $1 ": " words " words: " $2
-            if (tolower($2) ~ "(^|[^a-z])(" dialect ")([^a-z]|$)") print $1 ": dialect: " $2
-        }')
+    found=$(
+        sentences "$1" | awk -F '\t' -v most="$most_words" '
+            {
+                words = 0
+                count = split($2, parts, /[ \t]+/)
+                for (i = 1; i <= count; i++) if (parts[i] ~ /[A-Za-z0-9]/) words++
+                if (words > most) print $1 ": " words " words: " $2
+            }'
+        sentences <(own_text "$1") | awk -F '\t' -v dialect="$dialect|$document_dialect" '
+            tolower($2) ~ "(^|[^a-z])(" dialect ")([^a-z]|$)" { print $1 ": dialect: " $2 }'
+    )
     if [ -n "$found" ]; then
         while IFS= read -r line; do complain "$1:$line"; done <<<"$found"
+    fi
+}
+
+# check_comments: the sentences of the crates' comments are short, and without dialect.
+check_comments() {
+    local found
+    found=$(find crates/*/src crates/*/specs crates/*/proofs \( -name '*.rt' -o -name '*.antt' \) -print0 | sort -z |
+        xargs -0 awk -v most="$most_words" -v dialect="$dialect|$comment_dialect" '
+            function judge(sentence,    words, count, parts, i) {
+                if (tolower(sentence) ~ pattern) print from ": dialect: " sentence
+                count = split(sentence, parts, /[ \t]+/)
+                if (count <= most) return
+                for (i = 1; i <= count; i++) if (parts[i] ~ /[A-Za-z0-9]/) words++
+                if (words > most) print from ": " words " words: " sentence
+            }
+            function flush(    at) {
+                gsub(/`[^`]*`/, "X", unit)
+                while (match(unit, /[A-Za-z0-9)"\x27][.?!]["\x27)]*( |$)/)) {
+                    at = RSTART + RLENGTH
+                    judge(substr(unit, 1, at - 1))
+                    unit = substr(unit, at)
+                }
+                judge(unit)
+                unit = ""
+            }
+            BEGIN { pattern = "(^|[^a-z])(" dialect ")([^a-z]|$)" }
+            FNR == 1 { flush() }
+            /^ *(\/\/|--)/ {
+                sub(/^ *(\/\/[\/!]?|--) ?/, "")
+                if (/^ *$/ || /^ *-/) flush()
+                if (unit == "") from = FILENAME ":" FNR
+                unit = unit == "" ? $0 : unit " " $0
+                next
+            }
+            { flush() }
+            END { flush() }')
+    if [ -n "$found" ]; then
+        while IFS= read -r line; do complain "$line"; done <<<"$found"
     fi
 }
 
@@ -114,26 +177,34 @@ bytes=$(wc -c <README.md)
 bytes=$(wc -c <docs/ARCHITECTURE.md)
 [ "$bytes" -le 15000 ] || complain "docs/ARCHITECTURE.md has $bytes bytes"
 
+# A case of RUNBOOK has at most ten lines to type.
+while IFS= read -r line; do complain "docs/RUNBOOK.md: $line"; done < <(awk '
+    function end() { if (typed > 10) print heading " has " typed " lines to type" }
+    /^## / { end(); heading = $0; typed = 0 }
+    /^    / { typed++ }
+    END { end() }
+' docs/RUNBOOK.md)
+
 while IFS= read -r word; do complain "$word has no comment"; done < <(docs/tables --bare)
 while IFS= read -r line; do complain "$line"; done < <(docs/counts --check)
 
-# listed WHAT FILE PATTERN: the file has a row of a table in which this stands.
+# listed WHAT FILE PATTERN: the file has a row of a table in which this is.
 listed() {
     grep -q -e "^|.*$3" "$2" || complain "$2 has no row for $1"
 }
 
-# Each crate has a row of PROVED, each check one of TESTING, each option one of MOVING, and each status that a crate below pgb_command has one of STATUS.
+# Each crate has a row of PROVED, each check one of TESTING, each option one of MOVING, and each status that a crate below program_run has one of STATUS.
 for crate in $(sed -n 's/^\([a-z_]*\):.*/\1/p' crates.txt); do listed "the crate $crate" docs/PROVED.md "\`$crate\`"; done
 for check in checks/*.sh; do
     # (wrong bodies are tried crate by crate)
     if [ "$check" != checks/edits.sh ]; then listed "$check" docs/TESTING.md "\`${check#checks/}\`"; fi
 done
-for option in $(sed -n 's/^row [A-Za-z0-9]* = [a-z_]* (codes "\([a-z0-9-]*\)").*/\1/p' crates/pgb_table/specs/Table.antt); do
+for option in $(sed -n 's/^row [A-Za-z0-9]* = [a-z_]* (codes "\([a-z0-9-]*\)").*/\1/p' crates/options_table/specs/Table.antt); do
     # (one of a tool that isn't built)
     if [ "$option" != number ]; then listed "the option $option" docs/MOVING.md "\`$option\`"; fi
 done
-below=$(sed -n 's/#.*//; s/^pgb_command://p' crates.txt)
-for crate in pgb_command $below; do
+below=$(sed -n 's/#.*//; s/^program_run://p' crates.txt)
+for crate in program_run $below; do
     for status in $(cat "crates/$crate"/specs/*.antt 2>/dev/null | sed -n 's/^[a-z_]*status .* = \([0-9]*\)$/\1/p' | sort -u); do
         grep -q "^| $status |" docs/STATUS.md || complain "docs/STATUS.md has no row for $status of $crate"
     done
@@ -152,6 +223,7 @@ if ! diff <(advice | cut -f 1,2) <(hints | cut -f 1,2); then complain 'the hints
 while IFS= read -r line; do complain "$line"; done < <(paste <(advice) <(hints | cut -f 3) |
     awk -F '\t' 'index($3, $4) == 0 { printf "the line of %s has no part \"%s\"\n", $1, $4 }')
 
+check_comments
 for file in README.md docs/*.md docs/decisions/*.md contrib/README.md; do
     check_links "$file"
     check_words "$file"

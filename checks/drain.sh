@@ -1,6 +1,6 @@
 #!/usr/bin/env bash
 # archive-push:async of the segments that a server of PostgreSQL 15 has ready: each stored file is the server's, byte by byte, and has its
-# receipt. A drain that is killed is made good by the next one. A segment that is refused is marked so, and those behind it are stored.
+# receipt. A drain that is killed is completed by the next one. A segment that is refused is marked so, and those after it are stored.
 . "$(dirname "$0")/server"
 mkdir spool
 chown --reference=pg spool
@@ -48,7 +48,7 @@ for name in "${names[@]}"; do stored "$name"; done
 want 0 '' archive-push:async
 [ "$(find "$out" -type f | wc -l)" = "${#names[@]}" ] || complain "the spool has other marks: $(ls "$out")"
 
-# One with other bytes than are stored, and one that is no segment, are refused; the one behind them is stored.
+# One with other bytes than are stored, and one that is no segment, are refused; the one after them is stored.
 last=${names[-1]}
 cp "pg/pg_wal/$last" whole
 printf 'x' | dd of="pg/pg_wal/$last" bs=1 seek=20000 conv=notrunc status=none

@@ -1,6 +1,6 @@
 #!/usr/bin/env bash
 # What is durable when, by the calls that strace sees: a restore before its control file has its name, the files of a backup before it is
-# listed, each by one sync of the file system where that is believed, and else by the handle that wrote it. A late failure is told.
+# listed, each by one sync of the file system where that is believed, and else by the handle that wrote it. A late failure is reported.
 . "$(dirname "$0")/common"
 strace=(strace -f -qq -y -o calls)
 if ! "${strace[@]}" true 2>/dev/null; then
@@ -24,7 +24,7 @@ run() {
     [ "$status" = "$wanted" ] || complain "$what: status $status and not $wanted: $(cat output)"
 }
 
-# calls PATTERN: how many calls are so. (Where several processes call at once, how one ends stands in another line.)
+# calls PATTERN: how many calls are so. (Where several processes call at once, the end of a call is in another line.)
 calls() {
     grep -Ec "$1" calls || true
 }
@@ -67,7 +67,7 @@ run 80 'a backup whose sync fails' --repo1-path="$room/held/repo" --pg1-path="$r
 options=()
 [ "$(grep -c '^2.*F=' held/repo/backup/demo/backup.info)" = 1 ] || complain 'a backup is listed whose sync failed'
 
-# A restore: the control file of before is away first, all is on the disk before the new one has its name, and then that.
+# A restore: the old control file is removed first, all is on the disk before the new one has its name, and then that.
 for way in swift each; do
     to="$room/to"
     [ "$way" = swift ] || to="$room/to here"
@@ -98,7 +98,7 @@ for way in swift each; do
         [ "$(calls 'fsync\([0-9]*<.*/PG_VERSION>\)')" -ge 1 ] || complain 'a file that was kept is not synced'
     fi
 
-    # A failure is told, and then there is no control file.
+    # A failure is reported, and then there is no control file.
     options=(-e inject=syncfs:error=EIO)
     [ "$way" = swift ] || options=(-e inject=fsync:error=EIO:when=20)
     rm -rf "$to"
@@ -143,7 +143,7 @@ before=$(ls -d held/repo/backup/demo/*F | wc -l)
 "$top/bin/pgbackrest" --no-config --stanza=demo --lock-path="$room/lock" --repo1-path="$room/held/repo" --pg1-path="$room/pg" --no-online \
     --no-expire-auto --type=full --log-level-stderr=warn backup >output 2>&1 &
 backup=$!
-while [ "$(ls -d held/repo/backup/demo/*F | wc -l)" = "$before" ]; do sleep 0.01; done
+while [ "$(ls -d held/repo/backup/demo/*F | wc -l)" = "$before" ] && kill -0 $backup 2>/dev/null; do sleep 0.01; done
 printf '%s\n' $$ >pg/postmaster.pid
 status=0
 wait $backup || status=$?

@@ -1,6 +1,6 @@
 #!/usr/bin/env bash
-# What a person sees beside standard output: the line of a refusal and the advice of docs/STATUS.md on standard error, the paths that
-# were looked at, the lines with their times in a file, and the help wherever its word stands.
+# What a person sees besides standard output: the line of a refusal and the advice of docs/STATUS.md on standard error, the paths that
+# were looked at, the lines with their times in a file, and the help wherever its word is.
 . "$(dirname "$0")/common"
 data=(--pg1-path="$room/pg")
 repo=(--repo1-path="$room/repo")
@@ -17,10 +17,10 @@ letters() {
 
 # What docs/STATUS.md advises for a status.
 advice() {
-    awk -F ' [|] ' -v status="| $1" '$1 == status { sub(/ [|]$/, "", $4); print $4; exit }' "$top/docs/STATUS.md"
+    awk -F ' [|] ' -v status="| $1" '$1 == status { sub(/ [|]$/, "", $NF); print $NF; exit }' "$top/docs/STATUS.md"
 }
 
-# tells STATUS WORD..: the program is refused so. Its line is on both outputs, on standard error with the advice behind it.
+# tells STATUS WORD..: the program is refused so. Its line is on both outputs, on standard error with the advice after it.
 tells() {
     local status=0 wanted=$1
     shift
@@ -98,20 +98,20 @@ mkfifo log/demo-info.log
 timeout 20 "$top/bin/pgbackrest" --stanza=demo "${repo[@]}" "${to_file[@]}" info >output 2>&1 ||
     complain "info whose log is a pipe ended with $?: $(cat output)"
 
-# What works beside a push ends with 1 in place of more, and with the status itself where it is called by hand.
+# What a push starts in the background ends with 1 in place of more, and with the status itself where it is called by hand.
 status=0
 program --no-config "${all[@]}" --spool-path="$room/spool" --other archive-push:async </dev/null >/dev/null 2>&1 || status=$?
 [ "$status" = 1 ] || complain "a push in the background ended with $status and not 1"
 tells 4 --no-config "${all[@]}" --spool-path="$room/spool" --other archive-push:async
 
-# No text stands in place of a file that a server hands over or asks for.
+# No text is in place of a file that a server hands over or asks for.
 for word in --help -h --version; do
     tells 4 --no-config "${all[@]}" "$word" archive-push "$(segment 17)"
     tells 4 --no-config "${data[@]}" "${repo[@]}" archive-get "$(basename "$(segment 16)")" pg_wal/RECOVERYXLOG "$word"
 done
 tells 3 help archive-push "$(segment 17)"
 
-# The help and the version, wherever their words stand.
+# The help and the version, wherever their words are.
 "$top/bin/pgbackrest" --version >version
 "$top/bin/pgbackrest" --help backup >help
 for words in '--help backup' 'backup --help' '--stanza=demo backup --help' 'backup --help --stanza=demo' '--help --no-online backup'; do
@@ -121,7 +121,7 @@ for words in '--help backup' 'backup --help' '--stanza=demo backup --help' 'back
 done
 for words in 'archive-push --help' 'help archive-push' '-h archive-push'; do
     # shellcheck disable=SC2086
-    "$top/bin/pgbackrest" $words 2>&1 | grep -q '^archive-push PATH: ' || complain "$words doesn't write the help of archive-push"
+    "$top/bin/pgbackrest" $words 2>&1 | grep '^archive-push PATH: ' >/dev/null || complain "$words doesn't write the help of archive-push"
 done
 for words in '--stanza=demo --version' 'backup --version' '--version --stanza=demo backup'; do
     # shellcheck disable=SC2086

@@ -11,15 +11,25 @@ offline=("${data[@]}" --no-online --type=full)
 running=
 trap '[ -z "$running" ] || kill -KILL "$running" 2>/dev/null || true; rm -rf "$room"' EXIT
 
-# It ends at the latest after two minutes, with 124.
+# It ends at the latest after five minutes, with 124.
 program() {
-    timeout 120 "${ours[@]}" "$@"
+    timeout 300 "${ours[@]}" "$@"
+}
+
+# slow CALL PATH NUMBER: what begins next takes three seconds for its call of this number with that path, where strace is.
+before=()
+slow() {
+    before=()
+    if strace -qq -o calls true 2>/dev/null; then
+        before=(strace -f --seccomp-bpf -qq -o calls -P "$2" -e trace="$1" -e inject="$1:delay_enter=3000000:when=$3")
+    fi
 }
 
 # begin WORD..: the program in the background.
 begin() {
-    "${ours[@]}" "$@" >running.output 2>&1 &
+    "${before[@]}" "${ours[@]}" "$@" >running.output 2>&1 &
     running=$!
+    before=()
 }
 
 # stop_where CONDITION: stops it as soon as that holds.
@@ -30,14 +40,14 @@ stop_where() {
             return
         fi
     done
-    kill -STOP "$running"
+    kill -STOP "$running" || complain "the program ended as '$1' came: $(cat running.output)"
 }
 
-# ends STATUS WHAT: it goes on, and ends so within two minutes.
+# ends STATUS WHAT: it continues, and ends so within five minutes.
 ends() {
     local status=0
     kill -CONT "$running" 2>/dev/null || true
-    for _ in $(seq 1200); do
+    for _ in $(seq 3000); do
         if ! kill -0 "$running" 2>/dev/null; then break; fi
         sleep 0.1
     done
@@ -57,16 +67,17 @@ rm pg/pg_wal/000000010000000000000001
 want 0 '' "${data[@]}" "${lock[@]}" --no-online stanza-create
 want 0 '' "${data[@]}" "${lock[@]}" archive-push "$(segment 16)"
 
-# A segment of 256 MiB, whose push takes a while. Its header has this size in the four bytes from the 33rd on.
+# A segment of 64 MiB, whose push takes a while. Its header has this size in the four bytes from the 33rd on.
 large=$(segment 255)
 {
     head -c 32 "$(segment 16)"
-    printf '\0\0\0\020'
+    printf '\0\0\0\004'
     head -c 8192 "$(segment 16)" | tail -c +37
 } >"$large"
-truncate -s 256M "$large"
+truncate -s 64M "$large"
 is_held="ERROR: [020]: lock 'demo-archive.lock' is held
 "
+slow rename "$room/$(stored_at "$(basename "$large")" "$large")" 1
 begin "${data[@]}" "${lock[@]}" archive-push "$large"
 stop_where '[ -n "$(find repo/archive/demo/15-1 -name "*pgbackrest.tmp*" -size +0 2>/dev/null)" ]'
 want 20 "$is_held" "${data[@]}" --lock-path="$room/other" archive-push "$(segment 17)"
@@ -84,6 +95,7 @@ rm -rf "$large" "$(segment 17)" "$(segment 18)" pg/other
 is_held="ERROR: [020]: lock 'demo-backup.lock' is held
 "
 truncate -s 32M pg/base/1/99999
+slow rename "$room/repo/backup/demo/backup.info.pgbackrest.tmp" 1
 begin "${offline[@]}" "${lock[@]}" backup
 stop_where 'compgen -G "repo/backup/demo/*F/pg_data/base/1/*" >/dev/null'
 want 20 "$is_held" --lock-path="$room/other" expire
@@ -94,6 +106,7 @@ ends 0 'a backup beside others'
 is_whole
 
 # A server that is started meanwhile makes the backup worthless.
+slow pread64 "$room/pg/base/1/99999" 100
 begin "${offline[@]}" "${lock[@]}" backup
 stop_where '[ "$(find repo/backup/demo/*F/pg_data/base/1 -name 99999 | wc -l)" = 2 ]'
 touch pg/postmaster.pid
@@ -105,6 +118,7 @@ rm pg/postmaster.pid
 want 0 "INFO: restored backup $(cd repo/backup/demo && printf '%s\n' *F | head -n 1)
 " --pg1-path="$room/new" --type=none restore
 printf x | dd of=new/base/1/99999 conv=notrunc status=none || true
+slow rename "$room/new/global/pg_control.pgbackrest.tmp" 1
 begin --pg1-path="$room/new" --type=none --delta restore
 stop_where '[ ! -e new/global/pg_control ]'
 want 82 'ERROR: [082]: data folder failed
@@ -165,23 +179,37 @@ for streams in '>/dev/full' '>&-' '2>&-' '>&- 2>&-' '<&- >&- 2>&-'; do
     done
 done
 {
-    sleep 0.5
+    for _ in $(seq 1200); do
+        if [ -e closed ]; then break; fi
+        sleep 0.05
+    done
     status=0
     program "${data[@]}" "${lock[@]}" archive-push "$(segment 16)" || status=$?
     printf '%s' "$status" >status
-} | true
+} | { exec <&- && : >closed; }
 [ "$(cat status)" = 0 ] || complain "a push whose output nobody reads ended with $(cat status)"
 program "${offline[@]}" "${lock[@]}" --log-level-stderr=info backup >output 2>&- || complain "a backup without standard error ended with $?: $(cat output)"
 [ -z "$(find lock -type f -size +0)" ] || complain 'what was for standard error is in a lock'
 
-# A worker that stops: another one does its job, and without another the backup ends.
-for workers in 2 1; do
-    begin "${offline[@]}" "${lock[@]}" --process-max="$workers" --io-timeout=2 backup
-    until worker=$(pgrep -P "$running" -f ' local$' | head -n 1) && [ -n "$worker" ]; do
-        if ! kill -0 "$running" 2>/dev/null; then break; fi
+# Whether a worker has the large file open, and which: it is in the middle of a job.
+works() {
+    for worker in $(pgrep -P "$running" -f ' local$'); do
+        if ls -l "/proc/$worker/fd" 2>/dev/null | grep '/pg/base/1/99999$' >/dev/null; then return; fi
     done
+    return 1
+}
+
+# A worker that stops: another one does its job, and without another the backup ends. It was silent for two seconds before, and is killed.
+truncate -s 64M pg/base/1/99999
+for workers in 2 1; do
+    worker=
+    begin "${offline[@]}" "${lock[@]}" --process-max="$workers" --io-timeout=2 backup
+    stop_where works
     kill -STOP "$worker" || complain 'no worker was found'
+    began=$(date +%s%N)
     if [ "$workers" = 2 ]; then ends 0 'a backup by two workers, one of which stops,'; else ends 55 'a backup whose worker stops'; fi
+    [ $(($(date +%s%N) - began)) -ge 2000000000 ] || complain "one of $workers workers stopped, and was not waited for"
+    [ "$(sed 's/.*) //; s/ .*//' "/proc/$worker/stat" 2>/dev/null)" != T ] || complain "one of $workers workers stopped, and was not given up"
     kill -KILL "$worker" 2>/dev/null || true
 done
 is_whole

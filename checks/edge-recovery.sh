@@ -1,6 +1,6 @@
 #!/usr/bin/env bash
-# Servers of PostgreSQL 15 where something goes wrong: one that recovers stops where a segment can't be fetched, and later goes on to
-# the end; a standby waits; a copy that is restored beside the running server leaves that one alone; and backups of servers with
+# Servers of PostgreSQL 15 where something goes wrong: one that recovers stops where a segment can't be fetched, and later continues to
+# the end; a standby waits; a copy that is restored next to the running server leaves that one alone; and backups of servers with
 # timeouts, with their log elsewhere, and of one that says nothing.
 . "$(dirname "$0")/server"
 
@@ -57,9 +57,11 @@ run_here restore || complain "the restore ended with $?: $(cat output errors)"
 stops() {
     : >pg/log
     "${as[@]}" "$tools/pg_ctl" -D "$room/pg" -l "$room/pg/log" -t 60 -W start >/dev/null || true
-    for _ in $(seq 120); do
+    # (before it has begun it has no such file either)
+    for _ in $(seq 240); do
         sleep 0.5
-        if [ ! -f pg/postmaster.pid ] || [ "$(in_recovery)" = f ]; then break; fi
+        if grep -q -e 'database system is shut down' -e 'FATAL:  could not restore file' pg/log && [ ! -f pg/postmaster.pid ]; then break; fi
+        if [ "$(in_recovery)" = f ]; then break; fi
     done
     if [ -f pg/postmaster.pid ]; then
         complain "with $1 the server goes on: $(tail -n 5 pg/log)"
@@ -86,7 +88,7 @@ printf 'other bytes' | dd of="$stored" bs=1 seek=9000 conv=notrunc status=none
 stops 'a damaged segment'
 cp -p whole "$stored"
 
-# Now nothing is amiss, and it goes on to the end.
+# Now nothing is amiss, and it continues to the end.
 start_server
 for table in 1 2 3 4; do
     [ "$(ask "select count(*) from rows$table")" = 20000 ] || complain "rows$table lacks rows"
@@ -101,10 +103,14 @@ run_here restore || complain "the restore of a standby ended with $?: $(cat outp
 mv pg/recovery.signal pg/standby.signal
 chmod 0 "$stored"
 "${as[@]}" "$tools/pg_ctl" -D "$room/pg" -l "$room/pg/log" -t 60 -w start >/dev/null || complain "no standby starts: $(tail -n 5 pg/log)"
-sleep 4
+for _ in $(seq 240); do
+    if [ "$(grep -c '^ERROR: \[' pg/log)" -ge 3 ]; then break; fi
+    sleep 0.5
+done
+[ "$(grep -c '^ERROR: \[' pg/log)" -ge 3 ] || complain "a standby doesn't ask again: $(tail -n 5 pg/log)"
 [ "$(in_recovery)" = t ] || complain "a standby goes on, or stops: $(tail -n 5 pg/log)"
 chmod "$mode" "$stored"
-for _ in $(seq 60); do
+for _ in $(seq 240); do
     if [ "$(ask 'select count(*) from rows4' 2>/dev/null)" = 20000 ]; then break; fi
     sleep 0.5
 done
@@ -113,7 +119,7 @@ stop_server immediate
 rm -rf pg
 mv recovered pg
 
-# A copy, restored in another folder beside the running server by relative paths.
+# A copy, restored in another folder next to the running server by relative paths.
 start_server
 fill rows5
 switch >/dev/null
@@ -127,13 +133,13 @@ make_folder beside
 ask_copy() {
     "${as[@]}" "$tools/psql" -h "$room/beside" -U postgres -AtXq -c "$1" 2>/dev/null || true
 }
-for _ in $(seq 60); do
+for _ in $(seq 240); do
     if [ ! -f copy/postmaster.pid ] || [ "$(ask_copy 'select pg_is_in_recovery()')" = f ]; then break; fi
     sleep 0.5
 done
 [ "$(ask_copy 'select count(*) from rows5')" = 20000 ] || complain "the copy lacks rows: $(tail -n 5 copy/log)"
 # What it has to archive isn't the stanza's.
-for _ in $(seq 60); do
+for _ in $(seq 240); do
     if grep -q '\[032\]: working directory is not the same' copy/log; then break; fi
     sleep 0.5
 done
@@ -164,6 +170,23 @@ if [ "$(id -u)" = 0 ]; then
     run_here --online --pg1-socket-path="$room/socket" stanza-create || status=$?
     [ "$status" = 83 ] || complain "a socket of another user: $status: $(cat output)"
     chown --reference=pg socket/.s.PGSQL.5432
+fi
+
+# The wait for the next second goes by the data folder's clock too: its first four looks at the time of a file there are told one long ago, and
+# it looks again.
+if strace -qq -o calls true 2>/dev/null; then
+    # (the bytes of struct statx, up to the time of the last change)
+    long_ago=$(perl -e 'print unpack "H*", pack("L<L<Q<L<L<L<S<S<Q<Q<Q<Q<", 0xfff, 4096, 0, 1, 0, 0, 0100600, 0, 1, 0, 0, 0)
+        . pack("q<L<L<", 1000000000, 5, 0) x 4')
+    touched=$room/pg/pgsql_tmp.pgbackrest
+    status=0
+    (cd "$room" && timeout 120 strace -qq -y -o calls -P "$touched" -e trace=openat,statx -e inject=statx:poke_exit=@arg5="$long_ago":when=1..4 \
+        "${as[@]}" "${ours[@]}" --start-fast --type=full backup) >output 2>&1 || status=$?
+    [ "$status" = 0 ] || complain "a backup by another clock ended with $status: $(cat output)"
+    [ "$(grep -c '^openat(.*O_CREAT' calls)" -ge 5 ] || complain "a backup doesn't wait by the data folder's clock: $(cat calls)"
+    [ ! -e "$touched" ] || complain 'the file whose time is looked at stays'
+else
+    printf 'strace is not here: the wait by another clock is skipped\n'
 fi
 
 # What it waits for.
@@ -199,17 +222,25 @@ run_here --online --pg1-socket-path="$room/socket" --db-timeout=2 stanza-create 
 status=0
 run_here --start-fast --db-timeout=2 backup || status=$?
 [ "$status" = 83 ] || complain "a backup of a server that says nothing: $status: $(cat output)"
-(cd "$room" && timeout 60 "${as[@]}" "${ours[@]}" --online --pg1-socket-path="$room/socket" --db-timeout=2 stanza-create) >/dev/null 2>&1 &
+(cd "$room" && timeout 60 "${as[@]}" "${ours[@]}" --online --pg1-socket-path="$room/socket" --db-timeout=6 stanza-create) >asked 2>&1 &
 asking=$!
-sleep 0.5
-for _ in $(seq 100); do
+for _ in $(seq 600); do
+    if is_locked lock/demo-archive.lock; then break; fi
+    sleep 0.05
+done
+refused=0
+for _ in $(seq 300); do
     status=0
     program archive-push "pg_wal/$(cd log && printf '%s\n' 0* | head -n 1)" >output 2>errors || status=$?
     if [ "$status" != 20 ]; then break; fi
+    refused=$((refused + 1))
     sleep 0.1
 done
-[ "$status" != 20 ] || complain 'a push waits for a server that says nothing'
-wait "$asking" || true
+[ "$refused" -ge 1 ] || complain "stanza-create held no lock: $(cat asked)"
+[ "$status" = 0 ] || complain "a push behind a server that says nothing ended with $status: $(cat output)"
+status=0
+wait "$asking" || status=$?
+[ "$status" = 83 ] || complain "stanza-create beside a push ended with $status: $(cat asked)"
 kill -CONT "$stopped"
 stopped=
 stop_server fast

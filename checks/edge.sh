@@ -144,6 +144,31 @@ program "${get[@]}" >output 2>errors || status=$?
 rm -f pg/pg_wal/RECOVERYXLOG "repo/$log"
 mv aside "repo/$log"
 
+# A link in place of the stanza's own folder is followed by all commands.
+make_segments 21 1
+for part in archive backup; do
+    mv "repo/$part/demo" "$part-elsewhere"
+    ln -s "$room/$part-elsewhere" "repo/$part/demo"
+done
+want 0 '' archive-push "$(segment 21)"
+cmp -s "$(segment 21)" archive-elsewhere/15-1/0000000100000000/"$(basename "$(segment 21)")"-* || complain 'a push stores nothing behind a link'
+want 0 '' "${get[@]}"
+cmp -s kept pg/pg_wal/RECOVERYXLOG || complain 'other bytes are served behind a link'
+want 1 'INFO: unable to find 0000000100000000000000FE in the archive
+' archive-get 0000000100000000000000FE pg_wal/RECOVERYXLOG
+ends_well --type=full backup
+[ "$(find backup-elsewhere -name backup.manifest | wc -l)" = 2 ] || complain 'a backup is not behind the link'
+ends_well info
+[ "$(grep -c 'full backup: ' output)" = 2 ] || complain "info behind a link: $(cat output)"
+want 0 '' verify
+ends_well --repo1-retention-full=1 expire
+[ "$(find backup-elsewhere -name backup.manifest | wc -l)" = 1 ] || complain 'expire leaves a backup behind the link'
+for part in archive backup; do
+    rm "repo/$part/demo"
+    mv "$part-elsewhere" "repo/$part/demo"
+done
+rm -f "$(segment 21)" pg/pg_wal/RECOVERYXLOG
+
 # The working directory is another cluster than that of the option.
 make_segments 17 1
 cp -a pg other
@@ -218,7 +243,7 @@ ends_well info
 ends_well --type=full backup
 find repo -name $'\377' -delete
 
-# Without a PATH, and by a bare name, the program still starts its workers and what goes on in the background.
+# Without a PATH, and by a bare name, the program still starts its workers and what runs in the background.
 whole=("${ours[@]}")
 ours=(env -i bash -c 'exec -a pgbackrest "$0" "$@"' "${ours[@]}")
 ends_well --process-max=2 --type=full backup
@@ -247,7 +272,7 @@ if [ "$(id -u)" = 0 ]; then
     # The top of a file system may be root's while the stanza's folders aren't.
     owned repo/archive/demo archive-push "$(segment 20)"
     owned repo/backup/demo --type=full backup
-    # (no log that the folder's user couldn't go on with)
+    # (no log that the folder's user couldn't continue)
     owned pg --log-path="$room/log" --log-level-file=info "${get[@]}"
     mkdir theirs
     chown 65534 theirs

@@ -1,6 +1,6 @@
 #!/usr/bin/env bash
-# expire of three backups and a log: just what the rules let go is told and is gone, the backup that is left is restored as it was, and an
-# expiry that is killed is made good by the next. So it is behind a backup. A backup of a stopped server has no part of the log, so the list is told some here.
+# expire of three backups and a log: exactly what the rules expire is reported and is gone, the backup that is left is restored as it was, and an
+# expiry that is killed is completed by the next. The same after a backup. A backup of a stopped server has no part of the log, so the list is given some here.
 . "$(dirname "$0")/common"
 
 # (restore and info take no lock, and refuse its option)
@@ -17,7 +17,7 @@ back_up() {
     label=$(sed -n 's/^INFO: new backup label = //p' output)
 }
 
-# The files of a folder, each behind its sum. (The note of settled folders may be any.)
+# The files of a folder, each after its sum. (The note of synced folders may be any.)
 list() {
     (cd "$1" && find . -type f ! -name settled.note -exec sha1sum {} + | LC_ALL=C sort)
 }
@@ -33,7 +33,7 @@ span() {
     done
 }
 
-# logged NUMBER..: just these segments are stored, and the history of a timeline.
+# logged NUMBER..: exactly these segments are stored, and the history of a timeline.
 logged() {
     local number
     for number in "$@"; do basename "$(segment "$number")"; done >wanted
@@ -41,7 +41,7 @@ logged() {
     [ -f repo/archive/demo/15-1/00000002.history ] || complain 'the history of a timeline is gone'
 }
 
-# listed LABEL..: just these backups are listed, and just they have folders.
+# listed LABEL..: exactly these backups are listed, and exactly they have folders.
 listed() {
     printf '%s\n' "$@" >wanted
     program info | sed -n 's/^ *full backup: //p' | cmp -s wanted - || complain "other backups are listed than $*"
@@ -136,7 +136,7 @@ for moment in 0.005 0.01 0.02 0.03 0.05 0.08; do
     kill_program
     wait $! 2>/dev/null || true
     list "repo/backup/demo/$label" | cmp -s bytes - || complain "killed after $moment seconds, the backup that stays has other bytes"
-    program info | grep -q "full backup: $label" || complain "killed after $moment seconds, the backup that stays isn't listed"
+    program info | grep "full backup: $label" >/dev/null || complain "killed after $moment seconds, the backup that stays isn't listed"
     program --repo1-retention-full=1 expire >output 2>errors || complain "the expiry after one that was killed ended with $?"
     list repo | cmp -s after - || complain "after a kill at $moment seconds the next expiry left something else: $(list repo | diff after - | head -n 3)"
 done

@@ -100,7 +100,7 @@ done
 : >killed
 recover kill
 
-# By hand, behind the first segment that is stored.
+# By hand, after the first segment that is stored.
 mapfile -t names < <(cd repo/archive/demo/15-1/0000000100000000 && ls | grep -E '^[0-9A-F]{24}-' | cut -c1-24 | LC_ALL=C sort)
 want 0 '' archive-get:async "${names[0]}"
 fetched "${names[@]:1:4}"

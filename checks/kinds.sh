@@ -12,7 +12,7 @@ program() {
     "$top/bin/pgbackrest" --stanza=demo --repo1-path="$room/repo" "${lock[@]}" "$@"
 }
 
-# What a folder holds: each file behind its sum, and each folder.
+# What a folder holds: each file after its sum, and each folder.
 list() {
     (cd "$1" && find . -type f -exec sha1sum {} + -o -type d -print | LC_ALL=C sort)
 }
@@ -47,7 +47,7 @@ restored() {
     done
 }
 
-# has LABEL FILE..: just these files, and the manifest's own, are stored in the folder of the backup.
+# has LABEL FILE..: exactly these files, and the manifest's own, are stored in the folder of the backup.
 has() {
     local of=$1
     shift
@@ -74,7 +74,7 @@ back_up diff
 diff=$label
 [[ $diff == "${full}_"*D ]] || complain "a differential backup of $full is $diff"
 has "$diff" global/pg_control pg_hba.conf postgresql.auto.conf
-# The same size and time, and other bytes: only digests tell.
+# The same size and time, and other bytes: only digests show it.
 old=$(stat -c %y pg/pg_ident.conf)
 sed -i '1s/^#/-/' pg/pg_ident.conf
 touch -d "$old" pg/pg_ident.conf

@@ -2,7 +2,7 @@
 # A worker: it answers jobs over standard input and output, and ends with 1 on a fault.
 . "$(dirname "$0")/room"
 
-# number SIZE VALUE: the number in so many bytes, the highest first.
+# number SIZE VALUE: the number in this many bytes, the highest first.
 number() {
     local place
     for ((place = $1 - 1; place >= 0; place--)); do
@@ -36,7 +36,7 @@ job() {
     frame J body
 }
 
-# part FILE and end FILE: what is told of a file's bytes.
+# part FILE and end FILE: the frames of a file's bytes.
 part() {
     frame P "$1"
 }
@@ -46,7 +46,7 @@ end() {
     frame E told
 }
 
-# serves STATUS: the worker takes `input`, ends so, and writes what stands in `wanted`.
+# serves STATUS: the worker takes `input`, ends so, and writes what is in `wanted`.
 serves() {
     local status=0
     "$top/bin/pgbackrest" local <input >output 2>errors || status=$?
@@ -75,6 +75,14 @@ item T base/1 0 70000 >items
 { cat setup && job D 1 items && job D 1 items; } >input
 { end pg/base/1 && end pg/base/1; } >wanted
 serves 0 'two digest jobs'
+
+# No file has bytes so far on, nor at a place of which the system's calls have no number.
+for place in 70000 9223372036854775807 -9223372036854775808 -5; do
+    item T base/1 "$place" 5 >items
+    { cat setup && job R 1 items; } >input
+    end pg/empty >wanted
+    serves 0 "a reading from $place on"
+done
 
 item R none 0 5 >items
 { cat setup && job D 1 items; } >input

@@ -1,5 +1,5 @@
 #!/usr/bin/env bash
-# The locks: one that another process holds is told, one whose process was killed is free, and two pushes at once do no harm.
+# The locks: one that another process holds is reported, one whose process was killed is free, and two pushes at once do no harm.
 . "$(dirname "$0")/common"
 if ! command -v flock >/dev/null; then
     printf 'flock is not here: skipped\n'
@@ -25,7 +25,7 @@ same_line() {
     printf 'WARN: %s is already in the archive with the same checksum\n' "$(basename "$1")"
 }
 
-# refused LOCK WORD..: the program tells that another process holds the lock, and writes nothing.
+# refused LOCK WORD..: the program reports that another process holds the lock, and writes nothing.
 refused() {
     local before lock=$1
     shift
@@ -69,7 +69,7 @@ beside_holder "$of_push" --no-online stanza-create
 is_stored "$(segment 17)"
 
 # A push that is stopped in its middle keeps its lock, and loses it as it is killed. A segment of 256 MiB takes a while: its
-# header tells this size in the four bytes from the 33rd on.
+# header states this size in the four bytes from the 33rd on.
 large=$(segment 255)
 {
     head -c 32 "$(segment 16)"
@@ -83,9 +83,9 @@ pusher=$!
 for _ in $(seq 10000); do
     if [ -n "$(find repo -name '*.pgbackrest.tmp' 2>/dev/null)" ] || ! kill -0 "$pusher" 2>/dev/null; then break; fi
 done
-kill -STOP "$pusher"
+kill -STOP "$pusher" || complain "the push of a large segment ended too soon: $(cat large.output)"
 refused "$of_push" archive-push "$(segment 18)"
-kill -KILL "$pusher"
+kill -KILL "$pusher" || true
 wait "$pusher" 2>/dev/null || true
 pusher=
 [ ! -s large.output ] || complain "the push that was killed wrote '$(cat large.output)'"

@@ -1,5 +1,5 @@
 #!/usr/bin/env bash
-# stanza-create beside a server of PostgreSQL 15 that it asks: a server of the data folder's system, and what is refused.
+# stanza-create with a server of PostgreSQL 15 that it asks: a server of the data folder's system, and what is refused.
 . "$(dirname "$0")/server"
 
 configure

@@ -1,7 +1,17 @@
 #!/usr/bin/env bash
-# README, as an administrator types it: its configuration, its settings of the server, the first backup and both recoveries, block by block
-# as they stand there. Only the paths are others, and an option names the configuration, since nothing is written to /etc.
+# README, as an administrator types it: its installation, its configuration, its settings of the server, the first backup and both
+# recoveries, block by block as they stand there. Only the paths, the ballast's size and whose folders are made are others, and an option
+# names the configuration, since nothing is written to /etc.
 . "$(dirname "$0")/typed"
+
+# (the program comes into a folder of its own, since the one in bin names the configuration)
+mkdir installed
+block README.md 'Install' 1 | sed "s#$room/bin/#$room/installed/#; s#/etc/pgbackrest#$room/etc/pgbackrest#; s/200M/2M/" >typed-in
+(cd "$top" && bash -e "$room/typed-in") >output 2>errors || complain "the installation: $(cat output errors)"
+cmp -s "$top/bin/pgbackrest" installed/pgbackrest || complain 'another program is installed'
+installed/pgbackrest --version >/dev/null || complain 'the installed program does not run'
+for name in srv/pgbackrest/lock/all.stop srv/pgbackrest/ballast etc/pgbackrest; do [ -e "$name" ] || complain "the installation made no $name"; done
+chown --reference=data/main srv/pgbackrest srv/pgbackrest/lock
 
 block README.md 'Configure' 1 >conf
 grep -q "^pg1-path=$room/data/main\$" conf || complain "the configuration is: $(cat conf)"
@@ -26,4 +36,6 @@ type_in 0 README.md 'A recovery' 2
 as_user systemctl start postgresql@16-main
 await_writes
 [ "$(ask 'select count(*) from first')" = 1000 ] || complain 'the second recovery brought back other rows'
+# (what this line does is tried by runbook.sh)
+[ "$(block README.md 'A recovery' 3)" = "$(block docs/RUNBOOK.md 'The server is lost' 2)" ] || complain "README and RUNBOOK have other lines for older programs"
 exit "$wrong"

@@ -1,5 +1,5 @@
 #!/usr/bin/env bash
-# rehearse of three sizes on real folders: what it tells and what it leaves, and the two refusals that come first. These change nothing.
+# rehearse of three sizes on real folders: what it reports and what it leaves, and the two refusals that come first. These change nothing.
 . "$(dirname "$0")/room"
 
 # rehearse FOLDER WORD..: a rehearsal in a room of its own.
@@ -10,7 +10,7 @@ rehearse() {
     "$top/bin/pgbackrest" --stanza=demo --pg1-path="$folder/pg" --repo1-path="$folder/repo" --lock-path="$folder/lock" "$@" rehearse >"$folder/told" 2>"$folder/errors"
 }
 
-# told FOLDER WORD..: a rehearsal that ends well and writes just its standard input.
+# told FOLDER WORD..: a rehearsal that succeeds and writes exactly its standard input.
 told() {
     local folder=$1
     cat >wanted
@@ -19,7 +19,7 @@ told() {
     [ ! -s "$folder/errors" ] || complain "$* wrote to standard error: $(cat "$folder/errors")"
 }
 
-# The files of a folder, each behind its sum.
+# The files of a folder, each after its sum.
 list() {
     (cd "$1" && find . -type f -exec sha1sum {} + | LC_ALL=C sort)
 }

@@ -55,7 +55,7 @@ if [ "$(id -u)" = 0 ]; then
     as=(setpriv --reuid=65534 --regid=65534 --clear-groups)
 fi
 if "${as[@]}" "$tools/pg_ctl" -D "$room/last" -w -o "-k $room/last -h ''" -l "$room/last/log" start >/dev/null 2>&1; then
-    "$tools/psql" -h "$room/last" -U postgres -Atc 'select 42' | grep -q '^42$' || complain 'the server of the restored folder answers nothing'
+    "$tools/psql" -h "$room/last" -U postgres -Atc 'select 42' | grep '^42$' >/dev/null || complain 'the server of the restored folder answers nothing'
     "${as[@]}" "$tools/pg_ctl" -D "$room/last" -w -m fast stop >/dev/null
 else
     complain "no server starts from the restored folder: $(tail -n 3 last/log)"
@@ -86,7 +86,7 @@ printf "restore_command = 'pgbackrest --pg1-path=%s --repo1-path=%s --stanza=dem
 cmp -s settings recovering/postgresql.auto.conf || complain 'the settings of the recovery are others'
 [ -f recovering/recovery.signal ] && [ ! -s recovering/recovery.signal ] || complain 'there is no empty recovery.signal'
 
-# fetches FOLDER WORD..: the server's shell runs the program with these words, whatever stands in the paths that the arguments name.
+# fetches FOLDER WORD..: the server's shell runs the program with these arguments, whatever is in the paths that they name.
 mkdir shown
 printf '#!/bin/sh\nprintf "%%s\\n" "$@"\n' >shown/pgbackrest
 chmod 755 shown/pgbackrest
@@ -120,7 +120,7 @@ restore 0 "INFO: restored backup $label
 compare whole older
 [ "$(stat -c %Y older/PG_VERSION)" = 1577836800 ] || complain 'an equal file has another time'
 
-# A stored file that is flipped, cut or gone is told, and there is no control file.
+# A stored file that is flipped, cut or gone is reported, and there is no control file.
 folder=repo/backup/demo/$label/pg_data
 refuse() {
     rm -rf damaged

@@ -1,6 +1,6 @@
 #!/usr/bin/env bash
 # docs/RUNBOOK.md, as an administrator types it: each of its cases that one machine can show, with servers, block by block. Changed are the
-# paths, labels and times, how long is waited, the ballast's size, and whose folders are made.
+# paths, ports, labels and times, how long is waited, the ballast's size, and whose folders are made.
 . "$(dirname "$0")/typed"
 page=docs/RUNBOOK.md
 
@@ -34,6 +34,7 @@ start() {
 
 repo=srv/pgbackrest/repo
 block README.md 'Configure' 1 >conf
+here <"$top/contrib/beside.conf" >beside.conf
 block README.md 'Configure' 2 >>etc/main/postgresql.conf
 printf 'archive_timeout = 0\n' >>etc/main/postgresql.conf
 typed 0 'Move from pgBackRest' 1
@@ -61,27 +62,42 @@ typed 0 'Pause backups and pushes' 2 's/sleep 3600/sleep 10/'
 sleep 1
 program --archive-timeout=2 --type=full backup >output 2>errors && complain 'a backup without its log'
 has 'ERROR: \[042\]'
-typed 0 "The repository's disk is full" 3
+typed 0 "The repository's disk is full" 4
 [ "$(wc -l <output)" = 1 ] && [ -d "$(cat output)" ] || complain "the folders that aren't listed: $(cat output)"
 folder=$(cat output)
 mv $repo/backup/main/backup.info kept.info
-typed 0 "The repository's disk is full" 3
+typed 0 "The repository's disk is full" 4
 [ "$(cat output)" = "$folder" ] || complain "the folders that aren't listed, by the copy of the list: $(cat output)"
 mv $repo/backup/main/backup.info.copy kept.copy
-typed 0 "The repository's disk is full" 3
+typed 0 "The repository's disk is full" 4
 [ "$(cat output)" = 'refused: look why' ] || complain "folders without a list: $(cat output)"
 mv kept.info $repo/backup/main/backup.info
 mv kept.copy $repo/backup/main/backup.info.copy
 sleep 10
+typed 0 "The repository's disk is full" 5 's/200M/2M/'
 typed 0 "The repository's disk is full" 1
-[ ! -e "$folder" ] || complain 'the folder of a failed backup stays'
+[ ! -e "$folder" ] && [ ! -e srv/pgbackrest/ballast ] || complain 'the folder of a failed backup stays, or the ballast'
+as_user touch "$room/$repo/archive/main/15-1/left.pgbackrest.tmp"
 typed 0 "The repository's disk is full" 2
-typed 0 "The repository's disk is full" 4 's/200M/2M/'
+[ ! -e $repo/archive/main/15-1/left.pgbackrest.tmp ] || complain 'what an unfinished push left stays'
+typed 0 "The repository's disk is full" 3
 typed 0 'Pause backups and pushes' 1 's/sleep 3600/sleep 5/'
 sleep 1
 program backup >output 2>errors && complain 'a backup beside the lock'
 has 'ERROR: \[020\]'
 sleep 5
+
+# A process that holds the stanza's folder, as one with another lock path does.
+if command -v fuser >/dev/null; then
+    (as_user flock "$room/$repo/backup/main" sleep 600) &
+    sleep 1
+    program expire >output 2>errors && complain 'an expiry beside the held folder'
+    has 'ERROR: \[020\]'
+    typed 0 'A command hangs, or 20 stays' 1
+    has 'flock' errors
+    typed 0 'A command hangs, or 20 stays' 2 "s/PID/$(tr -s ' \n' ' ' <output)/"
+    wait
+fi
 
 typed 0 "The server's disk is full" 1
 await_writes
@@ -125,8 +141,20 @@ until_there() {
     done
     complain "the copy doesn't answer $1 to $2: $(tail -n 5 srv/restore/log)"
 }
+# A stored file is lost: the restore ends with 56, verify names it, and an older backup recovers to the same end.
+stored=$(cd $repo && find "backup/main/$second/pg_data/base" -type f -print -quit)
+mv "$repo/$stored" kept.file
+program --pg1-path="$room/srv/restore/main" restore >output 2>errors && complain 'a restore without a stored file'
+has 'ERROR: \[056\]'
+program verify >output 2>errors && complain 'verify without a stored file'
+has "^$stored: absent\$"
+as_user "$room/bin/pgbackrest" --stanza=main --pg1-path="$room/srv/restore/main" --delta --set="$first" restore >output 2>errors ||
+    program --pg1-path="$room/srv/restore/other" --set="$first" restore >output 2>errors || complain "an older backup: $(cat output errors)"
+mv kept.file "$repo/$stored"
+rm -r srv/restore
 typed 0 'Restore beside production' 1
 until_there 'f|200' 'select pg_is_in_recovery(), count(*) from orders'
+[ "$(on_copy 'show archive_mode')" = off ] || complain 'the copy archives'
 ask 'insert into orders values (201)' >/dev/null
 rows 201 'beside a copy'
 find data/main/pg_wal -name 'RECOVERY*' | grep . && complain "production's pg_wal was touched"
@@ -193,14 +221,26 @@ if command -v rsync >/dev/null; then
     program stanza-create >output 2>errors && complain 'a stanza over backups'
     has 'ERROR: \[029\]'
     typed 0 'Info files are lost or damaged (22, 24, 29, or 21 though the disk is mounted)' 1
+    # The disk of the repository is lost, and the copy comes back.
+    rm -r srv/pgbackrest/*
+    typed 0 "The repository's disk is lost" 1 's/200M/2M/'
+    typed 0 "The repository's disk is lost" 2
+    [ "$(program info | grep -c ' backup: ')" -gt 1 ] || complain "the copy's backups aren't there: $(program info)"
 fi
+# It is lost, and there is no copy.
+rm -r srv/pgbackrest/*
+program verify >output 2>errors && complain 'a repository on a new disk'
+has 'ERROR: \[021\]'
+typed 0 "The repository's disk is lost" 1 's/200M/2M/'
+typed 0 "The repository's disk is lost" 3
+switch
+program verify >output 2>errors || complain "the new repository: $(cat output)"
 full=$(last_label)
 rm $repo/archive/main/archive.info* $repo/backup/main/backup.info*
-typed 0 'All info files are lost, and there is no copy' 1
-typed 0 'All info files are lost, and there is no copy' 2 "s/LABEL/$full/"
-printf "archive_mode = off\nport = 5433\nunix_socket_directories = '%s'\nexternal_pid_file = ''\n" "$room/srv/restore" >>srv/restore/main/postgresql.auto.conf
-as_user "$tools/pg_ctl" -D "$room/srv/restore/main" -l "$room/srv/restore/log" -w \
-    -o "-c config_file=$room/etc/main/postgresql.conf -c data_directory=$room/srv/restore/main" start >/dev/null || complain "no server from a lost repository: $(tail -n 5 srv/restore/log)"
+typed 0 'Info files are lost or damaged, and there is no copy' 1
+typed 0 'Info files are lost or damaged, and there is no copy' 2 "s/LABEL/$full/"
+# (its last two lines: the settings of a copy, and the start)
+typed 0 'Restore beside production' 1 '1,2d'
 until_there 'f|200' 'select pg_is_in_recovery(), count(*) from orders'
 typed 0 'Restore beside production' 2
 
@@ -214,9 +254,9 @@ as_user "$tools/initdb" -D "$room/data17/main" -U postgres -A trust -E UTF8 --lo
     complain "pg_upgrade: $(tail -n 5 data17/output)"
 sed -i "s#$room/data/main#$room/data17/main#; s#^hba_file.*##; s#--stanza=main #--stanza=main17 #" etc/main/postgresql.conf
 chown --reference=data/main conf
-typed 0 'An upgrade of PostgreSQL' 2 "s#/var/lib/postgresql/17/#$room/data17/#"
+typed 0 'An upgrade of PostgreSQL' 2 "s#/var/lib/postgresql/17/#$room/data17/#; s/5433/5432/"
 rows 200 'after an upgrade'
-as_user "$room/bin/pgbackrest" --stanza=main17 info | grep -q 'full backup: ' || complain 'no backup after the upgrade'
+as_user "$room/bin/pgbackrest" --stanza=main17 info | grep 'full backup: ' >/dev/null || complain 'no backup after the upgrade'
 
 typed 0 'Remove a stanza' 1
 program info >output 2>errors && complain 'the removed stanza is there'

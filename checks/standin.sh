@@ -1,7 +1,7 @@
 #!/usr/bin/env bash
-# stanza-create beside the program that stands in for a server: two programs on one socket.
+# stanza-create with the program that stands in for a server: two programs on one socket.
 . "$(dirname "$0")/room"
-(cd "$top" && ./build pgb_standin)
+(cd "$top" && ./build test_standin)
 
 # Makes what the commands read of a data folder: the head of a control file with this first byte, and a version.
 make_data() {
@@ -10,13 +10,13 @@ make_data() {
     printf '16\n' >"$1/PG_VERSION"
 }
 
-# beside STATUS OUTPUT WORD..: stanza-create ends so, and the stand-in well, since its client ended the talk.
+# beside STATUS OUTPUT WORD..: stanza-create ends so, and the stand-in succeeds, since its client ended the talk.
 beside() {
     local status=0 wanted=$1 output=$2 other
     shift 2
     # It is empty before the stand-in runs, so nothing is read of the one before.
     : >ready
-    "$top/bin/pgb_standin" "$room/.s.PGSQL.5432" >ready &
+    "$top/bin/test_standin" "$room/.s.PGSQL.5432" >ready &
     other=$!
     for _ in $(seq 100); do
         if [ -s ready ]; then break; fi

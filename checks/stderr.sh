@@ -23,7 +23,7 @@ fails() {
 lock=(--lock-path="$room/lock")
 want 0 '' "${lock[@]}" --no-online stanza-create
 
-# A path that can't be: a file stands in it.
+# A path that can't be: a file is in it.
 printf 'a file\n' >file
 refused=("${lock[@]}" --no-online stanza-create)
 repository=$room/file/repo
@@ -47,18 +47,25 @@ fails 80 'ERROR: [080]: repository failed' "repository: opening of '$room/file/r
 want 6 "ERROR: [006]: option 'log-level-stderr' has no valid value
 " --log-level-stderr=loud "${refused[@]}"
 
-# tells_total WORD..: the command ends well, and at its end tells how many bytes were written.
+# tells_total WORD..: the command succeeds, reports how many bytes there are, which are `listed`, and at its end how many were written.
 tells_total() {
     program "$@" >output 2>errors || complain "$* ended with $?: $(cat output)"
     grep -q -x 'INFO: [0-9]* bytes written in [0-9]* s, [0-9]* MiB/s' errors || complain "$* told '$(cat errors)'"
+    listed=$(sed -n 's/^INFO: \([0-9]*\) bytes listed, [0-9]* MiB$/\1/p' errors)
 }
 
 repository=$room/repo
 tells_total --log-level-stderr=info "${lock[@]}" --no-online --type=full backup
-# A backup that takes ten seconds and more tells how far it is before.
+# A backup that takes ten seconds and more reports its progress before.
 told=$(tail -n 1 errors | sed 's/INFO: \([0-9]*\) .*/\1/')
 stored=$(find repo/backup/demo/*F -type f -exec cat {} + | wc -c)
 [ "$told" -ge $((stored / 2)) ] || complain "the backup told $told bytes, and stored $stored"
+there=$(find pg -type f -exec cat {} + | wc -c)
+[ -n "$listed" ] && [ "$listed" -ge "$there" ] || complain "the backup told a total of '$listed' bytes, and the cluster has $there"
 data=$room/new
 tells_total --log-level-stderr=info --type=none restore
+# What a restore is to write is told before it writes.
+there=$(find new -type f -exec cat {} + | wc -c)
+[ "$listed" = "$there" ] || complain "the restore told a total of '$listed' bytes, and $there are there"
+[ "$(head -n 1 errors)" = "INFO: $listed bytes listed, $((listed / 1048576)) MiB" ] || complain "the restore doesn't tell its total first: $(cat errors)"
 exit "$wrong"

@@ -59,7 +59,7 @@ unsynced() {
             change(outer(quoted[2])); change(outer(quoted[4]))
             if (quoted[4] == last) {
                 named++
-                # (its folder has just changed, and is synced behind this)
+                # (its folder has just changed, and is synced after this)
                 delete dirty[outer(last)]
                 tell("as " last " gets its name")
             }

@@ -1,5 +1,5 @@
 #!/usr/bin/env bash
-# verify of a repository with two backups of a stopped server and some of its log: nothing is told of it, and each kind of damage by just
+# verify of a repository with two backups of a stopped server and some of its log: nothing is reported of it, and each kind of damage by exactly
 # its lines. It changes nothing, and needs no data folder.
 . "$(dirname "$0")/common"
 
@@ -12,12 +12,12 @@ back_up() {
     label=$(sed -n 's/^INFO: new backup label = //p' output)
 }
 
-# The files of a folder, each behind its sum.
+# The files of a folder, each after its sum.
 list() {
     (cd "$1" && find . -type f -exec sha1sum {} + | LC_ALL=C sort)
 }
 
-# told LINE..: verify tells just these lines and their number, and changes nothing. Then the repository is made whole again.
+# told LINE..: verify reports exactly these lines and their number, and changes nothing. Then the repository is made whole again.
 told() {
     local lines=''
     for line in "$@"; do lines+="$line"$'\n'; done
@@ -28,7 +28,7 @@ told() {
     cp -a whole repo
 }
 
-# flip FILE: another byte stands at some place of the file.
+# flip FILE: another byte is at some place of the file.
 flip() {
     local at byte
     at=$(shuf -i "0-$(($(stat -c %s "$1") - 1))" -n 1)

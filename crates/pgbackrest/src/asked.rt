@@ -1,8 +1,9 @@
-// What the words and their configuration ask for, as far as a person is concerned. The command reads both by itself.
-use crate::reading::value_given;
-use pgb_adapters::RealSource;
-use pgb_options::{Command, ConfigPath, LogWord, config_path, settle_words};
-use pgb_outside::Source;
+// What the arguments and their configuration ask for, for the messages to a person. The command reads both by
+// itself.
+use crate::command_line::value_given;
+use adapters_files::RealInputFiles;
+use base_devices::InputFiles;
+use options_read::{Command, ConfigPath, LogWord, config_path, resolve_arguments};
 use std::alloc::{AllocError, Global};
 
 // A configuration has at most 1 MiB.
@@ -11,9 +12,9 @@ const CONFIG_LIMIT: usize = 1 << 20;
 /// What is asked for.
 #[derive(Drop)]
 pub struct Asked {
-    /// None where the words or the configuration are refused.
+    /// None where the arguments or the configuration are refused.
     pub command: Option<Command>,
-    /// What standard error has of the lines.
+    /// Which of the lines standard error has.
     pub level: LogWord,
     /// The configuration that is looked at.
     pub config: Option<Looked>,
@@ -26,19 +27,19 @@ pub struct Looked {
     pub is_there: bool,
 }
 
-/// What these words ask for.
-pub fn read_asked(rt: HostRuntime, words: &[String]) -> Result<Asked, AllocError> {
+/// What these arguments ask for.
+pub fn read_asked(rt: HostRuntime, arguments: &[String]) -> Result<Asked, AllocError> {
     let alloc = rt.alloc();
     let mut bytes = Vec::new(alloc);
     let mut config = None;
-    if let Ok(ConfigPath::Usual(path) | ConfigPath::Named(path)) = config_path(alloc, words) {
+    if let Ok(ConfigPath::Usual(path) | ConfigPath::Named(path)) = config_path(alloc, arguments) {
         let is_there = read(rt, &path, &mut bytes);
         config = Some(Looked { path, is_there });
     }
-    let command = settle(alloc, words, &bytes);
+    let command = resolve(alloc, arguments, &bytes);
     let level = match &command {
         Some(command) => command.options.log_level_stderr,
-        None => level_for_all(alloc, words, &bytes)?,
+        None => level_for_all(alloc, arguments, &bytes)?,
     };
     Ok(Asked {
         command,
@@ -47,17 +48,17 @@ pub fn read_asked(rt: HostRuntime, words: &[String]) -> Result<Asked, AllocError
     })
 }
 
-fn settle(alloc: Global, words: &[String], config: &[u8]) -> Option<Command> {
+fn resolve(alloc: Global, arguments: &[String], config: &[u8]) -> Option<Command> {
     if config.len() > CONFIG_LIMIT {
         return None;
     }
-    settle_words(alloc, words, config).ok()
+    resolve_arguments(alloc, arguments, config).ok()
 }
 
-// Adds the bytes of a configuration, of one that is too long not all, and answers whether it is there. One that can't
+// Adds the bytes of a configuration, of one that is too long not all, and returns whether it is there. One that can't
 // be read has none.
 fn read(rt: HostRuntime, path: &str, bytes: &mut Vec<u8>) -> bool {
-    let mut source = RealSource::new(rt);
+    let mut source = RealInputFiles::new(rt);
     match source.open(path) {
         Ok(true) => {}
         Ok(false) => return false,
@@ -76,27 +77,31 @@ fn read(rt: HostRuntime, path: &str, bytes: &mut Vec<u8>) -> bool {
     true
 }
 
-// What standard error has where the command is refused: what is asked for whichever command it is, or else by the words
-// alone.
-fn level_for_all(alloc: Global, words: &[String], config: &[u8]) -> Result<LogWord, AllocError> {
-    let stanza = value_given(words, "stanza").unwrap_or("any");
-    let level = value_given(words, "log-level-stderr");
-    if let Some(command) = settle(alloc, &plain(alloc, stanza, level)?, config) {
+// What standard error gets where the command is refused: what is asked for whichever command it is, or else by the
+// arguments alone.
+fn level_for_all(
+    alloc: Global,
+    arguments: &[String],
+    config: &[u8],
+) -> Result<LogWord, AllocError> {
+    let stanza = value_given(arguments, "stanza").unwrap_or("any");
+    let level = value_given(arguments, "log-level-stderr");
+    if let Some(command) = resolve(alloc, &plain(alloc, stanza, level)?, config) {
         return Ok(command.options.log_level_stderr);
     }
-    match settle(alloc, &plain(alloc, "any", level)?, &[]) {
+    match resolve(alloc, &plain(alloc, "any", level)?, &[]) {
         Some(command) => Ok(command.options.log_level_stderr),
         None => Ok(LogWord::Nothing),
     }
 }
 
-// The words of a command that needs nothing but a stanza.
+// The arguments of a command that needs nothing but a stanza.
 fn plain(alloc: Global, stanza: &str, level: Option<&str>) -> Result<Vec<String>, AllocError> {
-    let mut words = Vec::new(alloc);
-    words.push(String::from_str(alloc, "info")?)?;
-    words.push(format!(in alloc; "--stanza={stanza}")?)?;
+    let mut arguments = Vec::new(alloc);
+    arguments.push(String::from_str(alloc, "info")?)?;
+    arguments.push(format!(in alloc; "--stanza={stanza}")?)?;
     if let Some(level) = level {
-        words.push(format!(in alloc; "--log-level-stderr={level}")?)?;
+        arguments.push(format!(in alloc; "--log-level-stderr={level}")?)?;
     }
-    Ok(words)
+    Ok(arguments)
 }

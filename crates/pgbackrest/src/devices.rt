@@ -2,12 +2,12 @@
 ghost use Rattle.std.specs.Prelude.{◌≡◌, [], IfOk};
 
 use crate::guards::data_folder;
-use crate::telling::Telling;
-use pgb_adapters::{RealClock, RealDisk, RealLocks, RealSink, RealTree, RealWire};
-use pgb_options::Command;
-use pgb_others::Others;
-use pgb_outside::{Locks, Sink, Stop};
-use pgb_table::Verb;
+use crate::messages::Telling;
+use adapters_files::{RealClock, RealConnection, RealDataFolder, RealDisk, RealLocks, RealOutput};
+use adapters_process::Others;
+use base_devices::{DeviceError, Locks, OutputStream};
+use options_read::Command;
+use options_table::Verb;
 use std::os::unix::fs::MetadataExt;
 use std::{fs, io};
 
@@ -15,32 +15,32 @@ use std::{fs, io};
 #[derive(Drop)]
 pub struct Devices {
     pub repo: RealDisk,
-    pub tree: RealTree,
-    pub server: RealWire,
-    pub aside: Others,
+    pub tree: RealDataFolder,
+    pub server: RealConnection,
+    pub processes: Others,
     pub clock: RealClock,
     pub locks: RealLocks,
-    pub out: RealSink,
+    pub out: RealOutput,
     /// How long a worker is waited for, in seconds: 0 is for ever.
     pub worker_timeout: u64,
 }
 
 /// The objects of a command, whose background processes run this program.
-pub fn make_devices(rt: HostRuntime, program: String, telling: &Telling) -> io::Result<Devices>
+pub fn make_devices(rt: HostRuntime, program: String, messages: &Telling) -> io::Result<Devices>
     ensures { IfOk result (λ d. (⟦<RealLocks as Locks>⟧.state d.locks).taken ≡ []) }
 {
     let mut devices = Devices {
         repo: RealDisk::new(rt),
-        tree: RealTree::new(rt),
-        server: RealWire::new(rt),
-        aside: Others::new(rt, program),
+        tree: RealDataFolder::new(rt),
+        server: RealConnection::new(rt),
+        processes: Others::new(rt, program),
         clock: RealClock::new(rt),
-        locks: locks(rt, telling.command())?,
-        out: telling.output(),
+        locks: locks(rt, messages.command())?,
+        out: messages.output(),
         worker_timeout: 0,
     };
-    devices.show(telling.progress());
-    if let Some(command) = telling.command() {
+    devices.show(messages.progress());
+    if let Some(command) = messages.command() {
         devices.prepare(rt, command)?;
     }
     Ok(devices)
@@ -58,7 +58,7 @@ fn locks(rt: HostRuntime, command: Option<&Command>) -> io::Result<RealLocks>
 }
 
 impl Devices {
-    // What a person is to see meanwhile.
+    // What is to be shown meanwhile.
     fn show(&mut self, progress: Option<Verb>)
         ensures { self.new.locks ≡ self.old.locks }
     {
@@ -67,9 +67,12 @@ impl Devices {
                 self.repo.tell_progress();
                 self.tree.show_total();
                 self.server.show_waiting();
-                self.aside.show_waiting("the server's archive_command");
+                self.processes.show_waiting("the server's archive_command");
             }
-            Some(Verb::Restore) => self.tree.tell_progress(),
+            Some(Verb::Restore) => {
+                self.repo.show_total();
+                self.tree.tell_progress();
+            }
             _ => {}
         }
     }
@@ -105,7 +108,7 @@ impl Devices {
         Ok(())
     }
 
-    // What a command's locks keep others from.
+    // What a command's locks protect from others.
     fn own(&mut self, verb: Verb)
         ensures { self.new.locks ≡ self.old.locks }
     {
@@ -122,7 +125,7 @@ impl Devices {
 }
 
 /// Writes a line to the output.
-pub fn put_line(out: &mut RealSink, line: &str) -> Result<(), Stop> {
+pub fn put_line(out: &mut RealOutput, line: &str) -> Result<(), DeviceError> {
     let mut rest = line.as_bytes();
     for _ in 0..line.len() {
         if !rest.is_empty() {

@@ -1,7 +1,7 @@
 // What is refused before anything is touched: the folder of another cluster, and root over the files of another user.
 // And how a recovery is stopped that must not end.
-use pgb_options::Command;
-use pgb_table::Verb;
+use options_read::Command;
+use options_table::Verb;
 use std::alloc::{AllocError, Global};
 use std::fs;
 use std::fs::Metadata;
@@ -16,31 +16,31 @@ const ROOT: u32 = 0;
 // With a status above 125 a server ends its recovery as failed. It takes any other one as the end of the archive.
 const STOPPED: u8 = 126;
 
-/// Whether a word is that of the command by which a server recovers, however it is refused.
-pub fn is_fetch(words: &[String]) -> bool {
-    words.iter().any(|word| word.as_str() == "archive-get")
+/// Whether an argument is that of the command by which a server recovers, however it is refused.
+pub fn is_fetch(arguments: &[String]) -> bool {
+    arguments.iter().any(|word| word.as_str() == "archive-get")
 }
 
-/// Whether a word is that of a command that a push or a fetch starts beside itself.
-pub fn is_beside(words: &[String]) -> bool {
-    words.iter().any(|word| matches!(word.as_str(), "archive-push:async" | "archive-get:async"))
+/// Whether an argument is that of a command that a push or a fetch starts in the background.
+pub fn is_beside(arguments: &[String]) -> bool {
+    arguments.iter().any(|word| matches!(word.as_str(), "archive-push:async" | "archive-get:async"))
 }
 
-/// Whether a word is that of a command that a server calls, or that works for one in the background. Its status alone
-/// counts there, whatever becomes of its lines.
-pub fn is_for_server(words: &[String]) -> bool {
-    words.iter().any(|word| matches!(
+/// Whether an argument is that of a command that a server calls, or that works for one in the background. Its status
+/// alone counts there, whatever happens to its lines.
+pub fn is_for_server(arguments: &[String]) -> bool {
+    arguments.iter().any(|word| matches!(
         word.as_str(),
         "archive-push" | "archive-push:async" | "archive-get"
     ))
 }
 
-/// Whether the working folder is that of a server in a recovery, behind which it goes live. A standby asks again.
+/// Whether the working folder is that of a server in a recovery, after which it goes live. A standby asks again.
 pub fn is_in_recovery(rt: &HostRuntime) -> bool {
     is_in_cluster(rt) && is_there(rt, "recovery.signal") && !is_there(rt, "standby.signal")
 }
 
-/// What the system is told where a server in a recovery has called: it stops it, unless the file was served or the
+/// The status for the system where a server in a recovery has called: it stops it, unless the file was served or the
 /// archive is known to end.
 pub fn stop_recovery(rt: &HostRuntime, status: u8) -> u8 {
     if status <= 1 {
@@ -113,7 +113,7 @@ fn is_working_folder(rt: &HostRuntime, path: &str) -> bool {
 }
 
 // The folders in which the command leaves files: where one is another user's, he could not read what root leaves. The
-// top of a file system may be root's while what stands in it isn't.
+// top of a file system may be root's while what is in it isn't.
 fn folders_of(alloc: Global, command: &Command) -> Result<Vec<String>, AllocError> {
     let mut folders = Vec::new(alloc);
     if writes_repository(command.verb) {

@@ -1,7 +1,7 @@
 // What `--help` and `--version` print.
+use crate::command_line::{Reader, Word};
 use crate::meanings::meaning_of;
-use crate::reading::{Reader, Word};
-use pgb_table::{Fallback, Kind, Opt, Row, TABLE, VERBS, Verb, row_for, verb_word};
+use options_table::{Fallback, Opt, OptionKind, Row, TABLE, VERBS, Verb, row_for, verb_word};
 use std::alloc::{AllocError, Global};
 
 const VERSION: &str = "pgbackrest 0.1, repository format 5\n";
@@ -16,17 +16,17 @@ command line comes first, then these sections in this order.
 
 const WITHOUT_EFFECT: &str = "\nAccepted and ignored:";
 
-/// The text that the words ask for: the help of all or of a command, or the version.
+/// The text that the arguments ask for: the help of all or of a command, or the version.
 ///
-/// `--help` and `--version` may stand anywhere but in the place of an option's value, and `help` and `version` in that
-/// of the command. Where a server names a file of its log, no text is in place of storing or fetching it: the words are
-/// refused then as others are.
-pub fn asked_for(alloc: Global, words: &[String]) -> Result<Option<String>, AllocError> {
+/// `--help` and `--version` may be anywhere but in the place of an option's value, and `help` and `version` in that
+/// of the command. Where a server names a file of its log, no text is in place of storing or fetching it: the arguments
+/// are refused then as others are.
+pub fn asked_for(alloc: Global, arguments: &[String]) -> Result<Option<String>, AllocError> {
     let mut wish = None;
     let mut verb = None;
     let mut has_parameter = false;
     let mut reader = Reader::new();
-    for word in words {
+    for word in arguments {
         match reader.read(word.as_str()) {
             Word::Dashed("--help" | "-h") => wish = Some(Wish::Help),
             Word::Dashed("--version") => wish = wish.or(Some(Wish::Version)),
@@ -63,7 +63,7 @@ enum Wish {
     Version,
 }
 
-// The help of the command that the word names, or that of all where it names none.
+// The help of the command that the argument names, or that of all where it names none.
 fn help_on(alloc: Global, word: &str) -> Result<String, AllocError> {
     for verb in VERBS {
         if verb_word(verb) == word {
@@ -140,7 +140,7 @@ fn purpose_of(verb: Verb) -> &'static str {
 fn has_effect(option: Opt) -> bool {
     match option {
         Opt::LogTimestamp | Opt::ArchiveModeCheck => false,
-        _ => !matches!(row_for(option).kind, Kind::Anything),
+        _ => !matches!(row_for(option).kind, OptionKind::Anything),
     }
 }
 
@@ -167,20 +167,20 @@ fn add_option(alloc: Global, text: &mut String, row: Row) -> Result<(), AllocErr
     text.push_str("\n")
 }
 
-fn values_of(alloc: Global, kind: Kind) -> Result<String, AllocError> {
+fn values_of(alloc: Global, kind: OptionKind) -> Result<String, AllocError> {
     match kind {
-        Kind::Stanza => String::from_str(alloc, "1 to 64 letters, digits, _ or -"),
-        Kind::Path | Kind::File => String::from_str(alloc, "path"),
-        Kind::Text => String::from_str(alloc, "text"),
-        Kind::Anything => String::from_str(alloc, "any"),
-        Kind::Number { least, most } => format!(in alloc; "{least} to {most}"),
-        Kind::Size { least, most } => format!(in alloc;
+        OptionKind::Stanza => String::from_str(alloc, "1 to 64 letters, digits, _ or -"),
+        OptionKind::Path | OptionKind::File => String::from_str(alloc, "path"),
+        OptionKind::Text => String::from_str(alloc, "text"),
+        OptionKind::Anything => String::from_str(alloc, "any"),
+        OptionKind::Number { least, most } => format!(in alloc; "{least} to {most}"),
+        OptionKind::Size { least, most } => format!(in alloc;
             "{least} to {most} bytes, or with K, M or G"
         ),
-        Kind::Time { least, most } => format!(in alloc;
+        OptionKind::Time { least, most } => format!(in alloc;
             "{least} to {most} seconds, or with m, h or d"
         ),
-        Kind::Flag => String::from_str(alloc, "y or n"),
-        Kind::Words(words) => words.join(alloc, " or "),
+        OptionKind::Flag => String::from_str(alloc, "y or n"),
+        OptionKind::Words(arguments) => arguments.join(alloc, " or "),
     }
 }

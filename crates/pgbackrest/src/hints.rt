@@ -40,7 +40,8 @@ const HINTS: &[(&str, &str, &str)] = &[
     (
         "020",
         "",
-        "wait: a server pushes again by itself. If it stays, look for the process that has the file open",
+        "wait: a server pushes again by itself. If it stays, look for the process that has the lock's file or \
+         the stanza's folder open: see RUNBOOK",
     ),
     (
         "021",
@@ -163,13 +164,17 @@ const HINTS: &[(&str, &str, &str)] = &[
         "",
         "see the system's log, as for a lack of memory; try a smaller --process-max",
     ),
-    ("056", "", "see who may read the file, and its disk"),
+    (
+        "056",
+        "",
+        "see who may read the file, and its disk; in a restore run verify, which names the stored file",
+    ),
     ("060", "", "see info, --stanza and repo1-path"),
     ("061", "", "info lists the labels"),
     (
         "062",
         "",
-        "move what is there away, or give --delta where a PG_VERSION is there",
+        "move what is there away; or save pg_wal first, then give --delta where a PG_VERSION is there",
     ),
     (
         "063",

@@ -1,6 +1,6 @@
 // The lines of a command, by how much of them a person wants to see, each error with what explains it.
 use crate::hints::hint_for;
-use pgb_options::LogWord;
+use options_read::LogWord;
 use std::alloc::{AllocError, Global};
 
 /// What kind of line it is.
@@ -32,7 +32,7 @@ impl Level {
     }
 }
 
-/// A line's kind, and its text behind the word. A line of a report has no word.
+/// A line's kind, and its text after the word. A line of a report has no word.
 pub fn level_of(line: &str) -> (Level, &str) {
     for level in [Level::Error, Level::Warn, Level::Info] {
         if let Some(rest) = line.strip_prefix(level.word()) {
@@ -49,11 +49,11 @@ pub fn level_of(line: &str) -> (Level, &str) {
 pub struct Line {
     pub level: Level,
     pub text: String,
-    /// Whether it explains an error, and stands in no output.
+    /// Whether it explains an error, and is in no output.
     pub explains: bool,
 }
 
-/// The lines of an output. After an error come the reasons, and what to do. Without an error's line the reasons stand
+/// The lines of an output. After an error come the reasons, and what to do. Without an error's line the reasons are
 /// alone.
 pub fn lines_of(
     alloc: Global,

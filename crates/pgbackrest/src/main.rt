@@ -4,32 +4,32 @@
 ghost use Rattle.std.specs.Prelude.{◌≤◌, length, IfOk};
 
 mod asked;
+mod command_line;
 mod devices;
 mod guards;
 mod help;
 mod hints;
 mod levels;
-mod logging;
+mod log_output;
 mod meanings;
+mod messages;
 mod paths;
-mod reading;
 mod streams;
-mod telling;
 
+use adapters_files::{RealDisk, RealFiles, RealInput, RealInputFiles, RealReplies};
+use adapters_process::{RealLink, RoundRobin, end_workers};
 use asked::read_asked;
 use devices::{make_devices, put_line};
 use guards::{Refusal, is_beside, is_fetch, is_in_recovery, is_root, refusal_of, stop_recovery};
 use help::asked_for;
+use messages::{Telling, end_progress, failure_of};
 use paths::absolute;
-use pgb_adapters::{RealDisk, RealFiles, RealInput, RealReplies, RealSource};
-use pgb_command::Outside;
-use pgb_system::{RealLink, RoundRobin};
-use pgb_worker::serve;
+use program_run::Outside;
 use std::io::ErrorKind;
 use std::process::ExitCode;
 use std::{env, fs, io};
 use streams::{has_no_streams, open_streams};
-use telling::{Telling, end_progress, failure_of};
+use worker_process::serve;
 
 const NOT_UTF8: u8 = 13;
 
@@ -37,10 +37,10 @@ const NO_OUTPUT: u8 = 87;
 
 const NO_MEMORY: u8 = 90;
 
-// By which the program is a worker.
+// The argument that makes the program a worker.
 const LOCAL: &'static str = "local";
 
-// A command uses at most so many workers: a rehearsal four times as many as another.
+// A command uses at most this many workers: a rehearsal four times as many as another.
 const WORKERS: usize = 256;
 
 fn main(rt: HostRuntime) -> ExitCode {
@@ -50,22 +50,24 @@ fn main(rt: HostRuntime) -> ExitCode {
     ExitCode::from(status)
 }
 
-// Does what the arguments ask for, and answers what the system is told. A server that is the first process of its
-// container adopts what was started beside a push or a fetch, and takes any end but 0 and 1 for a crash of its own.
+// Does what the arguments ask for, and returns the status for the system. A server that is the first process of its
+// container adopts what was started besides a push or a fetch, and takes any end but 0 and 1 for a crash of its own.
 fn answer(rt: HostRuntime) -> u8 {
-    match words(&rt) {
-        Ok(words) if is_worker(&words) => work(rt),
-        Ok(words) if is_beside(&words) && has_no_streams(&rt) => answer_to(rt, &words).min(1),
-        Ok(words) if is_fetch(&words) && is_in_recovery(&rt) => {
-            stop_recovery(&rt, status_of(rt, &words).unwrap_or(NO_MEMORY))
+    match arguments(&rt) {
+        Ok(arguments) if is_worker(&arguments) => work(rt),
+        Ok(arguments) if is_beside(&arguments) && has_no_streams(&rt) => answer_to(
+            rt, &arguments,
+        ).min(1),
+        Ok(arguments) if is_fetch(&arguments) && is_in_recovery(&rt) => {
+            stop_recovery(&rt, status_of(rt, &arguments).unwrap_or(NO_MEMORY))
         }
-        Ok(words) => answer_to(rt, &words),
-        Err(e) => refuse_words(rt, &e),
+        Ok(arguments) => answer_to(rt, &arguments),
+        Err(e) => refuse_arguments(rt, &e),
     }
 }
 
-// (a word that can't be read may be that of a fetch)
-fn refuse_words(rt: HostRuntime, error: &io::Error) -> u8 {
+// (an argument that can't be read may be that of a fetch)
+fn refuse_arguments(rt: HostRuntime, error: &io::Error) -> u8 {
     let status = if error.kind() == ErrorKind::OutOfMemory {
         NO_MEMORY
     } else {
@@ -78,16 +80,16 @@ fn refuse_words(rt: HostRuntime, error: &io::Error) -> u8 {
     }
 }
 
-fn answer_to(rt: HostRuntime, words: &[String]) -> u8 {
-    match asked_for(rt.alloc(), words) {
+fn answer_to(rt: HostRuntime, arguments: &[String]) -> u8 {
+    match asked_for(rt.alloc(), arguments) {
         Ok(Some(text)) => show(rt, &text),
-        Ok(None) => status_of(rt, words).unwrap_or(NO_MEMORY),
+        Ok(None) => status_of(rt, arguments).unwrap_or(NO_MEMORY),
         Err(_) => NO_MEMORY,
     }
 }
 
-fn is_worker(words: &[String]) -> bool {
-    words.first().is_some_and(|word| word.as_str() == LOCAL)
+fn is_worker(arguments: &[String]) -> bool {
+    arguments.first().is_some_and(|word| word.as_str() == LOCAL)
 }
 
 // Serves the parent that started it, over standard input and output.
@@ -110,12 +112,12 @@ fn show(rt: HostRuntime, text: &str) -> u8 {
 }
 
 // The arguments after the program's own name. They fail as a whole where one isn't UTF-8.
-fn words(rt: &HostRuntime) -> io::Result<Vec<String>> {
-    let mut words = Vec::new(rt.alloc());
+fn arguments(rt: &HostRuntime) -> io::Result<Vec<String>> {
+    let mut arguments = Vec::new(rt.alloc());
     for word in env::args(rt)?.skip(1) {
-        words.push(word).map_err(|_| ErrorKind::OutOfMemory)?;
+        arguments.push(word).map_err(|_| ErrorKind::OutOfMemory)?;
     }
-    absolute(rt, words)
+    absolute(rt, arguments)
 }
 
 // The program's own file, whatever the path has where another process starts it: argument 0 where that isn't known, or
@@ -133,8 +135,8 @@ fn program(rt: &HostRuntime) -> io::Result<String> {
 // A worker: this program, started as it is sent its first frame.
 fn worker(rt: HostRuntime, program: &str, timeout: u64) -> io::Result<RealLink> {
     let alloc = rt.alloc();
-    let words = vec![in alloc; String::from_str(alloc, LOCAL)?]?;
-    let mut link = RealLink::new(rt, String::from_str(alloc, program)?, words);
+    let arguments = vec![in alloc; String::from_str(alloc, LOCAL)?]?;
+    let mut link = RealLink::new(rt, String::from_str(alloc, program)?, arguments);
     link.set_timeout(timeout);
     Ok(link)
 }
@@ -152,57 +154,58 @@ fn workers(rt: HostRuntime, program: &str, timeout: u64) -> io::Result<Vec<RealL
     Ok(links)
 }
 
-fn status_of(rt: HostRuntime, words: &[String]) -> io::Result<u8> {
-    let asked = read_asked(rt, words)?;
+fn status_of(rt: HostRuntime, arguments: &[String]) -> io::Result<u8> {
+    let asked = read_asked(rt, arguments)?;
     let refused = match &asked.command {
         Some(command) => refusal_of(&rt, command)?,
         None => None,
     };
-    let mut telling = Telling::new(rt, asked, words);
+    let mut messages = Telling::new(rt, asked, arguments);
     // (what root leaves where a command is refused could be in the way of the right user)
     if refused.is_none() || !is_root() {
-        telling.open_log(words)?;
+        messages.open_log(arguments)?;
     }
     match refused {
-        Some(refusal) => Ok(refuse(telling, &refusal)),
-        None => perform(rt, telling, words),
+        Some(refusal) => Ok(refuse(messages, &refusal)),
+        None => perform(rt, messages, arguments),
     }
 }
 
 // Says why the command is refused before anything is touched.
-fn refuse(mut telling: Telling, refusal: &Refusal) -> u8 {
-    let mut out = telling.output();
+fn refuse(mut messages: Telling, refusal: &Refusal) -> u8 {
+    let mut out = messages.output();
     let status = match put_line(&mut out, &refusal.line) {
         Ok(()) => refusal.status,
         Err(_) => NO_OUTPUT,
     };
     // (a person who sees less changes nothing)
-    let _ = telling.end(&out, None, status);
+    let _ = messages.end(&out, None, status);
     status
 }
 
-fn perform(rt: HostRuntime, mut telling: Telling, words: &[String]) -> io::Result<u8> {
+fn perform(rt: HostRuntime, mut messages: Telling, arguments: &[String]) -> io::Result<u8> {
     let alloc = rt.alloc();
     let program = program(&rt)?;
-    let devices = make_devices(rt, program.clone()?, &telling)?;
+    let devices = make_devices(rt, program.clone()?, &messages)?;
     let links = workers(rt, &program, devices.worker_timeout)?;
     let mut outside = Outside {
         repo: devices.repo,
         spool: RealDisk::new(rt),
         tree: devices.tree,
         server: devices.server,
-        aside: devices.aside,
+        processes: devices.processes,
         clock: devices.clock,
         locks: devices.locks,
-        config: RealSource::new(rt),
+        config: RealInputFiles::new(rt),
         out: devices.out,
         links,
         turns: RoundRobin::new(),
     };
-    let status = outside.run(alloc, words);
+    let status = outside.run(alloc, arguments);
     if status == 0 {
-        end_progress(&outside, telling.progress());
+        end_progress(&outside, messages.progress());
     }
-    let _ = telling.end(&outside.out, failure_of(&outside, status), status);
+    let _ = messages.end(&outside.out, failure_of(&outside, status), status);
+    end_workers(&rt, &mut outside.links);
     Ok(status)
 }

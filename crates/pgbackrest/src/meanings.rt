@@ -1,5 +1,5 @@
 // What each option is for (pgBackRest configuration reference).
-use pgb_table::Opt;
+use options_table::Opt;
 
 /// A few words on the option, for the help of a command.
 pub fn meaning_of(option: Opt) -> &'static str {

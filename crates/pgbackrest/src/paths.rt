@@ -1,6 +1,6 @@
 // The paths of the command line, as a process finds them that has another working folder: the server, whose
 // `restore_command` a restore writes, and what runs in the background.
-use crate::reading::{Reader, Word};
+use crate::command_line::{Reader, Word};
 use std::io::ErrorKind;
 use std::{env, io};
 
@@ -13,18 +13,18 @@ const PATHS: [&str; 6] = [
     "log-path",
 ];
 
-/// The words, with each relative path of an option behind the working folder. They stay as they are where that has no
+/// The arguments, with each relative path of an option after the working folder. They stay unchanged where that has no
 /// name.
-pub fn absolute(rt: &HostRuntime, words: Vec<String>) -> io::Result<Vec<String>> {
+pub fn absolute(rt: &HostRuntime, arguments: Vec<String>) -> io::Result<Vec<String>> {
     let folder = match env::current_dir(rt) {
         Ok(folder) => folder,
         Err(e) if e.kind() == ErrorKind::OutOfMemory => return Err(e),
-        Err(_) => return Ok(words),
+        Err(_) => return Ok(arguments),
     };
     let folder = folder.as_path().as_str();
     let mut reader = Reader::new();
     let mut found = Vec::new(rt.alloc());
-    for word in &words {
+    for word in &arguments {
         let word = word.as_str();
         let text = match reader.read(word) {
             Word::Given(name, value) if is_relative(name, value) => {

@@ -24,8 +24,8 @@ pub fn open_streams(rt: &HostRuntime) -> Vec<File> {
     streams
 }
 
-/// Whether each standard stream is /dev/null, as this program starts what works beside it. Who calls that by hand sees
-/// its lines.
+/// Whether each standard stream is /dev/null, as this program starts what works in the background. A person who calls
+/// that by hand sees its lines.
 pub fn has_no_streams(rt: &HostRuntime) -> bool {
     STREAMS.iter().all(|stream| is_null(rt, *stream))
 }

@@ -1,0 +1,73 @@
+// Waiting for a worker's pipe, with a time limit.
+use libc::net::{POLLIN, POLLOUT, poll};
+use libc::types::pollfd;
+use std::io::ErrorKind;
+use std::{fs, io};
+
+/// What a pipe is to be ready for.
+#[derive(Clone, Copy)]
+pub(crate) enum Ready {
+    ToRead,
+    ToWrite,
+}
+
+// The system is asked to wait for this many milliseconds at once.
+const AT_ONCE: u64 = 1000;
+
+// Waits until a pipe is ready, or has no other end any more, for at most this many milliseconds, and returns whether.
+fn is_ready_within(pipe: i32, ready: Ready, longest: u64) -> bool {
+    let events = match ready {
+        Ready::ToRead => POLLIN,
+        Ready::ToWrite => POLLOUT,
+    };
+    for _ in 0..longest.div_ceil(AT_ONCE) {
+        let mut asked = [pollfd {
+            fd: pipe,
+            events,
+            revents: 0,
+        }];
+        // a signal ends it early, too
+        if poll(&mut asked, longest.min(AT_ONCE) as i32) > 0 {
+            return true;
+        }
+    }
+    false
+}
+
+// What the system counted so far of what a process read and wrote: None where it can't be asked.
+fn work_of(rt: &HostRuntime, process: u32) -> Option<String> {
+    let path = format!(in rt.alloc(); "/proc/{process}/io").ok()?;
+    fs::read_to_string(rt, path.as_str()).ok()
+}
+
+fn is_idle(before: &Option<String>, now: &Option<String>) -> bool {
+    match (before, now) {
+        (_, None) => true,
+        (Some(before), Some(now)) => before.as_str() == now.as_str(),
+        (None, Some(_)) => false,
+    }
+}
+
+/// Waits until a pipe of a worker is ready. One that is silent for this many milliseconds may be summing a large file:
+/// it is waited for as long as it reads, which is looked at each time that they are over.
+pub(crate) fn wait_for(
+    rt: &HostRuntime,
+    worker: u32,
+    pipe: i32,
+    ready: Ready,
+    longest: u64,
+) -> io::Result<()> {
+    let mut before = None;
+    for _ in 0..u64::MAX {
+        if is_ready_within(pipe, ready, longest) {
+            return Ok(());
+        }
+        let now = work_of(rt, worker);
+        if is_idle(&before, &now) {
+            break;
+        }
+        before = now;
+    }
+    let text = "it says and reads nothing for too long";
+    Err(io::Error::new(ErrorKind::TimedOut, text))
+}

@@ -1,0 +1,8 @@
+pub mod Stored
+pub mod Causes
+pub mod Fault
+pub mod Paths
+pub mod Listing
+pub mod Looks
+pub mod Ends
+pub mod Turns

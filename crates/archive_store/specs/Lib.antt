@@ -1,0 +1,5 @@
+pub mod Fault
+pub mod Still
+pub mod ByteSource
+pub mod Pushes
+pub mod Pushing

@@ -1,0 +1,9 @@
+pub mod JobItems
+pub mod Room
+pub mod Calls
+pub mod Fresh
+pub mod Synced
+pub mod Ways
+pub mod Made
+pub mod Places
+pub mod Filed

@@ -1,0 +1,15 @@
+pub mod Values
+pub mod Prior
+pub mod Based
+pub mod Reading
+pub mod Folders
+pub mod Begun
+pub mod Unlisted
+pub mod Listed
+pub mod Made
+pub mod Following
+pub mod Waited
+pub mod Running
+pub mod Full
+pub mod Added
+pub mod Again

@@ -1,0 +1,51 @@
+use Rattle.std.proofs.Common.{List, None, map, subst}
+use Rattle.std.specs.Prelude.{IfSome}
+use Rattle.std.proofs.lemmas.Result.{err_from_is_err_and, on_ok_weaker}
+use Rattle.base_devices.specs.Links.{LinkState}
+use Rattle.backup_files.specs.declared.keeper.EndedItem.{EndedItem}
+use Rattle.repo_stanza.specs.Pairs.{AgreeAt}
+use Rattle.base_traces.specs.Beside.{StaysBeside}
+use Rattle.base_traces.proofs.Stays.{beside_on}
+use Rattle.backup_make.specs.declared.draft.Draft.{Draft}
+use Rattle.backup_make.specs.Draft.{stanza_of, main_of}
+use Rattle.backup_make.specs.Made.{OutcomeOf}
+use Rattle.backup_make.specs.Staged.{IsStaged}
+use Rattle.backup_make.proofs.After.{outcome_after}
+use Rattle.backup_make.proofs.Labels.{apart}
+use Rattle.backup_make.proofs.Outcomes.{nothing_listed}
+use Rattle.backup_make.proofs.Parts.{draft_is, published}
+use Rattle.backup_make.proofs.backup_run.make.Goals as goal
+
+pub returns-in_err-fetched-clause-made : goal.returns-in_err-fetched-clause-made
+returns-in_err-fetched-clause-made g c =
+    let p = err_from_is_err_and c.from_residual.result c.from_residual.ensures.1 in
+    nothing_listed c.args.draft None (map g.L.Link.link_state c.args.links.now.items) _ _ c.from_residual.result p.0 p.1 c.fetch.ensures.unlisted
+
+pub returns-in_err-closed-clause-made : goal.returns-in_err-closed-clause-made
+returns-in_err-closed-clause-made g c =
+    let p = err_from_is_err_and c.from_residual-in_err-closed.result c.from_residual-in_err-closed.ensures.1 in
+    nothing_listed c.args.draft None (map g.L.Link.link_state c.args.links.now.items) _ _ c.from_residual-in_err-closed.result p.0 p.1 c.fetch.ensures.unlisted
+
+pub returns-clause-made : goal.returns-clause-made
+returns-clause-made g c =
+    let draft = c.args.draft in
+    let links = map g.L.Link.link_state c.args.links.now.items in
+    let b = (g.D.Disk.state c.fetch.new.d).view in
+    let d = (g.D.Disk.state c.publish.new.d).view in
+    let fetched = c.in_ok-fetched.fetched in
+    let made = published draft fetched None c.in_ok-closed.closed c.in_ok-fetched.ensures.of c.in_ok-closed.ensures.of
+    (λ (x : Draft) (o : _) (ends : List (List EndedItem)). (links : List LinkState) → IsStaged x o links ends b → OutcomeOf c.publish.result x o links b d) c.publish.ensures.made in
+    outcome_after draft (apart draft c.requires.draft) (g.D.Disk.state c.args.d.now).view b d c.fetch.ensures.unlisted c.publish.result None links (made links c.in_ok-fetched.ensures.staged)
+
+pub returns-clause-beside : goal.returns-clause-beside
+returns-clause-beside g c =
+    let draft = c.args.draft in
+    beside_on (stanza_of draft) _ _ _ c.fetch.ensures.beside
+    (subst (λ (x : Draft). StaysBeside (stanza_of x) (g.D.Disk.state c.fetch.new.d).view (g.D.Disk.state c.publish.new.d).view)
+    (draft_is draft c.in_ok-fetched.fetched None c.in_ok-closed.closed c.in_ok-fetched.ensures.of c.in_ok-closed.ensures.of) c.publish.ensures.beside)
+
+pub returns-clause-alike : goal.returns-clause-alike
+returns-clause-alike g c =
+    let draft = c.args.draft in
+    on_ok_weaker c.publish.result (λ h some. subst (λ (x : Draft). IfSome (g.D.Disk.state c.publish.new.d).view.now (AgreeAt (main_of x)))
+    (draft_is draft c.in_ok-fetched.fetched None c.in_ok-closed.closed c.in_ok-fetched.ensures.of c.in_ok-closed.ensures.of) (h (c.fetch.ensures.unlisted.now.known some))) c.publish.ensures.alike

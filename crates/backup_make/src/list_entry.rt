@@ -1,0 +1,45 @@
+// Saves the manifest of a backup, and lists it.
+ghost use Rattle.std.specs.Prelude.{◌≡◌, List, IfErr, IfSome, IsSome, OnOk};
+ghost use Rattle.base_devices.specs.Links.{LinkState};
+ghost use Rattle.base_devices.specs.States.{Frame};
+ghost use Rattle.base_traces.specs.Beside.{StaysBeside};
+ghost use Rattle.repo_stanza.specs.Pairs.{AgreeAt};
+ghost use Rattle.backup_make.specs.Draft.{main_of};
+ghost use Rattle.backup_make.specs.Faults.{PublishFails};
+ghost use Rattle.backup_make.specs.Made.{OutcomeOf};
+ghost use Rattle.backup_make.specs.Staged.{IsClosed, IsStaged, closed_draft, closed_ends, closed_online};
+
+use crate::backup_close::Closed;
+use crate::closing_record::prepare;
+use crate::fault::MakeFault;
+use base_devices::Disk;
+use repo_manifest::save_manifest;
+use repo_pair::save_text;
+use std::alloc::Global;
+
+/// Saves the manifest of a backup that has stopped, and then the stanza's list with it. What lies in its label's folder
+/// has to be there still.
+pub fn publish<D: Disk>(alloc: Global, d: &mut D, closed: Closed<'_>) -> Result<(), MakeFault>
+    requires { IsClosed closed }
+
+    // The stanza's list is unchanged, or the backup is listed, of the bytes that the links read; and so it is in what a
+    // crash leaves, at each moment. At Ok both members of the list's pair have it, and at an error it may be listed
+    // only where the disk failed or memory ran out. Nothing besides the stanza's folders is changed.
+    ensures made { (links : List LinkState)
+        → IsStaged (closed_draft closed.entry) (closed_online closed.entry) links (closed_ends closed.entry)
+        (D.state d.old).view
+        → OutcomeOf result (closed_draft closed.entry) (closed_online closed.entry) links
+        (D.state d.old).view (D.state d.new).view }
+    ensures alike { OnOk result (IsSome (D.state d.old).view.now
+        → IfSome (D.state d.new).view.now (AgreeAt (main_of (closed_draft closed.entry)))) }
+    ensures beside { StaysBeside (closed_draft closed.entry).stanza.now (D.state d.old).view (D.state d.new).view }
+    ensures frame { Frame (D.state d.old) (D.state d.new) }
+    ensures fault { IfErr result (λ e. PublishFails e (closed_draft closed.entry) (closed_online closed.entry)
+        (closed_ends closed.entry) (D.state d.old).faults (D.state d.new).faults) }
+{
+    let stanza = closed.fetched.draft.stanza;
+    let prepared = prepare(alloc, closed)?;
+    save_manifest(alloc, d, stanza, &prepared.manifest)?;
+    save_text(alloc, d, &prepared.main, &prepared.text)?;
+    Ok(())
+}

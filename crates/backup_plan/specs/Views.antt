@@ -1,0 +1,27 @@
+-- From the program's values to those of the definitions.
+use Rattle.std.specs.Prelude.{map, string_bytes}
+use Rattle.worker_protocol.specs.Views.{job_of, items_of}
+use Rattle.base_devices.specs.declared.tree.FolderEntry as rust_seen
+use Rattle.base_devices.specs.declared.tree.Node.{Node}
+use Rattle.base_model.specs.Text.{Text}
+use Rattle.backup_plan.specs.declared.values.Taken as rust_taken
+use Rattle.backup_plan.specs.declared.listing_walk.Walk as rust_walk
+use Rattle.backup_plan.specs.Listed.{Taken}
+use Rattle.backup_plan.specs.Layout.{Layout}
+
+-- what the files and places of the code represent
+abbrev pub taken_of : rust_taken.Taken → Taken
+taken_of f = record { path = string_bytes f.path; size = f.size; time = f.time }
+
+abbrev pub layout_of : rust_walk.Walk → Layout
+layout_of w = record {
+  choices = w.choices.items;
+  singles = map job_of w.singles.items;
+  full = map job_of w.full.items;
+  current = items_of w.current.items;
+  bytes = w.bytes;
+  last = map job_of w.last.items;
+}
+
+abbrev pub seen_of : rust_seen.FolderEntry → Text × Node
+seen_of s = (string_bytes s.path, s.node)

@@ -1,0 +1,89 @@
+// What a backup copies.
+ghost use Rattle.std.specs.Prelude.{◌≡◌, true, ◌<◌, ◌^◌, ◌-◌, ◌++◌, map, length, IfOk};
+ghost use Rattle.base_devices.specs.Order.{are_in_order};
+ghost use Rattle.base_model.specs.Values.{file_entry_of};
+ghost use Rattle.worker_protocol.specs.Views.{job_of};
+ghost use Rattle.backup_plan.specs.Layout.{layout, jobs_of, IsWithin};
+ghost use Rattle.backup_plan.specs.Views.{taken_of, layout_of};
+
+use crate::file_kind::what_is;
+use crate::listing_walk::{Walk, close};
+use crate::prior_entry::find_entry;
+use crate::values::{BackupPlan, PlanSettings, Taken};
+use base_model::FileEntry;
+use std::alloc::{AllocError, Global};
+use worker_protocol::Job;
+
+// The layout of a listing.
+fn walk(
+    alloc: Global,
+    files: &[Taken],
+    old: &[FileEntry],
+    equal: &[bool],
+    settings: &PlanSettings,
+) -> Result<Walk, AllocError>
+    requires same { length equal.now ≡ length files.now }
+    requires few { length files.now < 2 ^ 32 - 1 }
+    requires order { are_in_order (map (λ e. e.path) (map file_entry_of old.now)) ≡ true }
+    ensures layout { IfOk result (λ w. layout_of w ≡ layout settings.now (map file_entry_of old.now)
+        (map taken_of files.now) equal.now) }
+    ensures within { IfOk result (λ w. IsWithin (layout_of w)) }
+    ensures count { IfOk result (λ w. length w.choices.items ≡ length files.now) }
+{
+    let mut walk = Walk::begin(alloc);
+    for i in 0..files.len() {
+        let file = &files[i];
+        let what = what_is(settings, find_entry(old, &file.path), file, equal[i]);
+        walk.add(alloc, settings, file, what)?;
+    }
+    Ok(walk)
+}
+
+// The jobs of a walk.
+fn jobs_in(mut singles: Vec<Job>, full: Vec<Job>, last: Vec<Job>) -> Result<Vec<Job>, AllocError>
+    ensures { IfOk result (λ js. map job_of js.items ≡ map job_of singles.items ++ map job_of full.items
+        ++ map job_of last.items) }
+{
+    let mut full = full;
+    let mut last = last;
+    singles.append(&mut full)?;
+    singles.append(&mut last)?;
+    Ok(singles)
+}
+
+/// The choice of each file of a listing, and the jobs that are to be done. `old` are the files of the prior backup.
+pub fn plan(
+    alloc: Global,
+    files: &[Taken],
+    old: &[FileEntry],
+    equal: &[bool],
+    settings: &PlanSettings,
+) -> Result<BackupPlan, AllocError>
+    requires same { length equal.now ≡ length files.now }
+    requires few { length files.now < 2 ^ 32 - 1 }
+    requires order { are_in_order (map (λ e. e.path) (map file_entry_of old.now)) ≡ true }
+    ensures choices { IfOk result (λ p. p.choices.items ≡ (layout settings.now (map file_entry_of old.now)
+        (map taken_of files.now) equal.now).choices) }
+    ensures singles { IfOk result (λ p. p.singles ≡ length (layout settings.now (map file_entry_of old.now)
+        (map taken_of files.now) equal.now).singles) }
+    ensures jobs { IfOk result (λ p. map job_of p.jobs.items ≡ jobs_of (layout settings.now
+        (map file_entry_of old.now) (map taken_of files.now) equal.now)) }
+{
+    let walk = walk(alloc, files, old, equal, settings)?;
+    let Walk {
+        choices,
+        singles,
+        mut full,
+        current,
+        bytes: _,
+        last,
+    } = walk;
+    close(alloc, &mut full, current)?;
+    let count = singles.len() as u32;
+    let jobs = jobs_in(singles, full, last)?;
+    Ok(BackupPlan {
+        choices,
+        singles: count,
+        jobs,
+    })
+}

@@ -1,0 +1,10 @@
+pub mod Content
+pub mod Moments
+pub mod Cause
+pub mod Crash
+pub mod Order
+pub mod DataFolder
+pub mod Streams
+pub mod Locking
+pub mod Links
+pub mod States

@@ -1,0 +1,130 @@
+// A disk: names with bytes, and what a crash may leave of them (POSIX `write`, `fsync` and `rename`).
+ghost use Rattle.std.specs.Prelude.{◌≡◌, ◌⊎◌, ◌≤◌, [], ℕ, List, Bool, Option, Some, None, false, true, map, option_map, IfOk, OnOk, OnErr, IfSome, length, IsTrue, string_bytes};
+ghost use Rattle.base_devices.specs.Content.{Name, Value, Content, put, moved, is_below, LiesDirectlyIn, HasBytes, Holds, IsThere, Changes, Appends, IsListing, AreFolders, Reads};
+ghost use Rattle.base_devices.specs.Moments.{View, GrowsBy, Unchanged, SyncsFolders, MayKeep, is_unsynced};
+ghost use Rattle.base_devices.specs.States.{DiskState, Opens, Looks, Works};
+ghost use Rattle.base_devices.specs.Cause.{HasCause};
+
+use crate::DeviceError;
+use std::alloc::Global;
+
+/// A name below a folder, whole, with the length of its bytes.
+#[derive(Drop)]
+pub struct Found {
+    pub name: String,
+    pub size: u64,
+}
+
+/// A store of names with bytes. Folders are there by their names alone. Names are relative to the place that was opened
+/// last, with `/` between their elements.
+pub trait Disk {
+    /// What it holds, what a crash may leave, the places that were opened, and its counts.
+    ghost state: { Self → DiskState };
+
+    /// Opens a folder as the root, and makes it where it is absent.
+    fn open(&mut self, path: &str) -> Result<(), DeviceError>
+        ensures opens { Opens result path.now (state self.old).opened (state self.new).opened }
+        ensures now { (state self.new).view.now ≡ (state self.old).view.now }
+        ensures time { Unchanged (state self.old).view (state self.new).view }
+        ensures proper { (state self.new).faulty_calls ≡ (state self.old).faulty_calls }
+        ensures cause { HasCause (state self.old).faults (state self.new).faults result };
+
+    /// Every name at any depth below the folder; an absent folder has none.
+    fn names(&mut self, alloc: Global, folder: &str) -> Result<Vec<Found>, DeviceError>
+        ensures listing { IfOk result
+            (λ found. IfSome (state self.old).view.now (λ f.
+            IsListing folder.now f (map (λ x. (string_bytes x.name, x.size)) found.items))) }
+        ensures looks { Looks (state self.old) (state self.new) }
+        ensures cause { HasCause (state self.old).faults (state self.new).faults result };
+
+    /// The own names of the folders that are directly in the folder, in any order; one may come twice, and one may
+    /// hold nothing. An absent folder has none.
+    fn folders(&mut self, alloc: Global, folder: &str) -> Result<Vec<String>, DeviceError>
+        ensures folders { IfOk result
+            (λ known. IfSome (state self.old).view.now (λ f. AreFolders folder.now f (map string_bytes known.items))) }
+        ensures looks { Looks (state self.old) (state self.new) }
+        ensures cause { HasCause (state self.old).faults (state self.new).faults result };
+
+    /// Bytes of a name from a place on: None where it is absent, 0 at its end.
+    fn read(&mut self, name: &str, at: u64, buf: &mut [u8]) -> Result<Option<usize>, DeviceError>
+        ensures bytes { IfOk result
+            (λ n. IfSome (state self.old).view.now (λ f. Reads (f name.now) at (length buf.old) buf.new n)) }
+        ensures room { IfOk result (λ n. IfSome n (λ n. n ≤ length buf.old)) }
+        ensures looks { Looks (state self.old) (state self.new) }
+        ensures cause { HasCause (state self.old).faults (state self.new).faults result };
+
+    /// Makes the name hold no bytes.
+    fn begin(&mut self, name: &str) -> Result<(), DeviceError>
+        ensures now { Changes result (put name.now (Some [])) (state self.old).view.now (state self.new).view.now }
+        ensures works { Works (λ _ _. ⊥) (λ n. n ≡ name.now) (state self.old) (state self.new) }
+        ensures cause { HasCause (state self.old).faults (state self.new).faults result };
+
+    /// Adds bytes at the end.
+    fn append(&mut self, name: &str, bytes: &[u8]) -> Result<(), DeviceError>
+        ensures now { Appends result name.now bytes.now (state self.old).view.now (state self.new).view.now }
+        ensures time { GrowsBy (λ _ _. ⊥) (λ n. n ≡ name.now) (state self.old).view (state self.new).view }
+        ensures there { OnOk result (IsThere (state self.old).view.now name.now) }
+        ensures proper { IsThere (state self.old).view.now name.now
+            → (state self.new).faulty_calls ≡ (state self.old).faulty_calls }
+        ensures opened { (state self.new).opened ≡ (state self.old).opened }
+        ensures cause { HasCause (state self.old).faults (state self.new).faults result };
+
+    /// After it a crash leaves the bytes or what was kept before.
+    fn sync(&mut self, name: &str) -> Result<(), DeviceError>
+        ensures now { (state self.new).view.now ≡ (state self.old).view.now }
+        ensures time { GrowsBy (λ n v. (n ≡ name.now) × Holds (state self.old).view.now n v) (λ n. n ≡ name.now)
+            (state self.old).view (state self.new).view }
+        ensures synced { OnOk result (is_unsynced (state self.new).view name.now ≡ false) }
+        ensures there { OnOk result (IsThere (state self.old).view.now name.now) }
+        ensures proper { IsThere (state self.old).view.now name.now
+            → (state self.new).faulty_calls ≡ (state self.old).faulty_calls }
+        ensures opened { (state self.new).opened ≡ (state self.old).opened }
+        ensures cause { HasCause (state self.old).faults (state self.new).faults result };
+
+    /// Moves the value of a name to another.
+    fn rename(&mut self, from: &str, to: &str) -> Result<(), DeviceError>
+        ensures now { Changes result (moved from.now to.now) (state self.old).view.now (state self.new).view.now }
+        ensures time { GrowsBy (λ n v. ((n ≡ to.now) × Holds (state self.old).view.now from.now v)
+            ⊎ ((n ≡ from.now) × (v ≡ None))) (λ n. (n ≡ to.now)
+            × IsTrue (is_unsynced (state self.old).view from.now))
+            (state self.old).view (state self.new).view }
+        ensures there { OnOk result (IsThere (state self.old).view.now from.now) }
+        ensures proper { IsThere (state self.old).view.now from.now
+            → (state self.new).faulty_calls ≡ (state self.old).faulty_calls }
+        ensures opened { (state self.new).opened ≡ (state self.old).opened }
+        ensures cause { HasCause (state self.old).faults (state self.new).faults result };
+
+    /// Removes a name.
+    fn remove(&mut self, name: &str) -> Result<(), DeviceError>
+        ensures now { Changes result (put name.now None) (state self.old).view.now (state self.new).view.now }
+        ensures works { Works (λ n v. (n ≡ name.now) × (v ≡ None)) (λ _. ⊥) (state self.old) (state self.new) }
+        ensures cause { HasCause (state self.old).faults (state self.new).faults result };
+
+    /// After it a crash leaves each name below the folder its bytes or what was kept before.
+    fn sync_below(&mut self, folder: &str) -> Result<(), DeviceError>
+        ensures now { (state self.new).view.now ≡ (state self.old).view.now }
+        ensures works { Works (λ n v. IsTrue (is_below folder.now n) × Holds (state self.old).view.now n v)
+            (λ n. IsTrue (is_below folder.now n)) (state self.old) (state self.new) }
+        ensures synced { OnOk result ((n : Name) → IsTrue (is_below folder.now n)
+            → HasBytes (state self.old).view.now n
+            → is_unsynced (state self.new).view n ≡ false) }
+        ensures cause { HasCause (state self.old).faults (state self.new).faults result };
+
+    /// After it a crash leaves at each name below the folder that isn't unsynced what it holds.
+    fn sync_directories(&mut self, folder: &str) -> Result<(), DeviceError>
+        ensures looks { Looks (state self.old) (state self.new) }
+        ensures settled { OnOk result
+            (SyncsFolders (λ n. IsTrue (is_below folder.now n)) (state self.old).view (state self.new).view) }
+        ensures cause { HasCause (state self.old).faults (state self.new).faults result };
+
+    /// The same for the names directly in the folder alone.
+    fn sync_directory(&mut self, folder: &str) -> Result<(), DeviceError>
+        ensures looks { Looks (state self.old) (state self.new) }
+        ensures settled { OnOk result
+            (SyncsFolders (LiesDirectlyIn folder.now) (state self.old).view (state self.new).view) }
+        ensures cause { HasCause (state self.old).faults (state self.new).faults result };
+
+    /// A crash may leave what it holds.
+    ghost now_may_be_left: { (d : Self) (n : Name) (v : Value) → Holds (state d).view.now n v
+        → MayKeep (state d).view n v ⊎ (is_unsynced (state d).view n ≡ true) };
+}

@@ -1,0 +1,45 @@
+// All the bytes of a name.
+ghost use Rattle.std.specs.Prelude.{◌≡◌, ◌≤◌, ◌<◌, ℕ, List, Option, option_map, IfOk, IfErr, IsErrOf, IfSome, IsSomeAnd, Vec, length};
+ghost use Rattle.std.specs.declared.alloc.Global.{Global};
+ghost use Rattle.base_devices.specs.States.{Looks};
+ghost use Rattle.base_devices.specs.Content.{Name, Value, Content};
+ghost use Rattle.base_devices.specs.Moments.{Unchanged};
+ghost use Rattle.base_devices.specs.Cause.{Rises};
+ghost use Rattle.base_disk.specs.Fault.{IfTooLong};
+
+use crate::fault::StoreFault;
+use base_devices::Disk;
+use std::alloc::Global;
+
+/// All the bytes of a name, at most `limit`; None where it is absent.
+pub fn read_whole<D: Disk>(
+    alloc: Global,
+    d: &mut D,
+    name: &str,
+    limit: u64,
+) -> Result<Option<Vec<u8>>, StoreFault>
+    ensures bytes { IfOk result
+        (λ r. IfSome (D.state d.old).view.now (λ f. (option_map (λ (v : Vec ℕ Global). v.items) r ≡ f name.now)
+        × IfSome (f name.now) (λ b. length b ≤ limit))) }
+    ensures within { IfOk result (λ r. IfSome r (λ v. length v.items ≤ limit)) }
+    ensures named { IfErr result (λ e. IfTooLong e (λ n l. (n ≡ name.now) × (l ≡ limit))) }
+    ensures too_long { IfErr result
+        (λ e. IfTooLong e (λ _ _. IfSome (D.state d.old).view.now
+        (λ f. IsSomeAnd (f name.now) (λ b. limit < length b)))) }
+    ensures looks { Looks (D.state d.old) (D.state d.new) }
+    ensures cause { IsErrOf result StoreFault.Disk → Rises (D.state d.old).faults (D.state d.new).faults }
+{
+    let mut bytes = Vec::new(alloc);
+    let mut buf = [0u8; 32768];
+    while bytes.len() as u64 <= limit {
+        match d.read(name, bytes.len() as u64, &mut buf)? {
+            None => return Ok(None),
+            Some(0) => return Ok(Some(bytes)),
+            Some(n) => bytes.extend_from_slice(&buf[..n])?,
+        }
+    }
+    Err(StoreFault::TooLong {
+        name: String::from_str(alloc, name)?,
+        limit,
+    })
+}

@@ -1,0 +1,213 @@
+// Fetches segments from the repository into the spool.
+ghost use Rattle.std.specs.Prelude.{◌≡◌, [], Some, IfOk, IfErr, IfSome, OnOk, string_bytes};
+ghost use Rattle.base_devices.specs.Cause.{Rises};
+ghost use Rattle.base_devices.specs.Content.{SameBut};
+ghost use Rattle.base_devices.specs.States.{Frame, Looks, Works};
+ghost use Rattle.base_model.specs.declared.wal.ArchiveName.TheVariants.{Segment as OfWhole};
+ghost use Rattle.base_model.specs.ManifestText.{IsSegSize};
+ghost use Rattle.repo_names.specs.Next.{IsOfLog};
+ghost use Rattle.base_traces.specs.Beside.{StaysBeside};
+ghost use Rattle.archive_spool.specs.Marks.{GivesMarks};
+ghost use Rattle.archive_index.specs.Stored.{Finds};
+ghost use Rattle.cmd_terms.specs.declared.stages.object.Object.TheVariants.{Spool as TheSpool};
+ghost use Rattle.cmd_terms.specs.Halts.{HaltCause, Never, Only};
+ghost use Rattle.cmd_terms.specs.Risen.{none, rose_in};
+ghost use Rattle.cmd_archive_get.specs.Serving.{FileCause, PassCause};
+ghost use Rattle.cmd_archive_get_async.specs.Names.{ChangesAhead};
+ghost use Rattle.cmd_archive_get_async.specs.Fetching.{most_ahead, HoldsFetched, IsFetched, AheadCause};
+ghost use Rattle.cmd_archive_get_async.specs.Fetching.{PutsAhead, FetchesOne, FetchesNext, NextCause};
+
+use crate::ahead::fault::of_spool;
+use crate::ahead::names::{ahead_folder, ahead_name};
+use crate::ahead::spool_copy::{Copied, SEGMENT_LIMIT, copy};
+use archive_index::Stored;
+use archive_store::present;
+use base_devices::Disk;
+use base_disk::drop_folder;
+use base_model::{ArchiveId, ArchiveName, SegSize, Segment};
+use base_text::Sum;
+use cmd_archive_get::{GetFault, of_archive};
+use cmd_terms::Halt;
+use repo_names::next;
+use std::alloc::Global;
+
+// Copies a stored file with this sum to a name of the spool.
+fn fetch_file<D: Disk, S: Disk>(
+    alloc: Global,
+    repo: &mut D,
+    spool: &mut S,
+    from: String,
+    sum: Sum,
+    name: &str,
+) -> Result<(), Halt<GetFault>>
+    ensures puts { OnOk result (PutsAhead (D.state repo.old).view.now (string_bytes from) sum.0 name.now
+        (S.state spool.old).view.now (S.state spool.new).view.now) }
+    ensures others { SameBut name.now (S.state spool.old).view.now (S.state spool.new).view.now }
+    ensures works { Works (λ _ _. ⊥) (λ n. n ≡ name.now) (S.state spool.old) (S.state spool.new) }
+    ensures looks { Looks (D.state repo.old) (D.state repo.new) }
+    ensures cause { IfErr result (HaltCause (PassCause (D.state repo.old).view.now (string_bytes from) sum.0)
+        (rose_in (record none {
+          repo = Rises (D.state repo.old).faults (D.state repo.new).faults;
+          spool = Rises (S.state spool.old).faults (S.state spool.new).faults;
+        }))) }
+{
+    match copy(alloc, repo, spool, from.as_str(), name) {
+        Ok(Copied::Whole(found)) => {
+            if found == sum {
+                Ok(())
+            } else {
+                Err(Halt::Refused(GetFault::SegmentDamaged { known: sum, found }))
+            }
+        }
+        Ok(Copied::Long) => Err(Halt::Refused(GetFault::TooLong {
+            name: from,
+            limit: SEGMENT_LIMIT,
+        })),
+        // It was listed, and isn't there any more.
+        Ok(Copied::Vanished) => Err(Halt::NoMemory),
+        Err(halt) => Err(halt),
+    }
+}
+
+// Fetches a segment that is stored.
+fn fetch_stored<D: Disk, S: Disk>(
+    alloc: Global,
+    repo: &mut D,
+    spool: &mut S,
+    stanza: &str,
+    id: &ArchiveId,
+    segment: &Segment,
+    stored: Stored,
+) -> Result<(), Halt<GetFault>>
+    requires finds { IfSome (D.state repo.old).view.now
+        (λ f. Finds stanza.now id.now (OfWhole segment.now) f (Some stored)) }
+    ensures fetches { OnOk result (FetchesOne stanza.now id.now segment.now (D.state repo.old).view.now
+        (S.state spool.old).view.now (S.state spool.new).view.now) }
+    ensures only { ChangesAhead stanza.now (S.state spool.old).view (S.state spool.new).view }
+    ensures frame { Frame (S.state spool.old) (S.state spool.new) }
+    ensures looks { Looks (D.state repo.old) (D.state repo.new) }
+    ensures cause { IfErr result (HaltCause
+        (FileCause stanza.now id.now (OfWhole segment.now) (D.state repo.old).view.now)
+        (rose_in (record none {
+          repo = Rises (D.state repo.old).faults (D.state repo.new).faults;
+          spool = Rises (S.state spool.old).faults (S.state spool.new).faults;
+        }))) }
+{
+    // A segment has a sum, so this is never so.
+    let Some(sum) = stored.sum else {
+        return Err(Halt::NoMemory);
+    };
+    match ahead_name(alloc, stanza, segment, &sum) {
+        Ok(name) => fetch_file(alloc, repo, spool, stored.path, sum, name.as_str()),
+        Err(_) => Err(Halt::NoMemory),
+    }
+}
+
+// Fetches the segment that follows this one, where there is one and the repository has it.
+fn fetch_next<D: Disk, S: Disk>(
+    alloc: Global,
+    repo: &mut D,
+    spool: &mut S,
+    stanza: &str,
+    id: &ArchiveId,
+    last: &Segment,
+    size: SegSize,
+) -> Result<Option<Segment>, Halt<GetFault>>
+    requires valid { IsSegSize size.0 }
+    requires of_log { IsOfLog size.0 last.now }
+    ensures fetches { IfOk result (FetchesNext stanza.now id.now last.now size.0 (D.state repo.old).view.now
+        (S.state spool.old).view.now (S.state spool.new).view.now) }
+    ensures only { ChangesAhead stanza.now (S.state spool.old).view (S.state spool.new).view }
+    ensures frame { Frame (S.state spool.old) (S.state spool.new) }
+    ensures looks { Looks (D.state repo.old) (D.state repo.new) }
+    ensures cause { IfErr result (HaltCause
+        (NextCause stanza.now id.now last.now size.0 (D.state repo.old).view.now)
+        (rose_in (record none {
+          repo = Rises (D.state repo.old).faults (D.state repo.new).faults;
+          spool = Rises (S.state spool.old).faults (S.state spool.new).faults;
+        }))) }
+{
+    let Some(segment) = next(last, size) else {
+        return Ok(None);
+    };
+    match present(alloc, repo, stanza, id, &ArchiveName::Segment(segment)) {
+        Ok(Some(stored)) => {
+            match fetch_stored(alloc, repo, spool, stanza, id, &segment, stored) {
+                Ok(()) => Ok(Some(segment)),
+                Err(halt) => Err(halt),
+            }
+        }
+        Ok(None) => Ok(None),
+        Err(fault) => Err(of_archive(fault)),
+    }
+}
+
+// Removes all that was fetched before.
+fn clear<S: Disk>(alloc: Global, spool: &mut S, stanza: &str) -> Result<(), Halt<GetFault>>
+    ensures clear { OnOk result (HoldsFetched stanza.now [] (S.state spool.old).view.now (S.state spool.new).view.now) }
+    ensures only { ChangesAhead stanza.now (S.state spool.old).view (S.state spool.new).view }
+    ensures frame { Frame (S.state spool.old) (S.state spool.new) }
+    ensures cause { IfErr result (HaltCause Never
+        (Only TheSpool (Rises (S.state spool.old).faults (S.state spool.new).faults))) }
+{
+    let Ok(folder) = ahead_folder(alloc, stanza) else {
+        return Err(Halt::NoMemory);
+    };
+    match drop_folder(alloc, spool, folder.as_str()) {
+        Ok(()) => Ok(()),
+        Err(fault) => Err(of_spool(fault)),
+    }
+}
+
+// At most this many bytes of segments, and one at least.
+fn most_ahead(size: SegSize, queue: u64) -> u64
+    requires { IsSegSize size.0 }
+    ensures { result ≡ most_ahead size.0 queue }
+{
+    (queue / u64::from(size.0)).max(1)
+}
+
+/// Fetches the segments that follow this one from the repository into the spool, at most this many bytes of
+/// segments, one at least, up to the first that isn't stored under this id; and returns how many. What was fetched
+/// before is removed.
+pub fn fetch_ahead<D: Disk, S: Disk>(
+    alloc: Global,
+    repo: &mut D,
+    spool: &mut S,
+    stanza: &str,
+    id: &ArchiveId,
+    after: &Segment,
+    size: SegSize,
+    queue: u64,
+) -> Result<u64, Halt<GetFault>>
+    requires valid { IsSegSize size.0 }
+    requires of_log { IsOfLog size.0 after.now }
+    ensures fetched { IfOk result (IsFetched stanza.now id.now after.now size.0 (most_ahead size.0 queue)
+        (D.state repo.old).view.now (S.state spool.old).view.now (S.state spool.new).view.now) }
+    // Nothing else changes, and no receipt is given.
+    ensures only { ChangesAhead stanza.now (S.state spool.old).view (S.state spool.new).view }
+    ensures marks { GivesMarks stanza.now [] (S.state spool.old).view (S.state spool.new).view }
+    ensures beside { StaysBeside stanza.now (S.state spool.old).view (S.state spool.new).view }
+    ensures frame { Frame (S.state spool.old) (S.state spool.new) }
+    ensures looks { Looks (D.state repo.old) (D.state repo.new) }
+    ensures cause { IfErr result (HaltCause
+        (AheadCause stanza.now id.now after.now size.0 (most_ahead size.0 queue) (D.state repo.old).view.now)
+        (rose_in (record none {
+          repo = Rises (D.state repo.old).faults (D.state repo.new).faults;
+          spool = Rises (S.state spool.old).faults (S.state spool.new).faults;
+        }))) }
+{
+    if let Err(halt) = clear(alloc, spool, stanza) {
+        return Err(halt);
+    }
+    let most = most_ahead(size, queue);
+    let mut last = *after;
+    for count in 0..most {
+        match fetch_next(alloc, repo, spool, stanza, id, &last, size) {
+            Ok(Some(segment)) => last = segment,
+            Ok(None) => return Ok(count),
+            Err(halt) => return Err(halt),
+        }
+    }
+    Ok(most)
+}

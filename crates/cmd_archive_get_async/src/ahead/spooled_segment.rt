@@ -1,0 +1,162 @@
+// Takes a fetched segment from the spool.
+ghost use Rattle.std.specs.List.{starts_with};
+ghost use Rattle.std.specs.Prelude.{◌≡◌, ◌≤◌, [], IfErr, OnOk, IsTrue, nat_eq, option_map, string_bytes};
+ghost use Rattle.base_devices.specs.Cause.{Rises};
+ghost use Rattle.base_devices.specs.States.{Frame, Looks};
+ghost use Rattle.base_traces.specs.Beside.{StaysBeside};
+ghost use Rattle.cmd_terms.specs.declared.stages.object.Object.TheVariants.{Spool as TheSpool};
+ghost use Rattle.cmd_terms.specs.Halts.{HaltCause, Never, Only};
+ghost use Rattle.archive_spool.specs.Marks.{GivesMarks};
+ghost use Rattle.cmd_archive_get.specs.Getting.{ChangesPath};
+ghost use Rattle.cmd_archive_get.specs.Serving.{AreStoredAt};
+ghost use Rattle.cmd_archive_get_async.specs.Names.{ahead_prefix, ahead_name, lacking, ChangesAhead, ChangesWithin};
+ghost use Rattle.cmd_archive_get_async.specs.Taking.{TakesAt, SpoolOrFolder};
+
+use crate::ahead::fault::of_spool;
+use crate::ahead::names::{ahead_folder, ahead_name, ahead_prefix};
+use crate::ahead::prefix_removal::remove_prefix;
+use crate::ahead::spool_copy::SEGMENT_LIMIT;
+use base_devices::{DataFolder, Disk};
+use base_disk::{StoreFault, read_whole};
+use base_model::Segment;
+use base_text::Sum;
+use cmd_archive_get::{GetFault, Passed, pass_on, put_file};
+use cmd_terms::{Halt, Object};
+use std::alloc::Global;
+
+// Puts the bytes at a name of the spool at a path of the data folder, where they have this sum. They are read whole.
+fn pass_whole<S: Disk, T: DataFolder>(
+    alloc: Global,
+    spool: &mut S,
+    tree: &mut T,
+    name: &str,
+    sum: &Sum,
+    path: &str,
+) -> Result<bool, Halt<GetFault>>
+    ensures takes { TakesAt result (S.state spool.old).view.now name.now sum.now.0 path.now
+        (T.state tree.old).nodes (T.state tree.new).nodes }
+    ensures changes { ChangesPath path.now (AreStoredAt (S.state spool.old).view.now name.now sum.now.0)
+        (T.state tree.old).nodes (T.state tree.new).nodes }
+    ensures looks { Looks (S.state spool.old) (S.state spool.new) }
+    ensures tree_place { (T.state tree.new).opened ≡ (T.state tree.old).opened }
+    ensures tree_later { (T.state tree.old).faults ≤ (T.state tree.new).faults }
+    ensures cause { IfErr result (HaltCause Never
+        (SpoolOrFolder (S.state spool.old) (S.state spool.new) (T.state tree.old) (T.state tree.new))) }
+{
+    let bytes = match read_whole(alloc, spool, name, SEGMENT_LIMIT) {
+        Ok(Some(bytes)) => bytes,
+        Ok(None) | Err(StoreFault::TooLong { .. }) => return Ok(false),
+        Err(fault) => return Err(of_spool(fault)),
+    };
+    if Sum::of(&bytes) != *sum {
+        return Ok(false);
+    }
+    match put_file(alloc, tree, path, &bytes) {
+        Ok(()) => Ok(true),
+        Err(halt) => Err(halt),
+    }
+}
+
+// Puts the bytes at a name of the spool at a path of the data folder, where they have this sum.
+fn pass_ahead<S: Disk, T: DataFolder>(
+    alloc: Global,
+    spool: &mut S,
+    tree: &mut T,
+    name: &str,
+    sum: &Sum,
+    path: &str,
+) -> Result<bool, Halt<GetFault>>
+    ensures takes { TakesAt result (S.state spool.old).view.now name.now sum.now.0 path.now
+        (T.state tree.old).nodes (T.state tree.new).nodes }
+    ensures changes { ChangesPath path.now (AreStoredAt (S.state spool.old).view.now name.now sum.now.0)
+        (T.state tree.old).nodes (T.state tree.new).nodes }
+    ensures looks { Looks (S.state spool.old) (S.state spool.new) }
+    ensures tree_place { (T.state tree.new).opened ≡ (T.state tree.old).opened }
+    ensures tree_later { (T.state tree.old).faults ≤ (T.state tree.new).faults }
+    ensures cause { IfErr result (HaltCause Never
+        (SpoolOrFolder (S.state spool.old) (S.state spool.new) (T.state tree.old) (T.state tree.new))) }
+{
+    let from = match String::from_str(alloc, name) {
+        Ok(from) => from,
+        Err(_) => return Err(Halt::NoMemory),
+    };
+    match pass_on(alloc, spool, tree, from, *sum, path) {
+        Ok(Passed::Served) => Ok(true),
+        // Something was at the temporary name of the path.
+        Ok(Passed::Barred) => pass_whole(alloc, spool, tree, name, sum, path),
+        Ok(Passed::Lost) | Err(Halt::Refused(_)) => Ok(false),
+        // To that call the spool is the repository.
+        Err(Halt::Failed(Object::Repo)) => Err(Halt::Failed(Object::Spool)),
+        Err(halt) => Err(halt),
+    }
+}
+
+// Removes each fetched file of the segment.
+fn clear<S: Disk>(
+    alloc: Global,
+    spool: &mut S,
+    stanza: &str,
+    segment: &Segment,
+) -> Result<(), Halt<GetFault>>
+    ensures gone { OnOk result ((S.state spool.new).view.now
+        ≡ option_map (lacking (ahead_prefix stanza.now segment.now)) (S.state spool.old).view.now) }
+    ensures only { ChangesWithin (λ n. starts_with nat_eq n (ahead_prefix stanza.now segment.now))
+        (S.state spool.old).view (S.state spool.new).view }
+    ensures frame { Frame (S.state spool.old) (S.state spool.new) }
+    ensures cause { IfErr result (HaltCause Never
+        (Only TheSpool (Rises (S.state spool.old).faults (S.state spool.new).faults))) }
+{
+    let Ok(folder) = ahead_folder(alloc, stanza) else {
+        return Err(Halt::NoMemory);
+    };
+    let Ok(prefix) = ahead_prefix(alloc, stanza, segment) else {
+        return Err(Halt::NoMemory);
+    };
+    match remove_prefix(alloc, spool, folder.as_str(), prefix.as_str()) {
+        Ok(()) => Ok(()),
+        Err(fault) => Err(of_spool(fault)),
+    }
+}
+
+/// Puts a fetched segment at a path of the data folder where the spool has it with this sum, and returns whether it
+/// has. Its names in the spool are removed.
+pub fn take_ahead<S: Disk, T: DataFolder>(
+    alloc: Global,
+    spool: &mut S,
+    tree: &mut T,
+    stanza: &str,
+    segment: &Segment,
+    sum: &Sum,
+    path: &str,
+) -> Result<bool, Halt<GetFault>>
+    // The bytes have the sum, by their digest; at false the spool has none that do.
+    ensures takes { TakesAt result (S.state spool.old).view.now (ahead_name stanza.now segment.now sum.now.0)
+        sum.now.0 path.now (T.state tree.old).nodes (T.state tree.new).nodes }
+    ensures changes { ChangesPath path.now
+        (AreStoredAt (S.state spool.old).view.now (ahead_name stanza.now segment.now sum.now.0) sum.now.0)
+        (T.state tree.old).nodes (T.state tree.new).nodes }
+    ensures gone { OnOk result ((S.state spool.new).view.now
+        ≡ option_map (lacking (ahead_prefix stanza.now segment.now)) (S.state spool.old).view.now) }
+    // Nothing of the spool changes but the names of the segment, and no receipt is given.
+    ensures only { ChangesWithin (λ n. starts_with nat_eq n (ahead_prefix stanza.now segment.now))
+        (S.state spool.old).view (S.state spool.new).view }
+    ensures marks { GivesMarks stanza.now [] (S.state spool.old).view (S.state spool.new).view }
+    ensures beside { StaysBeside stanza.now (S.state spool.old).view (S.state spool.new).view }
+    ensures frame { Frame (S.state spool.old) (S.state spool.new) }
+    ensures tree_place { (T.state tree.new).opened ≡ (T.state tree.old).opened }
+    ensures tree_later { (T.state tree.old).faults ≤ (T.state tree.new).faults }
+    ensures cause { IfErr result (HaltCause Never
+        (SpoolOrFolder (S.state spool.old) (S.state spool.new) (T.state tree.old) (T.state tree.new))) }
+{
+    let Ok(name) = ahead_name(alloc, stanza, segment, sum) else {
+        return Err(Halt::NoMemory);
+    };
+    let taken = match pass_ahead(alloc, spool, tree, name.as_str(), sum, path) {
+        Ok(taken) => taken,
+        Err(halt) => return Err(halt),
+    };
+    match clear(alloc, spool, stanza, segment) {
+        Ok(()) => Ok(taken),
+        Err(halt) => Err(halt),
+    }
+}

@@ -1,0 +1,127 @@
+// archive-get:async: fetches what follows a segment.
+ghost use Rattle.std.specs.Prelude.{◌≡◌, [], IfOk, IfErr, IfSome, OnOk};
+ghost use Rattle.base_devices.specs.Cause.{Rises};
+ghost use Rattle.base_devices.specs.States.{Frame, Looks};
+ghost use Rattle.base_model.specs.InfoFiles.{IsArchiveInfo};
+ghost use Rattle.base_model.specs.Names.{segment_text};
+ghost use Rattle.base_model.specs.Values.{archive_info_of};
+ghost use Rattle.base_traces.specs.Beside.{StaysBeside};
+ghost use Rattle.cmd_terms.specs.Current.{HasValue};
+ghost use Rattle.cmd_terms.specs.Halts.{HaltCause};
+ghost use Rattle.cmd_terms.specs.Risen.{none, rose_in};
+ghost use Rattle.archive_spool.specs.Marks.{GivesMarks};
+ghost use Rattle.cmd_archive_get_async.specs.Fetching.{most_ahead, AheadCause};
+ghost use Rattle.cmd_archive_get_async.specs.Names.{ChangesAhead};
+ghost use Rattle.cmd_archive_get_async.specs.FollowUp.{FollowUpCause, FetchedBy, FetchesAfter, WordCause};
+
+use crate::ahead::fetch_ahead;
+use crate::command::following::size_of;
+use archive_index::Stored;
+use base_devices::Disk;
+use base_model::{ArchiveInfo, ArchiveName, Segment};
+use cmd_archive_get::{GetFault, find_file};
+use cmd_terms::{Halt, Outcome};
+use repo_names::read_segment;
+use repo_stanza::Control;
+use std::alloc::Global;
+
+/// What archive-get:async is given: the segment after which it fetches.
+#[derive(Drop)]
+pub struct FetchOrder<'a> {
+    /// The name of the segment, as it was given.
+    pub word: &'a str,
+    pub segment: Segment,
+    ghost named: { word.now ≡ segment_text segment },
+}
+
+/// The order that the argument gives.
+pub fn fetch_order(alloc: Global, word: &str) -> Result<FetchOrder<'_>, Halt<GetFault>>
+    ensures order { IfOk result (λ o. o.word.now ≡ word.now) }
+    ensures cause { IfErr result (HaltCause (WordCause word.now) (λ _. ⊥)) }
+{
+    match read_segment(word.as_bytes()) {
+        Some(segment) => Ok(FetchOrder { word, segment }),
+        None => Err(Halt::Refused(GetFault::SegmentName {
+            name: String::from_str(alloc, word)?,
+        })),
+    }
+}
+
+// Fetches what follows a stored segment, by its length.
+fn fetch_from<D: Disk, S: Disk>(
+    alloc: Global,
+    repo: &mut D,
+    spool: &mut S,
+    stanza: &str,
+    segment: &Segment,
+    stored: &Stored,
+    queue: u64,
+) -> Result<(), Halt<GetFault>>
+    ensures fetches { OnOk result (FetchesAfter stanza.now segment.now stored.now queue
+        (D.state repo.old).view.now (S.state spool.old).view.now (S.state spool.new).view.now) }
+    ensures looks { Looks (D.state repo.old) (D.state repo.new) }
+    ensures only { ChangesAhead stanza.now (S.state spool.old).view (S.state spool.new).view }
+    ensures frame { Frame (S.state spool.old) (S.state spool.new) }
+    ensures cause { IfErr result (HaltCause
+        (AheadCause stanza.now stored.now.id segment.now stored.now.size (most_ahead stored.now.size queue)
+        (D.state repo.old).view.now)
+        (rose_in (record none {
+          repo = Rises (D.state repo.old).faults (D.state repo.new).faults;
+          spool = Rises (S.state spool.old).faults (S.state spool.new).faults;
+        }))) }
+{
+    let Some(size) = size_of(segment, stored.size) else {
+        return Ok(());
+    };
+    match fetch_ahead(alloc, repo, spool, stanza, &stored.id, segment, size, queue) {
+        Ok(_) => Ok(()),
+        Err(halt) => Err(halt),
+    }
+}
+
+/// Fetches the segments that follow a stored one into the spool, at most this many bytes of segments. `known` is
+/// what the data folder says about its cluster, and `info` the value of the archive pair.
+pub fn fetch_after<D: Disk, S: Disk>(
+    alloc: Global,
+    repo: &mut D,
+    spool: &mut S,
+    stanza: &str,
+    order: &FetchOrder<'_>,
+    known: &Control,
+    info: &ArchiveInfo,
+    queue: u64,
+) -> Result<Outcome, Halt<GetFault>>
+    requires pair { IfSome (D.state repo.old).view.now (λ f. HasValue stanza.now f (archive_info_of info.now)) }
+    requires valid { IsArchiveInfo (archive_info_of info.now) }
+    ensures fetched { IfOk result (FetchedBy stanza.now known.now order.now.word.now order.now.segment queue
+        (D.state repo.old).view.now (S.state spool.old).view.now (S.state spool.new).view.now) }
+    ensures looks { Looks (D.state repo.old) (D.state repo.new) }
+    ensures marks { GivesMarks stanza.now [] (S.state spool.old).view (S.state spool.new).view }
+    ensures beside { StaysBeside stanza.now (S.state spool.old).view (S.state spool.new).view }
+    ensures only { ChangesAhead stanza.now (S.state spool.old).view (S.state spool.new).view }
+    ensures frame { Frame (S.state spool.old) (S.state spool.new) }
+    ensures cause { IfErr result (HaltCause
+        (FollowUpCause stanza.now known.now order.now.segment queue (D.state repo.old).view.now)
+        (rose_in (record none {
+          repo = Rises (D.state repo.old).faults (D.state repo.new).faults;
+          spool = Rises (S.state spool.old).faults (S.state spool.new).faults;
+        }))) }
+{
+    let name = ArchiveName::Segment(order.segment);
+    let stored = match find_file(alloc, repo, stanza, known, info, &name) {
+        Ok(Some(stored)) => stored,
+        Ok(None) => {
+            return match String::from_str(alloc, order.word) {
+                Ok(name) => Ok(Outcome::Absent { name }),
+                Err(_) => Err(Halt::NoMemory),
+            };
+        }
+        Err(halt) => return Err(halt),
+    };
+    match fetch_from(alloc, repo, spool, stanza, &order.segment, &stored, queue) {
+        Ok(()) => Ok(Outcome::Finished {
+            lines: String::new(alloc),
+        }),
+        Err(halt) => Err(halt),
+    }
+}

@@ -1,0 +1,121 @@
+// archive-get with archive-async: a file is served, through the spool where it is there.
+ghost use Rattle.std.specs.Prelude.{◌≡◌, ◌≤◌, [], map, Option, Some, IfOk, IfErr, IfSome, IsSome, string_bytes};
+ghost use Rattle.base_devices.specs.Cause.{Rises};
+ghost use Rattle.base_devices.specs.Content.{Content};
+ghost use Rattle.base_devices.specs.Crash.{Leaves};
+ghost use Rattle.base_devices.specs.States.{Frame, Looks};
+ghost use Rattle.base_model.specs.InfoFiles.{IsArchiveInfo};
+ghost use Rattle.base_model.specs.Now.{NowRepresents};
+ghost use Rattle.base_model.specs.Repository.{Stanza};
+ghost use Rattle.base_model.specs.Values.{archive_info_of};
+ghost use Rattle.base_model.specs.Walks.{IsSynced};
+ghost use Rattle.base_traces.specs.Beside.{StaysBeside};
+ghost use Rattle.cmd_terms.specs.Cluster.{FolderShows};
+ghost use Rattle.cmd_terms.specs.Current.{HasValue};
+ghost use Rattle.cmd_terms.specs.Halts.{HaltCause};
+ghost use Rattle.cmd_terms.specs.Reached.{reached_by};
+ghost use Rattle.cmd_terms.specs.Risen.{none, rose_in};
+ghost use Rattle.cmd_terms.specs.DisksEffect.{OnNone, PairAlike};
+ghost use Rattle.archive_spool.specs.Marks.{GivesMarks};
+ghost use Rattle.cmd_archive_get.specs.Getting.{get_early, served_path, ChangesPath, GivenBy};
+ghost use Rattle.cmd_archive_get_async.specs.Following.{QuietOthers};
+ghost use Rattle.cmd_archive_get_async.specs.Getting.{FollowsUp, GetAheadCause, GotAhead, IsServedBySum, NoTwins};
+
+use crate::command::following::follow;
+use crate::command::served_segment::serve_ahead;
+use archive_index::OtherProcesses;
+use base_devices::{DataFolder, Disk};
+use base_model::{ArchiveInfo, ArchiveName};
+use cmd_archive_get::{GetFault, GetOrder, get_file};
+use cmd_terms::{Halt, Outcome};
+use repo_stanza::Control;
+use std::alloc::Global;
+
+/// Serves a file of the archive at a path of the data folder: a whole segment from the spool, where that has it. After
+/// that a fetch is started with these arguments, where the spool doesn't have the next segment. `known` is what the
+/// data
+/// folder says about its cluster, and `info` the value of the archive pair.
+pub fn get_ahead<D: Disk, S: Disk, T: DataFolder, A: OtherProcesses<D, S>>(
+    alloc: Global,
+    repo: &mut D,
+    spool: &mut S,
+    tree: &mut T,
+    processes: &mut A,
+    stanza: &str,
+    order: &GetOrder<'_>,
+    known: &Control,
+    info: &ArchiveInfo,
+    arguments: &[String],
+) -> Result<Outcome, Halt<GetFault>>
+    requires shows { IfSome (T.state tree.old).nodes (λ f. FolderShows f known.now) }
+    requires pair { IfSome (D.state repo.old).view.now (λ f. HasValue stanza.now f (archive_info_of info.now)) }
+    requires valid { IsArchiveInfo (archive_info_of info.now) }
+    // The data folder has at Finished a file of the sum that the repository's name states, and is unchanged where the
+    // repository doesn't have it.
+    ensures got { IfOk result (GotAhead stanza.now order.now.folder.now order.now.word.now order.now.path.now
+        (D.state repo.old).view.now (T.state tree.old).nodes (T.state tree.new).nodes) }
+    // So it is in all that a crash leaves, where that has the archive pair.
+    ensures lasts { IfOk result (λ o. IsSynced stanza.now (D.state repo.old).view
+        → IsSome (D.state repo.old).view.now → PairAlike stanza.now (D.state repo.old).view → (f : Content)
+        → Leaves (D.state repo.new).view (D.state repo.new).view.moment f
+        → GotAhead stanza.now order.now.folder.now order.now.word.now order.now.path.now
+        (Some f) (T.state tree.old).nodes (T.state tree.new).nodes o) }
+    // What is served is archived, where no two contents share a SHA-1.
+    ensures given { IfOk result (λ o. (s : Stanza) → IsSome (D.state repo.old).view.now
+        → IsSome (S.state spool.old).view.now → NowRepresents stanza.now (Some s) (D.state repo.old).view.now
+        → NoTwins (D.state repo.old).view.now (S.state spool.old).view.now
+        → GivenBy s order.now.folder.now order.now.word.now order.now.path.now
+        (T.state tree.old).nodes (T.state tree.new).nodes o) }
+    ensures changes { ChangesPath (served_path order.now.folder.now order.now.path.now)
+        (IsServedBySum stanza.now order.now.folder.now order.now.word.now order.now.path.now
+        (D.state repo.old).view.now (T.state tree.old).nodes)
+        (T.state tree.old).nodes (T.state tree.new).nodes }
+    ensures none { OnNone (reached_by get_early result) ((T.state tree.new).nodes ≡ (T.state tree.old).nodes) }
+    ensures looks { Looks (D.state repo.old) (D.state repo.new) }
+    ensures opened { (T.state tree.new).opened ≡ (T.state tree.old).opened }
+    ensures later { (T.state tree.old).faults ≤ (T.state tree.new).faults }
+
+    // The spool gives no receipt, and a fetch is started where it is requested.
+    ensures marks { GivesMarks stanza.now [] (S.state spool.old).view (S.state spool.new).view }
+    ensures beside { StaysBeside stanza.now (S.state spool.old).view (S.state spool.new).view }
+    ensures known { IsSome (S.state spool.old).view.now → IsSome (S.state spool.new).view.now }
+    ensures frame { Frame (S.state spool.old) (S.state spool.new) }
+    ensures follows { IfOk result (FollowsUp stanza.now known.now order.now.name (D.state repo.old).view.now
+        (map string_bytes arguments.now) (S.state spool.new).view.now (A.state processes.old) (A.state processes.new)) }
+    ensures others { QuietOthers (map string_bytes arguments.now) (A.state processes.old) (A.state processes.new) }
+    ensures cause { IfErr result (HaltCause
+        (GetAheadCause stanza.now order.now.folder.now order.now.word.now order.now.path.now known.now order.now.name
+        (D.state repo.old).view.now (T.state tree.old).nodes (S.state spool.old).view.now)
+        (rose_in (record none {
+          repo = Rises (D.state repo.old).faults (D.state repo.new).faults;
+          spool = Rises (S.state spool.old).faults (S.state spool.new).faults;
+          tree = Rises (T.state tree.old).faults (T.state tree.new).faults;
+        }))) }
+{
+    let ArchiveName::Segment(segment) = order.name else {
+        return get_file(alloc, repo, tree, stanza, order, known, info);
+    };
+    match serve_ahead(
+        alloc, repo, spool, tree, stanza, order, &segment, known, info,
+    ) {
+        Ok(Some(stored)) => {
+            match follow(
+                alloc,
+                spool,
+                processes,
+                stanza,
+                &segment,
+                stored.size,
+                arguments,
+            ) {
+                Ok(lines) => Ok(Outcome::Finished { lines }),
+                Err(halt) => Err(halt),
+            }
+        }
+        Ok(None) => match String::from_str(alloc, order.word) {
+            Ok(name) => Ok(Outcome::Absent { name }),
+            Err(_) => Err(Halt::NoMemory),
+        },
+        Err(halt) => Err(halt),
+    }
+}

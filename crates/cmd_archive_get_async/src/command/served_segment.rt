@@ -1,0 +1,148 @@
+// Serves a whole segment, from the spool or else from the repository.
+ghost use Rattle.std.specs.Prelude.{◌≡◌, ◌≤◌, [], Option, Some, None, IfOk, IfErr, IfSome, IsSome};
+ghost use Rattle.base_devices.specs.Cause.{Rises};
+ghost use Rattle.base_devices.specs.Content.{Content};
+ghost use Rattle.base_devices.specs.Crash.{Leaves};
+ghost use Rattle.base_devices.specs.States.{Frame, Looks};
+ghost use Rattle.base_model.specs.declared.wal.ArchiveName.TheVariants.{Segment as OfWhole};
+ghost use Rattle.base_model.specs.InfoFiles.{IsArchiveInfo};
+ghost use Rattle.base_model.specs.Now.{NowRepresents};
+ghost use Rattle.base_model.specs.Repository.{Stanza};
+ghost use Rattle.base_model.specs.Values.{archive_info_of};
+ghost use Rattle.base_model.specs.Walks.{IsSynced};
+ghost use Rattle.base_traces.specs.Beside.{StaysBeside};
+ghost use Rattle.cmd_terms.specs.Cluster.{FolderShows};
+ghost use Rattle.cmd_terms.specs.Current.{HasValue};
+ghost use Rattle.cmd_terms.specs.Halts.{HaltCause};
+ghost use Rattle.cmd_terms.specs.Risen.{none, rose_in};
+ghost use Rattle.cmd_terms.specs.DisksEffect.{PairAlike};
+ghost use Rattle.archive_spool.specs.Marks.{GivesMarks};
+ghost use Rattle.cmd_archive_get.specs.Getting.{served_path, ChangesPath, GetCause};
+ghost use Rattle.cmd_archive_get.specs.Looking.{IsKeptAs};
+ghost use Rattle.cmd_archive_get_async.specs.Getting.{GetAheadCause, GivenAs, IsServedBySum, NoTwins, ServedAs, StillFolder};
+
+use crate::ahead::take_ahead;
+use archive_index::Stored;
+use base_devices::{DataFolder, Disk};
+use base_model::{ArchiveInfo, Segment};
+use cmd_archive_get::{GetFault, GetOrder, find_file, get_file};
+use cmd_terms::{Halt, Outcome};
+use repo_stanza::Control;
+use std::alloc::Global;
+
+// Serves a segment from the repository, and hands on where that stores it; None where it doesn't.
+fn serve_stored<D: Disk, T: DataFolder>(
+    alloc: Global,
+    repo: &mut D,
+    tree: &mut T,
+    stanza: &str,
+    order: &GetOrder<'_>,
+    known: &Control,
+    info: &ArchiveInfo,
+    stored: Stored,
+) -> Result<Option<Stored>, Halt<GetFault>>
+    requires shows { IfSome (T.state tree.old).nodes (λ f. FolderShows f known.now) }
+    requires pair { IfSome (D.state repo.old).view.now (λ f. HasValue stanza.now f (archive_info_of info.now)) }
+    requires valid { IsArchiveInfo (archive_info_of info.now) }
+    ensures serves { IfOk result (ServedAs stanza.now order.now.folder.now order.now.word.now order.now.path.now
+        (D.state repo.old).view.now (T.state tree.old).nodes (T.state tree.new).nodes) }
+    ensures same { IfOk result (λ r. IfSome r (λ file. file ≡ stored)) }
+    ensures lasts { IfOk result (λ r. IsSynced stanza.now (D.state repo.old).view
+        → IsSome (D.state repo.old).view.now → PairAlike stanza.now (D.state repo.old).view → (f : Content)
+        → Leaves (D.state repo.new).view (D.state repo.new).view.moment f
+        → ServedAs stanza.now order.now.folder.now order.now.word.now order.now.path.now
+        (Some f) (T.state tree.old).nodes (T.state tree.new).nodes r) }
+    ensures given { IfOk result (λ r. (s : Stanza) → IsSome (D.state repo.old).view.now
+        → NowRepresents stanza.now (Some s) (D.state repo.old).view.now
+        → GivenAs s order.now.folder.now order.now.word.now order.now.path.now
+        (T.state tree.old).nodes (T.state tree.new).nodes r) }
+    ensures changes { ChangesPath (served_path order.now.folder.now order.now.path.now)
+        (IsServedBySum stanza.now order.now.folder.now order.now.word.now order.now.path.now
+        (D.state repo.old).view.now (T.state tree.old).nodes)
+        (T.state tree.old).nodes (T.state tree.new).nodes }
+    ensures still { StillFolder result (T.state tree.old).nodes (T.state tree.new).nodes }
+    ensures looks { Looks (D.state repo.old) (D.state repo.new) }
+    ensures opened { (T.state tree.new).opened ≡ (T.state tree.old).opened }
+    ensures later { (T.state tree.old).faults ≤ (T.state tree.new).faults }
+    ensures cause { IfErr result (HaltCause
+        (GetCause stanza.now order.now.folder.now order.now.word.now order.now.path.now
+        (D.state repo.old).view.now (T.state tree.old).nodes)
+        (rose_in (record none {
+          repo = Rises (D.state repo.old).faults (D.state repo.new).faults;
+          tree = Rises (T.state tree.old).faults (T.state tree.new).faults;
+        }))) }
+{
+    match get_file(alloc, repo, tree, stanza, order, known, info) {
+        Ok(Outcome::Finished { .. }) => Ok(Some(stored)),
+        Ok(Outcome::Absent { .. }) => Ok(None),
+        Ok(Outcome::FindingsFound { .. }) => unreachable!(),
+        Err(halt) => Err(halt),
+    }
+}
+
+/// Serves a whole segment, and returns where the repository stores it; None where it doesn't.
+pub(crate) fn serve_ahead<D: Disk, S: Disk, T: DataFolder>(
+    alloc: Global,
+    repo: &mut D,
+    spool: &mut S,
+    tree: &mut T,
+    stanza: &str,
+    order: &GetOrder<'_>,
+    segment: &Segment,
+    known: &Control,
+    info: &ArchiveInfo,
+) -> Result<Option<Stored>, Halt<GetFault>>
+    requires whole { order.now.name ≡ OfWhole segment.now }
+    requires shows { IfSome (T.state tree.old).nodes (λ f. FolderShows f known.now) }
+    requires pair { IfSome (D.state repo.old).view.now (λ f. HasValue stanza.now f (archive_info_of info.now)) }
+    requires valid { IsArchiveInfo (archive_info_of info.now) }
+    ensures serves { IfOk result (ServedAs stanza.now order.now.folder.now order.now.word.now order.now.path.now
+        (D.state repo.old).view.now (T.state tree.old).nodes (T.state tree.new).nodes) }
+    ensures kept { IfOk result (λ r. IfSome r (λ file. IsKeptAs stanza.now known.now order.now.name file
+        (D.state repo.old).view.now)) }
+    ensures lasts { IfOk result (λ r. IsSynced stanza.now (D.state repo.old).view
+        → IsSome (D.state repo.old).view.now → PairAlike stanza.now (D.state repo.old).view → (f : Content)
+        → Leaves (D.state repo.new).view (D.state repo.new).view.moment f
+        → ServedAs stanza.now order.now.folder.now order.now.word.now order.now.path.now
+        (Some f) (T.state tree.old).nodes (T.state tree.new).nodes r) }
+    ensures given { IfOk result (λ r. (s : Stanza) → IsSome (D.state repo.old).view.now
+        → IsSome (S.state spool.old).view.now → NowRepresents stanza.now (Some s) (D.state repo.old).view.now
+        → NoTwins (D.state repo.old).view.now (S.state spool.old).view.now
+        → GivenAs s order.now.folder.now order.now.word.now order.now.path.now
+        (T.state tree.old).nodes (T.state tree.new).nodes r) }
+    ensures changes { ChangesPath (served_path order.now.folder.now order.now.path.now)
+        (IsServedBySum stanza.now order.now.folder.now order.now.word.now order.now.path.now
+        (D.state repo.old).view.now (T.state tree.old).nodes)
+        (T.state tree.old).nodes (T.state tree.new).nodes }
+    ensures still { StillFolder result (T.state tree.old).nodes (T.state tree.new).nodes }
+    ensures looks { Looks (D.state repo.old) (D.state repo.new) }
+    ensures opened { (T.state tree.new).opened ≡ (T.state tree.old).opened }
+    ensures later { (T.state tree.old).faults ≤ (T.state tree.new).faults }
+    ensures marks { GivesMarks stanza.now [] (S.state spool.old).view (S.state spool.new).view }
+    ensures beside { StaysBeside stanza.now (S.state spool.old).view (S.state spool.new).view }
+    ensures known { IsSome (S.state spool.old).view.now → IsSome (S.state spool.new).view.now }
+    ensures frame { Frame (S.state spool.old) (S.state spool.new) }
+    ensures cause { IfErr result (HaltCause
+        (GetAheadCause stanza.now order.now.folder.now order.now.word.now order.now.path.now known.now order.now.name
+        (D.state repo.old).view.now (T.state tree.old).nodes (S.state spool.old).view.now)
+        (rose_in (record none {
+          repo = Rises (D.state repo.old).faults (D.state repo.new).faults;
+          spool = Rises (S.state spool.old).faults (S.state spool.new).faults;
+          tree = Rises (T.state tree.old).faults (T.state tree.new).faults;
+        }))) }
+{
+    let stored = match find_file(alloc, repo, stanza, known, info, &order.name) {
+        Ok(Some(stored)) => stored,
+        Ok(None) => return Ok(None),
+        Err(halt) => return Err(halt),
+    };
+    // Where no sum is known of it, the spool isn't asked.
+    let Some(sum) = stored.sum else {
+        return serve_stored(alloc, repo, tree, stanza, order, known, info, stored);
+    };
+    match take_ahead(alloc, spool, tree, stanza, segment, &sum, order.inside) {
+        Ok(true) => Ok(Some(stored)),
+        Ok(false) => serve_stored(alloc, repo, tree, stanza, order, known, info, stored),
+        Err(halt) => Err(halt),
+    }
+}

@@ -1,0 +1,172 @@
+// Stores the file that archive-push is given.
+ghost use Rattle.std.specs.Prelude.{◌≡◌, ◌∷◌, [], ◌≤◌, ◌<◌, ◌^◌, IfOk, IfErr, IfSome, IsSome, IsSomeAnd, string_bytes};
+ghost use Rattle.base_devices.specs.Cause.{Rises};
+ghost use Rattle.base_devices.specs.Crash.{IsAlikeAt};
+ghost use Rattle.base_devices.specs.States.{Frame, LooksAt};
+ghost use Rattle.base_model.specs.declared.clusters.ClusterId.{ClusterId};
+ghost use Rattle.base_model.specs.InfoFiles.{IsArchiveInfo};
+ghost use Rattle.base_model.specs.Names.{archive_info, wal_text};
+ghost use Rattle.base_model.specs.Steps.{Command};
+ghost use Rattle.base_model.specs.Values.{archive_info_of};
+ghost use Rattle.base_model.specs.Walks.{IsSynced};
+ghost use Rattle.repo_pair.specs.Member.{IsMember};
+ghost use Rattle.archive_index.specs.Causes.{limit_of};
+ghost use Rattle.base_traces.specs.Beside.{StaysBeside};
+ghost use Rattle.archive_store.specs.Still.{IsStill};
+ghost use Rattle.cmd_terms.specs.declared.stages.plan.SyncScope.TheVariants.{Looked};
+ghost use Rattle.cmd_terms.specs.Cluster.{FolderShows};
+ghost use Rattle.cmd_terms.specs.Current.{HasValue, AgreesAtPair, id_kept};
+ghost use Rattle.cmd_terms.specs.Halts.{HaltCause};
+ghost use Rattle.cmd_terms.specs.Plans.{archive_lock};
+ghost use Rattle.cmd_terms.specs.Reached.{OnFinished, reached_by};
+ghost use Rattle.cmd_terms.specs.Risen.{none, rose_in};
+ghost use Rattle.cmd_terms.specs.DisksEffect.{OnNone, RepoEffect};
+ghost use Rattle.cmd_archive_push.specs.Causes.{IsCurrent, IsStored, IsLasting, PushCause};
+ghost use Rattle.cmd_archive_push.specs.Commands.{IsPushOf};
+ghost use Rattle.cmd_archive_push.specs.Faults.{push_early};
+ghost use Rattle.cmd_archive_push.specs.LogFile.{IsOpened};
+ghost use Rattle.cmd_archive_push.specs.Outcomes.{pushed_lines};
+ghost use Rattle.cmd_archive_push.specs.WalPath.{wal_path};
+
+use crate::current::id_of;
+use crate::fault::{PushFault, of_store};
+use crate::log_file::{LogFile, open_log_file};
+use crate::order::PushOrder;
+use archive_store::{Pushed, push_from};
+use base_devices::{DataFolder, Disk, Locks};
+use base_model::{ArchiveId, ArchiveInfo, ArchiveName};
+use cmd_terms::{Halt, Outcome};
+use repo_stanza::Control;
+use std::alloc::{AllocError, Global};
+
+/// How many bytes a file of this name may have: 1 GiB of a segment, and 1 MiB of a history.
+pub fn limit_of(name: &ArchiveName) -> u64
+    ensures limit { result ≡ limit_of name.now }
+    ensures least { 65536 ≤ result }
+{
+    match name {
+        ArchiveName::Segment(_) | ArchiveName::Partial(_) => 1 << 30,
+        ArchiveName::History(_) | ArchiveName::Backup(..) => 1 << 20,
+    }
+}
+
+// What a push reports: a warning where the file was stored already.
+fn pushed_lines(alloc: Global, pushed: Pushed, name: &str) -> Result<String, AllocError>
+    ensures { IfOk result (λ lines. string_bytes lines ≡ pushed_lines pushed name.now) }
+{
+    match pushed {
+        Pushed::New => Ok(String::new(alloc)),
+        Pushed::Same => format!(in alloc;
+            "WARN: {name} is already in the archive with the same checksum\n"
+        ),
+    }
+}
+
+// Stores the file that was opened.
+fn store<D: Disk, T: DataFolder>(
+    alloc: Global,
+    repo: &mut D,
+    tree: &mut T,
+    stanza: &str,
+    order: &PushOrder<'_>,
+    known: &Control,
+    id: &ArchiveId,
+    log: &LogFile,
+) -> Result<Outcome, Halt<PushFault>>
+    requires opened { IsOpened (T.state tree.old).nodes (wal_path (wal_text order.now.name)) log.now }
+    requires fits { (id.now.version < 2 ^ 32) × (id.now.number < 2 ^ 32) }
+    requires current { (c : ClusterId) × (id.now ≡ id_kept c)
+        × IsCurrent stanza.now (D.state repo.old).view.now (T.state tree.old).nodes known.now c }
+    ensures does { (command : Command)
+        → IsSomeAnd (T.state tree.old).nodes (λ f. IsPushOf f order.now.folder.now order.now.path.now command)
+        → RepoEffect Looked stanza.now command (reached_by push_early result) (D.state repo.old).view
+        (D.state repo.new).view }
+    ensures stored { IfOk result (λ o. OnFinished o (IsStored stanza.now order.now.folder.now order.now.path.now
+        (T.state tree.old).nodes (D.state repo.old).view.now (D.state repo.new).view.now)) }
+    // No crash removes it.
+    ensures lasts { IfOk result (λ o. IsSynced stanza.now (D.state repo.old).view → IsSome (D.state repo.old).view.now
+        → OnFinished o (λ lines. IsLasting stanza.now order.now.folder.now order.now.path.now
+        (D.state repo.new).view)) }
+    ensures agrees { IfSome (D.state repo.old).view.now (AgreesAtPair stanza.now) → IsSome (D.state repo.old).view.now
+        → IfSome (D.state repo.new).view.now (AgreesAtPair stanza.now) }
+    ensures alike { IsSynced stanza.now (D.state repo.old).view → IsSome (D.state repo.old).view.now
+        → IsAlikeAt (IsMember (archive_info stanza.now)) (D.state repo.old).view
+        → IsAlikeAt (IsMember (archive_info stanza.now)) (D.state repo.new).view }
+    ensures rest { OnNone (reached_by push_early result) (IsStill (D.state repo.old).view (D.state repo.new).view) }
+    ensures looks { LooksAt (T.state tree.old) (T.state tree.new) }
+    ensures beside { StaysBeside stanza.now (D.state repo.old).view (D.state repo.new).view }
+    ensures frame { Frame (D.state repo.old) (D.state repo.new) }
+    ensures cause { IfErr result (HaltCause
+        (PushCause stanza.now order.now.folder.now order.now.path.now (D.state repo.old).view.now
+        (T.state tree.old).nodes)
+        (rose_in (record none {
+          repo = Rises (D.state repo.old).faults (D.state repo.new).faults;
+          tree = Rises (T.state tree.old).faults (T.state tree.new).faults;
+        }))) }
+{
+    match push_from(
+        alloc,
+        repo,
+        tree,
+        stanza,
+        id,
+        &order.name,
+        known.system,
+        log,
+        log.prefix(),
+    ) {
+        Ok((pushed, _)) => {
+            let lines = pushed_lines(alloc, pushed, &order.text)?;
+            Ok(Outcome::Finished { lines })
+        }
+        Err(fault) => Err(of_store(fault)),
+    }
+}
+
+/// Stores the file under the id of the current cluster. As long as it has the locks nobody can release them.
+pub fn push_file<D: Disk, T: DataFolder, K: Locks>(
+    alloc: Global,
+    repo: &mut D,
+    tree: &mut T,
+    _locks: &K,
+    stanza: &str,
+    order: PushOrder<'_>,
+    known: &Control,
+    info: &ArchiveInfo,
+) -> Result<Outcome, Halt<PushFault>>
+    requires locked { (K.state _locks.now).taken ≡ archive_lock stanza.now ∷ [] }
+    requires shows { IfSome (T.state tree.old).nodes (λ f. FolderShows f known.now) }
+    requires pair { IfSome (D.state repo.old).view.now (λ f. HasValue stanza.now f (archive_info_of info.now)) }
+    requires valid { IsArchiveInfo (archive_info_of info.now) }
+    // The command's steps are done, or a part of them, or none where it is refused.
+    ensures does { (command : Command)
+        → IsSomeAnd (T.state tree.old).nodes (λ f. IsPushOf f order.entry.folder.now order.entry.path.now command)
+        → RepoEffect Looked stanza.now command (reached_by push_early result) (D.state repo.old).view
+        (D.state repo.new).view }
+    ensures stored { IfOk result (λ o. OnFinished o (IsStored stanza.now order.entry.folder.now order.entry.path.now
+        (T.state tree.old).nodes (D.state repo.old).view.now (D.state repo.new).view.now)) }
+    // No crash removes it.
+    ensures lasts { IfOk result (λ o. IsSynced stanza.now (D.state repo.old).view → IsSome (D.state repo.old).view.now
+        → OnFinished o (λ lines. IsLasting stanza.now order.entry.folder.now order.entry.path.now
+        (D.state repo.new).view)) }
+    ensures agrees { IfSome (D.state repo.old).view.now (AgreesAtPair stanza.now) → IsSome (D.state repo.old).view.now
+        → IfSome (D.state repo.new).view.now (AgreesAtPair stanza.now) }
+    ensures alike { IsSynced stanza.now (D.state repo.old).view → IsSome (D.state repo.old).view.now
+        → IsAlikeAt (IsMember (archive_info stanza.now)) (D.state repo.old).view
+        → IsAlikeAt (IsMember (archive_info stanza.now)) (D.state repo.new).view }
+    ensures rest { OnNone (reached_by push_early result) (IsStill (D.state repo.old).view (D.state repo.new).view) }
+    ensures looks { LooksAt (T.state tree.old) (T.state tree.new) }
+    ensures beside { StaysBeside stanza.now (D.state repo.old).view (D.state repo.new).view }
+    ensures frame { Frame (D.state repo.old) (D.state repo.new) }
+    ensures cause { IfErr result (HaltCause
+        (PushCause stanza.now order.entry.folder.now order.entry.path.now (D.state repo.old).view.now
+        (T.state tree.old).nodes)
+        (rose_in (record none {
+          repo = Rises (D.state repo.old).faults (D.state repo.new).faults;
+          tree = Rises (T.state tree.old).faults (T.state tree.new).faults;
+        }))) }
+{
+    let id = id_of(info, known)?;
+    let log = open_log_file(alloc, tree, order.path, &order.text, limit_of(&order.name))?;
+    store(alloc, repo, tree, stanza, &order, known, &id, &log)
+}

@@ -1,0 +1,14 @@
+pub mod Stores
+pub mod Goings
+pub mod Pushes
+pub mod Put
+pub mod Following
+pub mod Groups
+pub mod Commands
+pub mod Kept
+pub mod Ran
+pub mod Readies
+pub mod Wholes
+pub mod Paired
+pub mod Drains
+pub mod Statuses

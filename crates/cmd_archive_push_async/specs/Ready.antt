@@ -1,0 +1,47 @@
+-- Which files of the log are ready (PostgreSQL: a server makes `archive_status/NAME.ready` for each file that it wants
+-- archived).
+use Rattle.std.specs.Prelude.{◌≡◌, ◌≢◌, ◌++◌, Bool, true, false, List, map, codes, IsSome, string_bytes}
+use Rattle.base_devices.specs.Content.{Name}
+use Rattle.base_devices.specs.Order.{are_in_order}
+use Rattle.base_devices.specs.DataFolder.{Nodes, file_bytes}
+use Rattle.base_devices.specs.declared.tree.Node.{Node}
+use Rattle.base_devices.specs.declared.tree.Node.TheVariants.{File, Folder, Link, Other}
+use Rattle.base_devices.specs.declared.tree.FolderEntry.{FolderEntry}
+use Rattle.base_model.specs.declared.wal.ArchiveName.{ArchiveName}
+use Rattle.base_model.specs.Names.{wal_text}
+use Rattle.base_model.specs.Represents.{IsWalName}
+use Rattle.base_model.specs.Text.{In}
+
+-- where the server says that the file is ready
+abbrev pub ready_path : ArchiveName → Name
+ready_path name = codes "pg_wal/archive_status/" ++ (wal_text name ++ codes ".ready")
+
+-- it is
+abbrev pub IsReady : Nodes → ArchiveName → Type 0
+IsReady f name = IsSome (file_bytes (f (ready_path name)))
+
+-- these are the files that are ready, each once, in byte order of their names
+pub record AreReady (f : Nodes) (names : List ArchiveName) : Type 0 where
+  pub each : (name : ArchiveName) → In name names → IsReady f name
+  pub all : (name : ArchiveName) → IsWalName name → IsReady f name → In name names
+  pub order : are_in_order (map ready_path names) ≡ true
+
+-- ---- of one node of a listing
+
+-- the node is a file
+abbrev pub is_file : Node → Bool
+is_file (File size time) = true
+is_file Folder = false
+is_file Link = false
+is_file Other = false
+
+-- the node says that this file is ready
+pub record ShowsReady (seen : FolderEntry) (name : ArchiveName) : Type 0 where
+  pub fits : IsWalName name
+  pub path : string_bytes seen.path ≡ ready_path name
+  pub file : is_file seen.node ≡ true
+
+-- it says so of none
+abbrev pub PassesReady : FolderEntry → Type 0
+PassesReady seen = (name : ArchiveName) → IsWalName name → is_file seen.node ≡ true
+    → string_bytes seen.path ≢ ready_path name

@@ -1,0 +1,79 @@
+// Stores the files that are ready under the id of the current cluster.
+ghost use Rattle.std.specs.Prelude.{◌≡◌, ◌∷◌, [], Some, IfOk, IfErr, IfSome, OnOk, is_ok};
+ghost use Rattle.base_devices.specs.Cause.{Rises};
+ghost use Rattle.base_devices.specs.States.{Frame, LooksAt};
+ghost use Rattle.base_devices.specs.DataFolder.{Nodes};
+ghost use Rattle.base_model.specs.InfoFiles.{IsArchiveInfo};
+ghost use Rattle.base_model.specs.Values.{archive_info_of};
+ghost use Rattle.base_traces.specs.Beside.{StaysBeside};
+ghost use Rattle.cmd_terms.specs.declared.stages.plan.SyncScope.TheVariants.{Whole};
+ghost use Rattle.cmd_terms.specs.Cluster.{FolderShows};
+ghost use Rattle.cmd_terms.specs.Current.{HasValue};
+ghost use Rattle.cmd_terms.specs.Halts.{HaltCause};
+ghost use Rattle.cmd_terms.specs.Plans.{archive_lock};
+ghost use Rattle.cmd_terms.specs.Reached.{OnFinished, reached_by};
+ghost use Rattle.cmd_terms.specs.Risen.{rose_in};
+ghost use Rattle.cmd_terms.specs.DisksEffect.{On, one, DisksEffect};
+ghost use Rattle.cmd_archive_push_async.specs.Ends.{three};
+ghost use Rattle.cmd_archive_push_async.specs.Paired.{KeepsPair};
+ghost use Rattle.cmd_archive_push_async.specs.Whole.{HasMarksOf};
+ghost use Rattle.cmd_archive_push_async.specs.Drained.{IsDrainOf, IsDrained, DrainCause, drain_early};
+
+use crate::files::drain;
+use base_devices::{DataFolder, Disk, Locks};
+use base_model::ArchiveInfo;
+use cmd_archive_push::{PushFault, id_of};
+use cmd_terms::{Halt, Outcome};
+use repo_stanza::Control;
+use std::alloc::Global;
+
+/// Stores each file of the log that is ready, and marks in the spool the result of it. As long as it has the locks
+/// nobody can release them.
+pub fn drain_stanza<D: Disk, S: Disk, T: DataFolder, K: Locks>(
+    alloc: Global,
+    repo: &mut D,
+    spool: &mut S,
+    tree: &mut T,
+    _locks: &K,
+    stanza: &str,
+    known: &Control,
+    info: &ArchiveInfo,
+) -> Result<Outcome, Halt<PushFault>>
+    requires locked { (K.state _locks.now).taken ≡ archive_lock stanza.now ∷ [] }
+    requires shows { IfSome (T.state tree.old).nodes (λ f. FolderShows f known.now) }
+    requires pair { IfSome (D.state repo.old).view.now (λ f. HasValue stanza.now f (archive_info_of info.now)) }
+    requires valid { IsArchiveInfo (archive_info_of info.now) }
+    // It is one command of the log: all of it, or a part, or nothing where it is refused.
+    ensures runs { (f : Nodes) → (T.state tree.old).nodes ≡ Some f
+        → On (one (IsDrainOf f (is_ok result))) (λ command. DisksEffect Whole stanza.now command
+        (reached_by drain_early result) (D.state repo.old).view (S.state spool.old).view (D.state repo.new).view
+        (S.state spool.new).view) }
+    ensures drained { IfOk result (λ o. OnFinished o (λ lines. (f : Nodes) → (T.state tree.old).nodes ≡ Some f
+        → IsDrained stanza.now f known.now (D.state repo.old).view.now (S.state spool.old).view.now
+        (S.state spool.new).view.now lines)) }
+    // At Ok a crash leaves the marks unchanged.
+    ensures lasts { OnOk result (HasMarksOf stanza.now (S.state spool.old).view (S.state spool.new).view) }
+    // Members of the archive pair that have the same bytes stay so, in all that a crash leaves too.
+    ensures pair { KeepsPair stanza.now (D.state repo.old).view (D.state repo.new).view }
+    ensures beside { StaysBeside stanza.now (D.state repo.old).view (D.state repo.new).view }
+    ensures spool_beside { StaysBeside stanza.now (S.state spool.old).view (S.state spool.new).view }
+    ensures repo_frame { Frame (D.state repo.old) (D.state repo.new) }
+    ensures spool_frame { Frame (S.state spool.old) (S.state spool.new) }
+    ensures looks { LooksAt (T.state tree.old) (T.state tree.new) }
+    ensures cause { IfErr result (HaltCause
+        (DrainCause stanza.now (D.state repo.old).view.now (D.state repo.new).view.now (T.state tree.old).nodes)
+        (rose_in (three (Rises (D.state repo.old).faults (D.state repo.new).faults)
+        (Rises (S.state spool.old).faults (S.state spool.new).faults)
+        (Rises (T.state tree.old).faults (T.state tree.new).faults)))) }
+{
+    let id = match id_of(info, known) {
+        Ok(id) => id,
+        Err(halt) => return Err(halt),
+    };
+    match drain(alloc, repo, spool, tree, stanza, id, known.system) {
+        Ok(_) => Ok(Outcome::Finished {
+            lines: String::new(alloc),
+        }),
+        Err(halt) => Err(halt),
+    }
+}

@@ -1,0 +1,110 @@
+// Stores files one after the other.
+ghost use Rattle.std.specs.Prelude.{◌≡◌, ◌+◌, ◌<◌, ◌^◌, Some, IfErr};
+ghost use Rattle.base_devices.specs.Cause.{Rises};
+ghost use Rattle.base_devices.specs.States.{Frame, LooksAt};
+ghost use Rattle.base_devices.specs.DataFolder.{Nodes};
+ghost use Rattle.archive_index.specs.Stored.{ChangesArchive};
+ghost use Rattle.cmd_terms.specs.Halts.{HaltCause};
+ghost use Rattle.cmd_terms.specs.Risen.{rose_in};
+ghost use Rattle.cmd_archive_push_async.specs.Draining.{Drains, end_of};
+ghost use Rattle.cmd_archive_push_async.specs.Paired.{KeepsPair};
+ghost use Rattle.cmd_archive_push_async.specs.Ends.{EndCauseOf, three};
+ghost use Rattle.cmd_archive_push_async.specs.Whole.{DrainsNamed};
+
+use crate::files::marked_store::store_file;
+use crate::files::push_marks::{Drained, of_spool};
+use archive_spool::clear_marks;
+use base_devices::{DataFolder, Disk};
+use base_model::{ArchiveId, ArchiveName};
+use cmd_archive_push::PushFault;
+use cmd_terms::Halt;
+use std::alloc::Global;
+
+impl Drained {
+    // With what was done with one file more.
+    fn with(self, more: Drained) -> Drained
+        requires pushed { self.pushed + more.pushed < 2 ^ 64 }
+        requires refused { self.refused + more.refused < 2 ^ 64 }
+        ensures pushed { result.pushed ≡ self.pushed + more.pushed }
+        ensures refused { result.refused ≡ self.refused + more.refused }
+    {
+        Drained {
+            pushed: self.pushed + more.pushed,
+            refused: self.refused + more.refused,
+        }
+    }
+}
+
+/// Stores the files of these names that the data folder has, in their order, and marks the result of each.
+pub(crate) fn drain_files<D: Disk, S: Disk, T: DataFolder>(
+    alloc: Global,
+    repo: &mut D,
+    spool: &mut S,
+    tree: &mut T,
+    stanza: &str,
+    id: ArchiveId,
+    system: u64,
+    names: &[ArchiveName],
+) -> Result<Drained, Halt<PushFault>>
+    ensures drains { (f : Nodes) → (T.state tree.old).nodes ≡ Some f → Drains stanza.now id system f names.now
+        (end_of result) (D.state repo.old).view (D.state repo.new).view (S.state spool.old).view
+        (S.state spool.new).view }
+    ensures pair { KeepsPair stanza.now (D.state repo.old).view (D.state repo.new).view }
+    ensures repo_only { ChangesArchive stanza.now (D.state repo.old).view (D.state repo.new).view }
+    ensures spool_only { ChangesArchive stanza.now (S.state spool.old).view (S.state spool.new).view }
+    ensures repo_frame { Frame (D.state repo.old) (D.state repo.new) }
+    ensures spool_frame { Frame (S.state spool.old) (S.state spool.new) }
+    ensures looks { LooksAt (T.state tree.old) (T.state tree.new) }
+    ensures cause { IfErr result (HaltCause
+        (EndCauseOf stanza.now id (T.state tree.old).nodes (D.state repo.new).view.now names.now)
+        (rose_in (three (Rises (D.state repo.old).faults (D.state repo.new).faults)
+        (Rises (S.state spool.old).faults (S.state spool.new).faults)
+        (Rises (T.state tree.old).faults (T.state tree.new).faults)))) }
+{
+    let mut drained = Drained {
+        pushed: 0,
+        refused: 0,
+    };
+    for name in names {
+        let more = match store_file(alloc, repo, spool, tree, stanza, id, *name, system) {
+            Ok(more) => more,
+            Err(halt) => return Err(halt),
+        };
+        drained = drained.with(more);
+    }
+    Ok(drained)
+}
+
+/// Removes marks of no use. Then it stores the files of these names that the data folder has, in their order, and
+/// marks the result of each.
+pub(crate) fn drain_named<D: Disk, S: Disk, T: DataFolder>(
+    alloc: Global,
+    repo: &mut D,
+    spool: &mut S,
+    tree: &mut T,
+    stanza: &str,
+    id: ArchiveId,
+    system: u64,
+    names: &[ArchiveName],
+) -> Result<Drained, Halt<PushFault>>
+    ensures drains { (f : Nodes) → (T.state tree.old).nodes ≡ Some f
+        → DrainsNamed stanza.now id system f names.now
+        (end_of result) (D.state repo.old).view (D.state repo.new).view (S.state spool.old).view
+        (S.state spool.new).view }
+    ensures pair { KeepsPair stanza.now (D.state repo.old).view (D.state repo.new).view }
+    ensures repo_only { ChangesArchive stanza.now (D.state repo.old).view (D.state repo.new).view }
+    ensures spool_only { ChangesArchive stanza.now (S.state spool.old).view (S.state spool.new).view }
+    ensures repo_frame { Frame (D.state repo.old) (D.state repo.new) }
+    ensures spool_frame { Frame (S.state spool.old) (S.state spool.new) }
+    ensures looks { LooksAt (T.state tree.old) (T.state tree.new) }
+    ensures cause { IfErr result (HaltCause
+        (EndCauseOf stanza.now id (T.state tree.old).nodes (D.state repo.new).view.now names.now)
+        (rose_in (three (Rises (D.state repo.old).faults (D.state repo.new).faults)
+        (Rises (S.state spool.old).faults (S.state spool.new).faults)
+        (Rises (T.state tree.old).faults (T.state tree.new).faults)))) }
+{
+    match clear_marks(alloc, spool, stanza, names) {
+        Ok(()) => drain_files(alloc, repo, spool, tree, stanza, id, system, names),
+        Err(fault) => Err(of_spool(fault)),
+    }
+}

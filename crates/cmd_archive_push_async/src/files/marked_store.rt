@@ -1,0 +1,130 @@
+// One file of the log is stored, and marked in the spool.
+ghost use Rattle.std.specs.Prelude.{◌≡◌, ◌≤◌, ◌+◌, ◌∷◌, [], Some, IfOk, IfErr};
+ghost use Rattle.base_devices.specs.Cause.{Rises};
+ghost use Rattle.base_devices.specs.States.{Frame, LooksAt};
+ghost use Rattle.base_devices.specs.DataFolder.{Nodes};
+ghost use Rattle.base_model.specs.Names.{wal_text};
+ghost use Rattle.archive_index.specs.Stored.{ChangesArchive};
+ghost use Rattle.cmd_terms.specs.Halts.{HaltCause};
+ghost use Rattle.cmd_terms.specs.Risen.{rose_in};
+ghost use Rattle.cmd_archive_push.specs.LogFile.{IsOpened};
+ghost use Rattle.cmd_archive_push.specs.WalPath.{wal_path};
+ghost use Rattle.cmd_archive_push_async.specs.Draining.{Drains, end_of};
+ghost use Rattle.cmd_archive_push_async.specs.Paired.{KeepsPair};
+ghost use Rattle.cmd_archive_push_async.specs.Ends.{EndCause, SkipsMissing, is_missing, three};
+
+use crate::files::push_marks::{Drained, mark_tried};
+use crate::files::pushing::push_log;
+use base_devices::{DataFolder, Disk};
+use base_model::{ArchiveId, ArchiveName};
+use cmd_archive_push::{LogFile, PushFault, limit_of, open_log_file};
+use cmd_terms::Halt;
+use repo_names::archive_name_text;
+use std::alloc::Global;
+
+fn is_missing(halt: &Halt<PushFault>) -> bool
+    ensures { result ≡ is_missing halt.now }
+{
+    match halt {
+        Halt::Refused(fault) => match fault {
+            PushFault::SegmentMissing { .. } => true,
+            PushFault::SegmentName { .. }
+            | PushFault::PathOutside { .. }
+            | PushFault::StanzaMismatch { .. }
+            | PushFault::TooLong { .. }
+            | PushFault::HeaderForm { .. }
+            | PushFault::SegmentSize { .. }
+            | PushFault::HeaderMismatch { .. }
+            | PushFault::Ambiguous { .. }
+            | PushFault::Duplicate { .. } => false,
+        },
+        Halt::Failed(_) | Halt::NoMemory => false,
+    }
+}
+
+// A file that isn't there is passed over.
+fn skip_missing(halt: Halt<PushFault>) -> Result<Drained, Halt<PushFault>>
+    ensures { SkipsMissing halt result }
+{
+    if is_missing(&halt) {
+        Ok(Drained {
+            pushed: 0,
+            refused: 0,
+        })
+    } else {
+        Err(halt)
+    }
+}
+
+// Stores a file that was opened, and marks it.
+fn store_log<D: Disk, S: Disk, T: DataFolder>(
+    alloc: Global,
+    repo: &mut D,
+    spool: &mut S,
+    tree: &mut T,
+    stanza: &str,
+    id: ArchiveId,
+    name: ArchiveName,
+    system: u64,
+    log: &LogFile,
+) -> Result<Drained, Halt<PushFault>>
+    requires opened { IsOpened (T.state tree.old).nodes (wal_path (wal_text name)) log.now }
+    ensures drains { (f : Nodes) → (T.state tree.old).nodes ≡ Some f → Drains stanza.now id system f (name ∷ [])
+        (end_of result) (D.state repo.old).view (D.state repo.new).view (S.state spool.old).view
+        (S.state spool.new).view }
+    ensures few { IfOk result (λ drained. drained.pushed + drained.refused ≤ 1) }
+    ensures pair { KeepsPair stanza.now (D.state repo.old).view (D.state repo.new).view }
+    ensures repo_only { ChangesArchive stanza.now (D.state repo.old).view (D.state repo.new).view }
+    ensures spool_only { ChangesArchive stanza.now (S.state spool.old).view (S.state spool.new).view }
+    ensures repo_frame { Frame (D.state repo.old) (D.state repo.new) }
+    ensures spool_frame { Frame (S.state spool.old) (S.state spool.new) }
+    ensures looks { LooksAt (T.state tree.old) (T.state tree.new) }
+    ensures cause { IfErr result (HaltCause
+        (EndCause stanza.now id (T.state tree.old).nodes (D.state repo.new).view.now name)
+        (rose_in (three (Rises (D.state repo.old).faults (D.state repo.new).faults)
+        (Rises (S.state spool.old).faults (S.state spool.new).faults)
+        (Rises (T.state tree.old).faults (T.state tree.new).faults)))) }
+{
+    match push_log(alloc, repo, tree, stanza, id, name, system, log) {
+        Ok(tried) => mark_tried(alloc, spool, stanza, name, &tried),
+        Err(halt) => Err(halt),
+    }
+}
+
+/// Stores the file of this name, where the data folder has it, and marks it.
+pub(crate) fn store_file<D: Disk, S: Disk, T: DataFolder>(
+    alloc: Global,
+    repo: &mut D,
+    spool: &mut S,
+    tree: &mut T,
+    stanza: &str,
+    id: ArchiveId,
+    name: ArchiveName,
+    system: u64,
+) -> Result<Drained, Halt<PushFault>>
+    ensures drains { (f : Nodes) → (T.state tree.old).nodes ≡ Some f → Drains stanza.now id system f (name ∷ [])
+        (end_of result) (D.state repo.old).view (D.state repo.new).view (S.state spool.old).view
+        (S.state spool.new).view }
+    ensures few { IfOk result (λ drained. drained.pushed + drained.refused ≤ 1) }
+    ensures pair { KeepsPair stanza.now (D.state repo.old).view (D.state repo.new).view }
+    ensures repo_only { ChangesArchive stanza.now (D.state repo.old).view (D.state repo.new).view }
+    ensures spool_only { ChangesArchive stanza.now (S.state spool.old).view (S.state spool.new).view }
+    ensures repo_frame { Frame (D.state repo.old) (D.state repo.new) }
+    ensures spool_frame { Frame (S.state spool.old) (S.state spool.new) }
+    ensures looks { LooksAt (T.state tree.old) (T.state tree.new) }
+    ensures cause { IfErr result (HaltCause
+        (EndCause stanza.now id (T.state tree.old).nodes (D.state repo.new).view.now name)
+        (rose_in (three (Rises (D.state repo.old).faults (D.state repo.new).faults)
+        (Rises (S.state spool.old).faults (S.state spool.new).faults)
+        (Rises (T.state tree.old).faults (T.state tree.new).faults)))) }
+{
+    let Ok(text) = archive_name_text(alloc, &name) else {
+        return Err(Halt::NoMemory);
+    };
+    let limit = limit_of(&name);
+    let log = match open_log_file(alloc, tree, text.as_str(), text.as_str(), limit) {
+        Ok(log) => log,
+        Err(halt) => return skip_missing(halt),
+    };
+    store_log(alloc, repo, spool, tree, stanza, id, name, system, &log)
+}

@@ -1,0 +1,73 @@
+// The files of the log that are ready.
+ghost use Rattle.std.specs.Prelude.{◌≡◌, IfOk, IfErr, IfSome, IfNone};
+ghost use Rattle.base_devices.specs.Cause.{Rises};
+ghost use Rattle.base_devices.specs.States.{LooksAt};
+ghost use Rattle.archive_index.specs.Listing.{Picks};
+ghost use Rattle.cmd_terms.specs.declared.stages.object.Object.TheVariants.{TheDataFolder as TheFolder};
+ghost use Rattle.cmd_terms.specs.Halts.{HaltCause, Never, Only};
+ghost use Rattle.cmd_archive_push_async.specs.Ready.{AreReady, ShowsReady, PassesReady, is_file};
+
+use archive_spool::name_between;
+use base_devices::{DataFolder, FolderEntry, Node};
+use base_model::ArchiveName;
+use base_text::NoMemory;
+use cmd_archive_push::PushFault;
+use cmd_terms::{Halt, Object, halted};
+use std::alloc::Global;
+
+fn is_file(node: Node) -> bool
+    ensures { result ≡ is_file node }
+{
+    match node {
+        Node::File { .. } => true,
+        Node::Folder | Node::Link | Node::Other => false,
+    }
+}
+
+// The file that is ready by this node.
+fn ready_name(seen: &FolderEntry) -> Option<ArchiveName>
+    ensures value { IfSome result (ShowsReady seen.now) }
+    ensures none { IfNone result (PassesReady seen.now) }
+{
+    if !is_file(seen.node) {
+        return None;
+    }
+    name_between(
+        seen.path.as_bytes(),
+        "pg_wal/archive_status/".as_bytes(),
+        ".ready".as_bytes(),
+    )
+}
+
+// The files that are ready by a listing.
+fn names_among(alloc: Global, seen: &[FolderEntry]) -> Result<Vec<ArchiveName>, NoMemory>
+    ensures { IfOk result (λ names. Picks ShowsReady PassesReady seen.now names.items) }
+{
+    let mut names = Vec::new(alloc);
+    for each in seen {
+        if let Some(name) = ready_name(each) {
+            names.push(name)?;
+        }
+    }
+    Ok(names)
+}
+
+/// The files of the log that are ready, in byte order of their names.
+pub(crate) fn ready_names<T: DataFolder>(
+    alloc: Global,
+    tree: &mut T,
+) -> Result<Vec<ArchiveName>, Halt<PushFault>>
+    ensures ready { IfOk result (λ names. IfSome (T.state tree.old).nodes (λ f. AreReady f names.items)) }
+    ensures looks { LooksAt (T.state tree.old) (T.state tree.new) }
+    ensures cause { IfErr result (HaltCause Never
+        (Only TheFolder (Rises (T.state tree.old).faults (T.state tree.new).faults))) }
+{
+    let seen = match tree.list(alloc) {
+        Ok(seen) => seen,
+        Err(error) => return Err(halted(Object::TheDataFolder, error)),
+    };
+    match names_among(alloc, &seen) {
+        Ok(names) => Ok(names),
+        Err(_) => Err(Halt::NoMemory),
+    }
+}

@@ -1,0 +1,62 @@
+// Stores all files of the log that are ready.
+ghost use Rattle.std.specs.Prelude.{◌≡◌, Some, IfErr, OnOk};
+ghost use Rattle.base_devices.specs.Cause.{Rises};
+ghost use Rattle.base_devices.specs.States.{Frame, LooksAt};
+ghost use Rattle.base_devices.specs.DataFolder.{Nodes};
+ghost use Rattle.archive_index.specs.Stored.{ChangesArchive};
+ghost use Rattle.cmd_terms.specs.Halts.{HaltCause};
+ghost use Rattle.cmd_terms.specs.Risen.{rose_in};
+ghost use Rattle.cmd_archive_push_async.specs.Draining.{end_of};
+ghost use Rattle.cmd_archive_push_async.specs.Paired.{KeepsPair};
+ghost use Rattle.cmd_archive_push_async.specs.Ends.{three};
+ghost use Rattle.cmd_archive_push_async.specs.Whole.{DrainsReady, EndCauseReady, HasMarksOf};
+
+use crate::files::file_loop::drain_named;
+use crate::files::mark_sync::sync_marks;
+use crate::files::push_marks::Drained;
+use crate::files::ready::ready_names;
+use base_devices::{DataFolder, Disk};
+use base_model::ArchiveId;
+use cmd_archive_push::PushFault;
+use cmd_terms::Halt;
+use std::alloc::Global;
+
+/// Stores each file of the log that is ready and that the data folder has, in byte order of their names, and marks in
+/// the spool the result of each. The id is that of the stanza's current cluster. Marks of no use are removed before.
+pub fn drain<D: Disk, S: Disk, T: DataFolder>(
+    alloc: Global,
+    repo: &mut D,
+    spool: &mut S,
+    tree: &mut T,
+    stanza: &str,
+    id: ArchiveId,
+    system: u64,
+) -> Result<Drained, Halt<PushFault>>
+    // Each file has its mark, and under that id the two disks change by the command that stores these files.
+    ensures drains { (f : Nodes) → (T.state tree.old).nodes ≡ Some f → DrainsReady stanza.now id system f
+        (end_of result) (D.state repo.old).view (D.state repo.new).view (S.state spool.old).view
+        (S.state spool.new).view }
+    // At Ok a crash leaves the marks unchanged.
+    ensures lasts { OnOk result (HasMarksOf stanza.now (S.state spool.old).view (S.state spool.new).view) }
+    ensures pair { KeepsPair stanza.now (D.state repo.old).view (D.state repo.new).view }
+    ensures repo_only { ChangesArchive stanza.now (D.state repo.old).view (D.state repo.new).view }
+    ensures spool_only { ChangesArchive stanza.now (S.state spool.old).view (S.state spool.new).view }
+    ensures repo_frame { Frame (D.state repo.old) (D.state repo.new) }
+    ensures spool_frame { Frame (S.state spool.old) (S.state spool.new) }
+    ensures looks { LooksAt (T.state tree.old) (T.state tree.new) }
+    ensures cause { IfErr result (HaltCause
+        (EndCauseReady stanza.now id (T.state tree.old).nodes (D.state repo.new).view.now)
+        (rose_in (three (Rises (D.state repo.old).faults (D.state repo.new).faults)
+        (Rises (S.state spool.old).faults (S.state spool.new).faults)
+        (Rises (T.state tree.old).faults (T.state tree.new).faults)))) }
+{
+    let names = match ready_names(alloc, tree) {
+        Ok(names) => names,
+        Err(halt) => return Err(halt),
+    };
+    let drained = match drain_named(alloc, repo, spool, tree, stanza, id, system, &names) {
+        Ok(drained) => drained,
+        Err(halt) => return Err(halt),
+    };
+    sync_marks(alloc, spool, stanza, drained)
+}

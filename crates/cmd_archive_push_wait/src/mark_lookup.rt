@@ -1,0 +1,75 @@
+// The spool is asked whether a file was stored, and then the names of its marks are synced.
+ghost use Rattle.std.specs.Prelude.{◌≡◌, [], false, IfOk, IfErr, IfSome, IsSome, OnOk};
+ghost use Rattle.base_text.specs.Sum.{IsSum};
+ghost use Rattle.base_devices.specs.Cause.{Rises};
+ghost use Rattle.base_devices.specs.Content.{LiesDirectlyIn};
+ghost use Rattle.base_devices.specs.Moments.{SyncsFolders, is_unsynced};
+ghost use Rattle.base_devices.specs.States.{Frame, Looks};
+ghost use Rattle.base_model.specs.Names.{receipt_name};
+ghost use Rattle.cmd_terms.specs.declared.stages.object.Object.TheVariants.{Spool as TheSpool};
+ghost use Rattle.cmd_terms.specs.Halts.{HaltCause, Never, Only};
+ghost use Rattle.archive_index.specs.Stored.{ChangesArchive};
+ghost use Rattle.archive_spool.specs.declared.spool_query.Asked.TheVariants.{NotYet as Nothing};
+ghost use Rattle.archive_spool.specs.Asking.{Answers};
+ghost use Rattle.archive_spool.specs.Marks.{GivesMarks};
+ghost use Rattle.cmd_archive_push_wait.specs.Causes.{LongCause};
+ghost use Rattle.cmd_archive_push_wait.specs.Leaving.{IsBare, IsClear, marks_folder};
+
+use crate::fault::{QueueFault, of_mark};
+use archive_spool::{Asked, ask};
+use base_devices::Disk;
+use base_model::ArchiveName;
+use base_text::Sum;
+use cmd_terms::{Halt, Object, halted};
+use std::alloc::Global;
+
+// Syncs the names of marks.
+fn sync_marks<S: Disk>(alloc: Global, spool: &mut S, stanza: &str) -> Result<(), Halt<QueueFault>>
+    ensures settled { OnOk result (SyncsFolders (LiesDirectlyIn (marks_folder stanza.now)) (S.state spool.old).view
+        (S.state spool.new).view) }
+    ensures looks { Looks (S.state spool.old) (S.state spool.new) }
+    ensures cause { IfErr result (HaltCause Never
+        (Only TheSpool (Rises (S.state spool.old).faults (S.state spool.new).faults))) }
+{
+    let Ok(folder) = format!(in alloc; "archive/{stanza}/out") else {
+        return Err(Halt::NoMemory);
+    };
+    match spool.sync_directory(folder.as_str()) {
+        Ok(()) => Ok(()),
+        Err(error) => Err(halted(Object::Spool, error)),
+    }
+}
+
+/// Returns what the spool says of a file with this sum, and removes its marks. Where that is nothing, no crash brings
+/// a receipt of it back.
+pub(crate) fn look<S: Disk>(
+    alloc: Global,
+    spool: &mut S,
+    stanza: &str,
+    name: ArchiveName,
+    sum: &Sum,
+) -> Result<Asked, Halt<QueueFault>>
+    requires { IsSum sum.now.0 }
+    ensures answers { IfOk result
+        (λ asked. IfSome (S.state spool.old).view.now (λ f. Answers stanza.now f name sum.now.0 asked)) }
+    ensures clear { OnOk result (IfSome (S.state spool.new).view.now (IsClear stanza.now name)) }
+    ensures bare { IfOk result (λ asked. asked ≡ Nothing → IsSome (S.state spool.old).view.now
+        → is_unsynced (S.state spool.old).view (receipt_name stanza.now name) ≡ false
+        → IsBare stanza.now name (S.state spool.new).view) }
+    ensures known { IsSome (S.state spool.old).view.now → IsSome (S.state spool.new).view.now }
+    ensures marks { GivesMarks stanza.now [] (S.state spool.old).view (S.state spool.new).view }
+    ensures only { ChangesArchive stanza.now (S.state spool.old).view (S.state spool.new).view }
+    ensures frame { Frame (S.state spool.old) (S.state spool.new) }
+    ensures cause { IfErr result (HaltCause (LongCause stanza.now name (S.state spool.old).view.now)
+        (Only TheSpool (Rises (S.state spool.old).faults (S.state spool.new).faults))) }
+{
+    match ask(alloc, spool, stanza, &name, sum) {
+        Ok(Asked::Done) => Ok(Asked::Done),
+        Ok(Asked::Reported { code, text }) => Ok(Asked::Reported { code, text }),
+        Ok(Asked::NotYet) => match sync_marks(alloc, spool, stanza) {
+            Ok(()) => Ok(Asked::NotYet),
+            Err(halt) => Err(halt),
+        },
+        Err(fault) => Err(of_mark(fault)),
+    }
+}

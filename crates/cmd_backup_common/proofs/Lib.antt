@@ -1,0 +1,11 @@
+pub mod StampOrder
+pub mod Latest
+pub mod Free
+pub mod Priors
+pub mod Statuses
+pub mod Links
+pub mod Beginnings
+pub mod Startings
+pub mod Makings
+pub mod Causes
+pub mod Takings

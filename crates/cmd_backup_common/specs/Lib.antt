@@ -1,0 +1,11 @@
+pub mod DraftsFaults
+pub mod Seconds
+pub mod Full
+pub mod Priors
+pub mod Drafted
+pub mod PartsFaults
+pub mod Texts
+pub mod Beginning
+pub mod Drafting
+pub mod Making
+pub mod Causes

@@ -1,0 +1,37 @@
+// Lists the data folder.
+ghost use Rattle.std.specs.Prelude.{◌≡◌, map, IfOk, IfErr, IfSome, OnOk};
+ghost use Rattle.base_devices.specs.Cause.{Rises};
+ghost use Rattle.base_devices.specs.States.{LooksAt};
+ghost use Rattle.base_devices.specs.DataFolder.{IsTreeListing};
+ghost use Rattle.backup_plan.specs.Views.{seen_of};
+ghost use Rattle.cmd_terms.specs.declared.stages.object.Object.TheVariants.{TheDataFolder as TheFolder};
+ghost use Rattle.cmd_terms.specs.Halts.{HaltCause, Only};
+ghost use Rattle.cmd_backup_common.specs.Beginning.{IsStopped, RunningCause};
+
+use crate::parts::fault::BackupFault;
+use backup_plan::is_running;
+use base_devices::{DataFolder, FolderEntry};
+use cmd_terms::{Halt, Object, halted};
+use std::alloc::Global;
+
+/// All that the data folder of a stopped server has.
+pub(crate) fn look<T: DataFolder>(
+    alloc: Global,
+    tree: &mut T,
+) -> Result<Vec<FolderEntry>, Halt<BackupFault>>
+    ensures listing { IfOk result (λ seen. IfSome (T.state tree.old).nodes
+        (λ f. IsTreeListing f (map seen_of seen.items))) }
+    ensures stopped { OnOk result (IfSome (T.state tree.old).nodes IsStopped) }
+    ensures looks { LooksAt (T.state tree.old) (T.state tree.new) }
+    ensures cause { IfErr result (HaltCause (RunningCause (T.state tree.old).nodes)
+        (Only TheFolder (Rises (T.state tree.old).faults (T.state tree.new).faults))) }
+{
+    let seen = match tree.list(alloc) {
+        Ok(seen) => seen,
+        Err(stop) => return Err(halted(Object::TheDataFolder, stop)),
+    };
+    if is_running(&seen) {
+        return Err(Halt::Refused(BackupFault::Running));
+    }
+    Ok(seen)
+}

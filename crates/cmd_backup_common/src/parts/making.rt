@@ -1,0 +1,77 @@
+// Makes the backup.
+ghost use Rattle.std.specs.Prelude.{◌≡◌, ◌≤◌, ◌<◌, ◌^◌, map, vec_len, string_bytes, length, IfOk, IfErr, IfSome, IsSome, OnOk};
+ghost use Rattle.base_devices.specs.Cause.{Rises};
+ghost use Rattle.base_devices.specs.States.{Frame};
+ghost use Rattle.base_model.specs.InfoFiles.{IsLabel};
+ghost use Rattle.worker_pool.specs.Run.{AreReady};
+ghost use Rattle.backup_make.specs.Draft.{IsDraft, main_of};
+ghost use Rattle.repo_stanza.specs.Pairs.{AgreeAt};
+ghost use Rattle.base_traces.specs.Beside.{StaysBeside};
+ghost use Rattle.cmd_terms.specs.Halts.{HaltCause};
+ghost use Rattle.cmd_terms.specs.Risen.{none, rose_in};
+ghost use Rattle.cmd_backup_common.specs.Texts.{label_line};
+ghost use Rattle.cmd_backup_common.specs.Making.{Finishes, MakeCause};
+
+use crate::parts::fault::{BackupFault, of_make};
+use backup_make::{Draft, make};
+use base_devices::{Clock, Disk, Link, Scheduler};
+use base_model::Label;
+use base_text::NoMemory;
+use cmd_terms::{Halt, Outcome};
+use repo_names::label_text;
+use std::alloc::Global;
+use worker_pool::Lost;
+
+/// The line that states the label of a backup that was made.
+pub fn label_line(alloc: Global, label: &Label) -> Result<String, NoMemory>
+    requires { IsLabel label.now }
+    ensures { IfOk result (λ line. string_bytes line ≡ label_line label.now) }
+{
+    let label = label_text(alloc, label)?;
+    Ok(format!(in alloc; "INFO: new backup label = {label}\n")?)
+}
+
+/// How many were lost.
+pub fn count_of(lost: &[Lost]) -> u32
+    ensures { length lost.now < 2 ^ 32 → result ≡ length lost.now }
+{
+    u32::try_from(lost.len()).unwrap_or(u32::MAX)
+}
+
+/// Makes the draft's backup, and returns with this line.
+pub fn finish<D: Disk, L: Link, U: Scheduler, C: Clock>(
+    alloc: Global,
+    repo: &mut D,
+    links: &mut Vec<L>,
+    scheduler: &mut U,
+    lost: &mut Vec<Lost>,
+    clock: &mut C,
+    draft: Draft<'_>,
+    line: String,
+) -> Result<Outcome, Halt<BackupFault>>
+    requires draft { IsDraft draft }
+    requires label { IsLabel draft.label }
+    requires few { vec_len links.old < 2 ^ 32 }
+    requires ready { AreReady (map L.link_state links.old.items) }
+    ensures made { Finishes draft.entry (string_bytes line) (map L.link_state links.old.items) (D.state repo.old).view
+        (D.state repo.new).view result }
+    ensures alike { OnOk result (IsSome (D.state repo.old).view.now
+        → IfSome (D.state repo.new).view.now (AgreeAt (main_of draft.entry))) }
+    ensures beside { StaysBeside draft.entry.stanza.now (D.state repo.old).view (D.state repo.new).view }
+    ensures frame { Frame (D.state repo.old) (D.state repo.new) }
+    ensures later { (C.state clock.old).faults ≤ (C.state clock.new).faults }
+    ensures least { (C.state clock.old).least ≤ (C.state clock.new).least }
+    ensures cause { IfErr result (HaltCause
+        (MakeCause draft.entry (map L.link_state links.old.items) lost.old.items)
+        (rose_in (record none {
+          repo = Rises (D.state repo.old).faults (D.state repo.new).faults;
+          clock = Rises (C.state clock.old).faults (C.state clock.new).faults;
+        }))) }
+{
+    let stanza = draft.stanza;
+    let label = draft.label;
+    match make(alloc, repo, links, scheduler, lost, clock, draft) {
+        Ok(()) => Ok(Outcome::Finished { lines: line }),
+        Err(fault) => Err(of_make(alloc, stanza, &label, count_of(lost), fault)),
+    }
+}

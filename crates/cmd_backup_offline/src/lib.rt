@@ -1,0 +1,43 @@
+//! backup, of any kind: makes a backup of a stopped server's data folder, and lists it as the stanza's last.
+//!
+//! As for a full backup the stanza's list is validated first, the data folder is listed and the workers are given their
+//! folders. Then the manifest of the backup that the kind asks for is read. A file that is as that states isn't stored
+//! again, and its entry refers to the backup that has its bytes: its time says so, or with delta its digest, for which
+//! the workers are asked first. Without such a backup all is read, and the kind becomes full, which a line states.
+//!
+//! What is proved, by the contract of the function that is named:
+//!
+//! - `back_up_offline`, while the backup lock is held: in the log it is `MakeBackup` of what the used links read, and,
+//!   unless a full one is asked for, of what the prior backup has. A part of it is done after every answer and at each
+//!   moment, all of it at Ok, and nothing where it is refused.
+//! - At Ok the folder had no `postmaster.pid`, and the pairs fit together and are of the cluster that was given. Fewer
+//!   than 10,000 backups were listed.
+//! - At Ok the backup is based on the one of them that its kind asks for, and is a full one without one; the lines
+//!   state its label, and that it became full.
+//! - At Ok the disk has its manifest, where it was known. An entry refers to another backup exactly where the prior's
+//!   manifest has its file with the listed size and, without delta, the listed time; with delta where a link reported
+//!   the digest that this manifest has. So the control file is always stored. Each entry has the listed time.
+//! - Where all links read the folder that was listed, the backup has that folder's files and folders, and nothing else.
+//!   With a prior backup that rests on the files' times or digests. With delta no file has the number and SHA-1 of the
+//!   prior's file and other bytes, and without delta none has its number and its time and other bytes.
+//! - It keeps to its stanza, and only reads the data folder. Each refusal has its cause in what was there before.
+//! - `find_equal`, `draft_listed`: the parts of it that a backup of a running server can share.
+#![tactic(auto)]
+
+mod backup_command;
+mod backup_messages;
+mod base_manifest;
+mod equal;
+mod fault;
+mod offline_backup;
+mod offline_draft;
+mod order;
+mod texts;
+
+pub use backup_command::{back_up_offline, files_of};
+pub use base_manifest::load_base;
+pub use equal::find_equal;
+pub use fault::{OfflineFault, of_backup};
+pub use offline_draft::{draft_listed, draft_offline};
+pub use order::OfflineOrder;
+pub use texts::{offline_message, offline_status};

@@ -1,0 +1,11 @@
+pub mod Faults
+pub mod Modelled
+pub mod Preparing
+pub mod Drafting
+pub mod Gathering
+pub mod Talking
+pub mod Finishing
+pub mod Doing
+pub mod Taken
+pub mod Causes
+pub mod Texts

@@ -1,0 +1,18 @@
+use Rattle.base_model.specs.Values.{backup_info_of}
+use Rattle.expire_make.proofs.Spelled.{fits_less, unfits}
+use Rattle.cmd_expire.proofs.Prunings.{has_list, undone}
+use Rattle.cmd_expire.proofs.expire_command.expire_stanza.Goals as goal
+
+pub returns-in_err-list-clause-pruned : goal.returns-in_err-list-clause-pruned
+returns-in_err-list-clause-pruned g c = undone c.args.stanza.now c.args.rules.now (g.C.Clock.state c.args.clock.now) (g.C.Clock.state c.args.clock.now)
+    (g.D.Disk.state c.args.repo.now).view c.from_residual.result c.in_err-list.field-0.0 c.from_residual.ensures.1
+
+pub returns-in_err-moment-clause-pruned : goal.returns-in_err-moment-clause-pruned
+returns-in_err-moment-clause-pruned g c = undone c.args.stanza.now c.args.rules.now (g.C.Clock.state c.args.clock.now) (g.C.Clock.state c.moment_for.new.clock)
+    (g.D.Disk.state c.args.repo.now).view c.from_residual-in_err-moment.result c.in_err-moment.field-0.0 c.from_residual-in_err-moment.ensures.1
+
+pub expire_at-requires-clause-list : goal.expire_at-requires-clause-list
+expire_at-requires-clause-list g c = has_list c.args.stanza.now (g.D.Disk.state c.args.repo.now).view.now c.args.archive c.args.backup c.in_ok-list.list c.requires.archive c.requires.backup c.in_ok-list.ensures.settled
+
+pub expire_at-requires-clause-within : goal.expire_at-requires-clause-within
+expire_at-requires-clause-within g c = fits_less (backup_info_of c.args.backup) (backup_info_of c.in_ok-list.list) c.in_ok-list.ensures.shorter (unfits (backup_info_of c.args.backup) c.requires.fits)

@@ -1,0 +1,5 @@
+pub mod Rules
+pub mod Texts
+pub mod Faults
+pub mod Pruning
+pub mod FollowUp

@@ -1,0 +1,96 @@
+-- What expire does (pgBackRest command reference, "Expire Command").
+use Rattle.std.specs.Prelude.{◌≡◌, ◌≤◌, ℕ, Bool, true, false, List, Option, Some, Result, IfOk, IfSome, IsSome, OnOk}
+use Rattle.base_devices.specs.Content.{Content}
+use Rattle.base_devices.specs.Moments.{View}
+use Rattle.base_devices.specs.States.{ClockState, ShowsSecond}
+use Rattle.base_disk.specs.Store.{ChangesOnly}
+use Rattle.base_model.specs.declared.labels.Label.{Label}
+use Rattle.base_model.specs.Names.{backup_info}
+use Rattle.base_model.specs.Now.{NowRepresents}
+use Rattle.base_model.specs.Repository.{Stanza, IsSoundStanza}
+use Rattle.base_model.specs.Steady.{IsSteady, LeavesOnly}
+use Rattle.base_model.specs.Steps.{Command, Expire}
+use Rattle.base_model.specs.Text.{Text}
+use Rattle.base_model.specs.Values.{ArchiveInfo, BackupInfo}
+use Rattle.repo_stanza.specs.Pairs.{AgreeAt, DifferFirst, HasPending, identities}
+use Rattle.expire_rules.specs.declared.rules.FullRule.{FullRule}
+use Rattle.expire_rules.specs.declared.rules.FullRule.TheVariants.{Unset, Count, Days}
+use Rattle.expire_rules.specs.declared.rules.Rules.{Rules}
+use Rattle.expire_rules.specs.Condemned.{condemned_labels}
+use Rattle.expire_make.specs.Expiry.{IsTouched, listed, retention, expired_of, HasNeeded}
+use Rattle.expire_make.specs.Removed.{CountsGone}
+use Rattle.cmd_terms.specs.declared.stages.halt.Halt.{Halt}
+use Rattle.cmd_terms.specs.declared.stages.outcome.Outcome.{Outcome}
+use Rattle.cmd_terms.specs.declared.stages.plan.SyncScope.TheVariants.{Whole}
+use Rattle.cmd_terms.specs.Reached.{OnFinished, reached_by}
+use Rattle.cmd_terms.specs.DisksEffect.{RepoEffect}
+use Rattle.cmd_expire.specs.declared.fault.ExpireCommandFault.{ExpireCommandFault}
+use Rattle.cmd_expire.specs.declared.fault.ExpireCommandFault.TheVariants.{HistoryDiffers}
+use Rattle.cmd_expire.specs.Faults.{expire_early}
+use Rattle.cmd_expire.specs.Texts.{lines_of}
+
+-- ---- the moment
+
+-- the rule counts days
+abbrev pub counts_days : FullRule → Bool
+counts_days Unset = false
+counts_days (Count n) = false
+counts_days (Days n) = true
+
+-- By which moment the rules may be read: where they count days, by none before the least second that the clock may
+-- show; else it is 0.
+abbrev pub IsMoment : FullRule → ℕ → ℕ → Type 0
+IsMoment Unset least moment = moment ≡ 0
+IsMoment (Count n) least moment = moment ≡ 0
+IsMoment (Days n) least moment = least ≤ moment
+
+-- by which they are read: where they count days, by the second that the clock showed; else it is 0
+abbrev pub ShowsMoment : FullRule → ClockState → ClockState → ℕ → Type 0
+ShowsMoment Unset old new moment = moment ≡ 0
+ShowsMoment (Count n) old new moment = moment ≡ 0
+ShowsMoment (Days n) old new moment = ShowsSecond moment old new
+
+-- an expiry by these rules; least is the least second that the clock may show
+abbrev pub IsExpiryBy : Rules → ℕ → Command → Type 0
+IsExpiryBy rules least command = (moment : ℕ) × IsMoment rules.full least moment
+    × (command ≡ Expire (retention rules moment))
+
+-- ---- what it does
+
+-- Ok of an expiry at a moment, with its lines: these labels and this many files of the archive were removed.
+pub record IsExpired (stanza : Text) (rules : Rules) (moment : ℕ) (old new : Option Content) (lines : Text) : Type
+    0 where
+  pub labels : List Label
+  pub removed : ℕ
+  pub lines_are : lines ≡ lines_of labels removed
+  pub counts : CountsGone stanza removed old new
+  -- they are those that the rules expire, and the stanza is left without these
+  pub condemned : (s : Stanza) → IsSome old → NowRepresents stanza (Some s) old
+      → labels ≡ condemned_labels rules moment (listed s)
+  pub left : (s : Stanza) → IsSoundStanza s → IsSome old → NowRepresents stanza (Some s) old
+      → NowRepresents stanza (expired_of (retention rules moment) s) new
+  -- both members of the backup pair are alike
+  pub alike : IsSome old → IfSome new (AgreeAt (backup_info stanza))
+
+-- What expire does, at some moment; where it succeeded, at the one that the clock showed.
+pub record Prunes (stanza : Text) (rules : Rules) (clock new_clock : ClockState) (repo new_repo : View)
+    (result : Result Outcome (Halt ExpireCommandFault)) : Type 0 where
+  pub moment : ℕ
+  pub may_be : IsMoment rules.full clock.least moment
+  pub known : OnOk result (ShowsMoment rules.full clock new_clock moment)
+  pub does : RepoEffect Whole stanza (Expire (retention rules moment)) (reached_by expire_early result) repo new_repo
+  pub pruned : IfOk result (λ outcome. OnFinished outcome (IsExpired stanza rules moment repo.now new_repo.now))
+  -- at each moment each backup that stays and each file that it needs have the bytes that they had
+  pub keeps : (s : Stanza) → IsSoundStanza s → IsSome repo.now → IsSteady stanza (Some s) repo
+      → LeavesOnly (HasNeeded stanza (retention rules moment) s) repo new_repo
+  -- nothing changes but the backup pair, folders of labels that aren't listed in the end, and files that aren't needed
+  -- then
+  pub touches : (s : Stanza) → IsSome repo.now → NowRepresents stanza (Some s) repo.now
+      → ChangesOnly (IsTouched stanza rules moment s) repo new_repo
+
+-- ---- why it is refused
+
+-- the values state histories that differ
+abbrev pub Differs : ArchiveInfo → BackupInfo → ExpireCommandFault → Type 0
+Differs archive backup (HistoryDiffers at) = DifferFirst at archive.history (identities backup)
+    × ¬ HasPending archive backup

@@ -1,0 +1,11 @@
+pub mod Thens
+pub mod Settled
+pub mod Advanced
+pub mod Pushes
+pub mod Taken
+pub mod Failing
+pub mod Causing
+pub mod Prefixes
+pub mod Ends
+pub mod Tallied
+pub mod Spools

@@ -1,0 +1,157 @@
+// Restores the last backup over a damaged data folder, and verifies the repository.
+ghost use Rattle.std.specs.Prelude.{◌≡◌, true, map, IfOk, IfErr, OnOk};
+ghost use Rattle.base_devices.specs.Cause.{Rises};
+ghost use Rattle.base_devices.specs.States.{Looks};
+ghost use Rattle.options_table.specs.Values.{is_stanza};
+ghost use Rattle.worker_pool.specs.Run.{AreReady};
+ghost use Rattle.cmd_terms.specs.declared.stages.object.Object.TheVariants.{Repo as TheRepo};
+ghost use Rattle.cmd_terms.specs.Halts.{HaltCause, Only};
+ghost use Rattle.cmd_verify.specs.Verifying.{IsVerified, EndsWithNone};
+ghost use Rattle.cmd_rehearse.specs.declared.backup_totals.Counted.TheVariants.{All as TheAll};
+ghost use Rattle.cmd_rehearse.specs.Advancing.{StaysOpen};
+ghost use Rattle.cmd_rehearse.specs.Causes.{StepCause, FailsBoth};
+ghost use Rattle.cmd_rehearse.specs.Counting.{ShowsLast};
+ghost use Rattle.cmd_rehearse.specs.Rehearsing.{CountsStored, IsRestoredLast, ComesTo, IsEnded};
+
+use crate::backup_step::read_backup;
+use crate::backup_totals::{Amount, Counted, count_last};
+use crate::fault::{StepFault, of_all, of_examine, of_restore};
+use crate::links::take_links;
+use crate::order::RehearseOrder;
+use archive_index::all;
+use base_devices::{DataFolder, Disk, Link, Scheduler};
+use cmd_rehearse_sample::spoil_cluster;
+use cmd_restore::{RecoverOrder, RecoveryType, restore_backup};
+use cmd_terms::{Halt, Object, Outcome, halted};
+use cmd_verify::verify_stanza;
+use std::alloc::Global;
+
+/// How many files are archived, how many files and bytes are restored, and what a verification reported.
+#[derive(Drop)]
+pub(crate) struct RehearsalEnd {
+    pub kept: usize,
+    pub restored: Amount,
+    pub found: Outcome,
+}
+
+// Restores the last backup by its digests, by links of its own. No recovery is asked for.
+fn restore_last<D: Disk, T: DataFolder, L: Link, U: Scheduler>(
+    alloc: Global,
+    repo: &mut D,
+    tree: &mut T,
+    links: &mut Vec<L>,
+    scheduler: &mut U,
+    stanza: &str,
+    order: &RehearseOrder<'_>,
+) -> Result<(), Halt<StepFault>>
+    requires ready { AreReady (map L.link_state links.old.items) }
+    requires stanza { is_stanza stanza.now ≡ true }
+    ensures restored { OnOk result
+        (IsRestoredLast stanza.now (D.state repo.old).view.now (T.state tree.new).nodes) }
+    ensures looks { Looks (D.state repo.old) (D.state repo.new) }
+    ensures folder { StaysOpen (T.state tree.old) (T.state tree.new) }
+    ensures cause { IfErr result (HaltCause (StepCause stanza.now (D.state repo.old).view.now)
+        (FailsBoth (D.state repo.old).faults (D.state repo.new).faults (T.state tree.old).faults
+        (T.state tree.new).faults)) }
+{
+    let backup = read_backup(alloc, repo, stanza)?;
+    let mut dealt = take_links(alloc, links, order.take.workers)?;
+    let recover = RecoverOrder {
+        data_folder: order.take.data_folder,
+        repository: order.take.repository,
+        set: None,
+        workers: order.take.workers,
+        delta: true,
+        recovery: RecoveryType::Nothing,
+    };
+    match restore_backup(
+        alloc, repo, tree, &mut dealt, scheduler, stanza, &recover, &backup,
+    ) {
+        Ok(_) => Ok(()),
+        Err(halt) => Err(of_restore(halt)),
+    }
+}
+
+// How many files are archived.
+fn count_stored<D: Disk>(
+    alloc: Global,
+    repo: &mut D,
+    stanza: &str,
+) -> Result<usize, Halt<StepFault>>
+    ensures stored { IfOk result (CountsStored stanza.now (D.state repo.old).view.now) }
+    ensures looks { Looks (D.state repo.old) (D.state repo.new) }
+    ensures cause { IfErr result (HaltCause (StepCause stanza.now (D.state repo.old).view.now)
+        (Only TheRepo (Rises (D.state repo.old).faults (D.state repo.new).faults))) }
+{
+    match all(alloc, repo, stanza) {
+        Ok(files) => Ok(files.len()),
+        Err(fault) => Err(of_all(fault)),
+    }
+}
+
+// Verifies the repository.
+fn verify_all<D: Disk>(
+    alloc: Global,
+    repo: &mut D,
+    stanza: &str,
+) -> Result<Outcome, Halt<StepFault>>
+    ensures examined { IfOk result (IsVerified stanza.now (D.state repo.old).view.now) }
+    ensures sound { IfOk result (EndsWithNone stanza.now (D.state repo.old).view.now) }
+    ensures looks { Looks (D.state repo.old) (D.state repo.new) }
+    ensures cause { IfErr result (HaltCause (StepCause stanza.now (D.state repo.old).view.now)
+        (Only TheRepo (Rises (D.state repo.old).faults (D.state repo.new).faults))) }
+{
+    let backup = read_backup(alloc, repo, stanza)?;
+    match verify_stanza(alloc, repo, stanza, &backup) {
+        Ok(outcome) => Ok(outcome),
+        Err(halt) => Err(of_examine(halt)),
+    }
+}
+
+// The end of a rehearsal in the repository.
+fn look_around<D: Disk>(
+    alloc: Global,
+    repo: &mut D,
+    stanza: &str,
+) -> Result<RehearsalEnd, Halt<StepFault>>
+    ensures ended { IfOk result (λ e. ComesTo stanza.now (D.state repo.old).view.now e.kept e.restored e.found) }
+    ensures looks { Looks (D.state repo.old) (D.state repo.new) }
+    ensures cause { IfErr result (HaltCause (StepCause stanza.now (D.state repo.old).view.now)
+        (Only TheRepo (Rises (D.state repo.old).faults (D.state repo.new).faults))) }
+{
+    let kept = count_stored(alloc, repo, stanza)?;
+    let restored = count_last(alloc, repo, stanza, Counted::All)?;
+    let found = verify_all(alloc, repo, stanza)?;
+    Ok(RehearsalEnd {
+        kept,
+        restored,
+        found,
+    })
+}
+
+/// Restores the damaged data folder, and verifies the repository.
+pub(crate) fn end<D: Disk, T: DataFolder, L: Link, U: Scheduler>(
+    alloc: Global,
+    repo: &mut D,
+    tree: &mut T,
+    links: &mut Vec<L>,
+    scheduler: &mut U,
+    stanza: &str,
+    order: &RehearseOrder<'_>,
+) -> Result<RehearsalEnd, Halt<StepFault>>
+    requires ready { AreReady (map L.link_state links.old.items) }
+    requires stanza { is_stanza stanza.now ≡ true }
+    ensures ended { IfOk result (λ e. IsEnded stanza.now (D.state repo.old).view.now (T.state tree.new).nodes
+        e.kept e.restored e.found) }
+    ensures looks { Looks (D.state repo.old) (D.state repo.new) }
+    ensures folder { StaysOpen (T.state tree.old) (T.state tree.new) }
+    ensures cause { IfErr result (HaltCause (StepCause stanza.now (D.state repo.old).view.now)
+        (FailsBoth (D.state repo.old).faults (D.state repo.new).faults (T.state tree.old).faults
+        (T.state tree.new).faults)) }
+{
+    if let Err(error) = spoil_cluster(alloc, tree) {
+        return Err(halted(Object::TheDataFolder, error));
+    }
+    restore_last(alloc, repo, tree, links, scheduler, stanza, order)?;
+    look_around(alloc, repo, stanza)
+}

@@ -1,0 +1,97 @@
+// Pushes the segments.
+ghost use Rattle.std.specs.Prelude.{◌≡◌, ◌≤◌, ◌<◌, ◌^◌, ◌%◌, IfErr, IfSome, IsSome, OnOk, Some};
+ghost use Rattle.base_devices.specs.Cause.{Rises};
+ghost use Rattle.base_devices.specs.States.{Frame};
+ghost use Rattle.base_model.specs.declared.clusters.ClusterId.{ClusterId};
+ghost use Rattle.base_model.specs.Steps.{ArchivePush};
+ghost use Rattle.cmd_rehearse_sample.specs.Bytes.{segment_bytes};
+ghost use Rattle.base_traces.specs.Beside.{StaysBeside};
+ghost use Rattle.cmd_terms.specs.declared.stages.object.Object.TheVariants.{Repo as TheRepo};
+ghost use Rattle.cmd_terms.specs.declared.stages.plan.SyncScope.TheVariants.{Whole};
+ghost use Rattle.cmd_terms.specs.Current.{HasCurrent, id_kept};
+ghost use Rattle.cmd_terms.specs.Halts.{HaltCause, Only};
+ghost use Rattle.cmd_terms.specs.DisksEffect.{DoesPart, DoesWhole};
+ghost use Rattle.cmd_rehearse.specs.Advancing.{Advances};
+ghost use Rattle.cmd_rehearse.specs.Causes.{StepCause, PushesCause};
+ghost use Rattle.cmd_rehearse.specs.Commands.{segment_named, pushed};
+
+use crate::fault::{StepFault, of_push};
+use archive_store::{PushFault as StoreFault, push};
+use base_devices::Disk;
+use base_model::{ArchiveId, ArchiveName, Segment};
+use cmd_archive_push::of_store;
+use cmd_rehearse_sample::{SYSTEM, segment_bytes};
+use cmd_terms::Halt;
+use std::alloc::Global;
+
+// The name of the segment of this number.
+fn segment_name(number: u32) -> ArchiveName
+    ensures { result ≡ (segment_named number).name }
+{
+    ArchiveName::Segment(Segment {
+        timeline: 1,
+        log: 0,
+        seg: number,
+    })
+}
+
+// Pushes the segment of this number.
+fn push_one<D: Disk>(
+    alloc: Global,
+    repo: &mut D,
+    stanza: &str,
+    id: &ArchiveId,
+    number: u32,
+) -> Result<(), Halt<StepFault>>
+    requires fits { (id.now.version < 2 ^ 32) × (id.now.number < 2 ^ 32) }
+    ensures part { (c : ClusterId) → id.now ≡ id_kept c
+        → IfSome (D.state repo.old).view.now (λ f. HasCurrent stanza.now f c)
+        → DoesPart Whole stanza.now (ArchivePush (segment_named number)) (D.state repo.old).view
+        (D.state repo.new).view }
+    ensures whole { OnOk result ((c : ClusterId) → id.now ≡ id_kept c
+        → IfSome (D.state repo.old).view.now (λ f. HasCurrent stanza.now f c)
+        → DoesWhole Whole stanza.now (ArchivePush (segment_named number)) (D.state repo.old).view
+        (D.state repo.new).view) }
+    ensures known { IsSome (D.state repo.old).view.now → IsSome (D.state repo.new).view.now }
+    // The current cluster stays.
+    ensures current { (c : ClusterId) → IfSome (D.state repo.old).view.now (λ f. HasCurrent stanza.now f c)
+        → IsSome (D.state repo.old).view.now
+        → IfSome (D.state repo.new).view.now (λ f. HasCurrent stanza.now f c) }
+    ensures beside { StaysBeside stanza.now (D.state repo.old).view (D.state repo.new).view }
+    ensures frame { Frame (D.state repo.old) (D.state repo.new) }
+    ensures cause { IfErr result (HaltCause (StepCause stanza.now (D.state repo.old).view.now)
+        (Only TheRepo (Rises (D.state repo.old).faults (D.state repo.new).faults))) }
+{
+    let bytes = segment_bytes(alloc, (number % 256) as u8)?;
+    let name = segment_name(number);
+    match push(alloc, repo, stanza, id, &name, SYSTEM, &bytes) {
+        Ok(_) => Ok(()),
+        Err(fault) => Err(of_push(of_store(StoreFault::Archive(fault)))),
+    }
+}
+
+/// Pushes this many segments, one after another.
+pub(crate) fn push_segments<D: Disk>(
+    alloc: Global,
+    repo: &mut D,
+    stanza: &str,
+    id: &ArchiveId,
+    count: u32,
+) -> Result<(), Halt<StepFault>>
+    requires few { count ≤ 128 }
+    requires fits { (id.now.version < 2 ^ 32) × (id.now.number < 2 ^ 32) }
+    ensures advances { (c : ClusterId) → id.now ≡ id_kept c
+        → IfSome (D.state repo.old).view.now (λ f. HasCurrent stanza.now f c)
+        → Advances stanza.now (pushed count) result (D.state repo.old).view (D.state repo.new).view }
+    ensures beside { StaysBeside stanza.now (D.state repo.old).view (D.state repo.new).view }
+    ensures frame { Frame (D.state repo.old) (D.state repo.new) }
+    ensures cause { (c : ClusterId) → id.now ≡ id_kept c
+        → IfSome (D.state repo.old).view.now (λ f. HasCurrent stanza.now f c)
+        → IfErr result (HaltCause (PushesCause stanza.now count (D.state repo.old).view.now)
+        (Only TheRepo (Rises (D.state repo.old).faults (D.state repo.new).faults))) }
+{
+    for before in 0..count {
+        push_one(alloc, repo, stanza, id, before + 1)?;
+    }
+    Ok(())
+}

@@ -1,0 +1,4 @@
+pub mod Bytes
+pub mod Folder
+pub mod Having
+pub mod Stops

@@ -1,0 +1,56 @@
+// Reads the backup's manifest.
+ghost use Rattle.std.specs.Prelude.{◌≡◌, ◌≢◌, IfOk, IfErr, IfSome};
+ghost use Rattle.base_devices.specs.Cause.{Rises};
+ghost use Rattle.base_devices.specs.States.{Looks};
+ghost use Rattle.base_model.specs.InfoFiles.{IsLabel};
+ghost use Rattle.base_model.specs.ManifestText.{IsManifest};
+ghost use Rattle.base_model.specs.Values.{manifest_of};
+ghost use Rattle.cmd_terms.specs.declared.stages.object.Object.TheVariants.{Repo as TheRepo};
+ghost use Rattle.cmd_terms.specs.Halts.{HaltCause, Only};
+ghost use Rattle.cmd_restore.specs.Loading.{HasManifest, ShowsForeign, LoadCause};
+
+use crate::fault::{RestoreCommandFault, foreign, of_pair};
+use base_devices::Disk;
+use base_model::{Label, Manifest};
+use cmd_terms::Halt;
+use repo_manifest::load_manifest;
+use std::alloc::Global;
+
+// Refuses a manifest that is another backup's.
+fn check_label(
+    alloc: Global,
+    manifest: Manifest,
+    label: &Label,
+) -> Result<Manifest, Halt<RestoreCommandFault>>
+    requires { IsLabel label.now }
+    ensures same { IfOk result (λ m. m ≡ manifest) }
+    ensures own { IfOk result (λ m. m.label ≡ label.now) }
+    ensures cause { IfErr result (HaltCause (λ e. (manifest.label ≢ label.now) × ShowsForeign label.now e)
+        (λ _. ⊥)) }
+{
+    if manifest.label == *label {
+        return Ok(manifest);
+    }
+    Err(foreign(alloc, label))
+}
+
+/// The manifest of the backup of this label.
+pub(crate) fn load<D: Disk>(
+    alloc: Global,
+    repo: &mut D,
+    stanza: &str,
+    label: &Label,
+) -> Result<Manifest, Halt<RestoreCommandFault>>
+    requires { IsLabel label.now }
+    ensures found { IfOk result (λ m. IfSome (D.state repo.old).view.now
+        (HasManifest stanza.now label.now (manifest_of m))) }
+    ensures rules { IfOk result (λ m. IsManifest (manifest_of m)) }
+    ensures looks { Looks (D.state repo.old) (D.state repo.new) }
+    ensures cause { IfErr result (HaltCause (LoadCause stanza.now label.now (D.state repo.old).view.now)
+        (Only TheRepo (Rises (D.state repo.old).faults (D.state repo.new).faults))) }
+{
+    match load_manifest(alloc, repo, stanza, label) {
+        Ok(manifest) => check_label(alloc, manifest, label),
+        Err(fault) => Err(of_pair(alloc, label, fault)),
+    }
+}

@@ -1,0 +1,8 @@
+mod Ends
+mod Found
+mod Prefixes
+mod Heals
+mod HealedPair
+mod Readings
+mod Idle
+mod Begun

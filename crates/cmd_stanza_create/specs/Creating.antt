@@ -1,0 +1,71 @@
+-- What stanza-create makes, and why it is refused.
+use Rattle.std.specs.Prelude.{◌≡◌, ◌⊎◌, ℕ, Bool, true, List, [], Option, IfSome, IsSome, String, string_bytes}
+use Rattle.std.specs.declared.alloc.Global.{Global}
+use Rattle.base_devices.specs.Content.{Content}
+use Rattle.base_model.specs.declared.labels.Label.{Label}
+use Rattle.base_model.specs.Text.{Text}
+use Rattle.base_model.specs.Names.{label_text}
+use Rattle.base_model.specs.Now.{HasNewPairs}
+use Rattle.repo_info.specs.declared.fault.MemberFault.{MemberFault}
+use Rattle.server_talk.specs.Reads.{IsOutside}
+use Rattle.repo_stanza.specs.declared.control.Control.{Control}
+use Rattle.repo_stanza.specs.declared.fault.Identity.{Identity}
+use Rattle.repo_stanza.specs.declared.fault.StanzaFault.{StanzaFault}
+use Rattle.repo_stanza.specs.declared.fault.StanzaFault.TheVariants.{InfoDamaged as DamagedOf, HistoryDiffers as DiffersOf, StanzaMismatch as MismatchOf, ArchiveLost as LostOf, FilesFound as FoundOf, Disk as DiskOf, NoMemory as MemoryOf}
+use Rattle.repo_stanza.specs.Causes.{CreateCause as StanzaCause}
+use Rattle.repo_stanza.specs.ControlFile.{first_cluster}
+use Rattle.repo_stanza.specs.Pairs.{LacksStanza, HasStanzaOf, PairsAgree}
+use Rattle.repo_stanza.specs.Unused.{IsUnused}
+use Rattle.cmd_terms.specs.declared.stages.object.Object.TheVariants.{Repo as TheRepo}
+use Rattle.cmd_terms.specs.declared.stages.halt.Halt.{Halt}
+use Rattle.cmd_terms.specs.declared.stages.halt.Halt.TheVariants.{Refused, Failed, NoMemory}
+use Rattle.cmd_terms.specs.declared.stages.outcome.Outcome.{Outcome}
+use Rattle.cmd_terms.specs.Reached.{OnFinished}
+use Rattle.cmd_stanza_create.specs.declared.fault.CreateFault.{CreateFault}
+use Rattle.cmd_stanza_create.specs.declared.fault.CreateFault.TheVariants.{Server as Talked, InfoDamaged, HistoryDiffers, StanzaMismatch, ArchiveLost, FilesFound}
+use Rattle.cmd_stanza_create.specs.Server.{Server}
+use Rattle.cmd_stanza_create.specs.Talking.{ShowsFault}
+
+-- ---- at its end
+
+-- there was nothing of a stanza, or one of this cluster, and now its pairs agree; those of a new one have its texts
+pub record IsCreated (stanza : Text) (known : Control) (old new : Option Content) (outcome : Outcome) : Type 0 where
+  pub silent : OnFinished outcome (λ lines. lines ≡ [])
+  pub was : IfSome old (IsUnused stanza) ⊎ IfSome old (HasStanzaOf stanza known)
+  pub members : IfSome old (LacksStanza stanza) → IsSome old → IfSome new (HasNewPairs stanza (first_cluster known))
+  pub agrees : IsSome old → IfSome new (PairsAgree stanza)
+
+-- ---- where it is refused
+
+-- each refusal comes before the command's first step
+abbrev pub create_early : CreateFault → Bool
+create_early fault = true
+
+-- Why a fault of the stanza ends the command; a label may also find no memory for its text.
+pub data IsStanzaFault : StanzaFault → Halt CreateFault → Type 0 where
+  Damaged : (name : String Global) (main copy : MemberFault) →
+      IsStanzaFault (DamagedOf name main copy) (Refused (InfoDamaged name main copy))
+  Differs : (at : ℕ) → IsStanzaFault (DiffersOf at) (Refused (HistoryDiffers at))
+  Mismatch : (kept found : Identity) → IsStanzaFault (MismatchOf kept found) (Refused (StanzaMismatch kept found))
+  Lost : (label : Label) (text : String Global) → string_bytes text ≡ label_text label →
+      IsStanzaFault (LostOf label) (Refused (ArchiveLost text))
+  Found : (name : String Global) → IsStanzaFault (FoundOf name) (Refused (FilesFound name))
+  Unsaid : (label : Label) → IsStanzaFault (LostOf label) NoMemory
+  Broken : IsStanzaFault DiskOf (Failed TheRepo)
+  Starved : IsStanzaFault MemoryOf NoMemory
+
+-- why the stanza of this cluster isn't made or kept, from what the repository held
+abbrev pub MakeCause : Text → Control → Option Content → CreateFault → Type 0
+MakeCause stanza known repo (Talked fault) = ⊥
+MakeCause stanza known repo (InfoDamaged name main copy) = StanzaCause stanza known repo ⊥ (DamagedOf name main copy)
+MakeCause stanza known repo (HistoryDiffers at) = StanzaCause stanza known repo ⊥ (DiffersOf at)
+MakeCause stanza known repo (StanzaMismatch kept found) = StanzaCause stanza known repo ⊥ (MismatchOf kept found)
+MakeCause stanza known repo (ArchiveLost text) =
+    (label : Label) × (string_bytes text ≡ label_text label) × StanzaCause stanza known repo ⊥ (LostOf label)
+MakeCause stanza known repo (FilesFound name) = StanzaCause stanza known repo ⊥ (FoundOf name)
+
+-- why stanza-create is refused: for what the server that is asked states, or for what the repository held
+abbrev pub CreateCause : Text → Control → Option Server → Option Content → Option (List ℕ) → CreateFault → Type 0
+CreateCause stanza known server repo pending (Talked fault) =
+    IsSome server × ¬ IsOutside fault × ShowsFault known.system pending fault
+CreateCause stanza known server repo pending other = MakeCause stanza known repo other

@@ -1,0 +1,56 @@
+-- The talk with the server that stanza-create asks for its system (PostgreSQL manual, "Message Flow").
+use Rattle.std.specs.Prelude.{◌≡◌, ◌≤◌, ◌⊎◌, ℕ, List, ◌++◌, Option, Some, None, option_map, IfSome, IsSome, Result, Ok}
+use Rattle.base_model.specs.Text.{Text}
+use Rattle.server_talk.specs.declared.session.fault.ServerFault.{ServerFault}
+use Rattle.server_talk.specs.declared.session.fault.ServerFault.TheVariants as server
+use Rattle.server_talk.specs.Fault.{Fault as Refusal}
+use Rattle.server_talk.specs.Reads.{Fails, IsOutside}
+pub use Rattle.server_talk.specs.Sends.{Ended}
+use Rattle.server_talk.specs.System.{Shows, questions}
+use Rattle.cmd_terms.specs.declared.stages.object.Object.TheVariants.{Server as TheServer}
+use Rattle.cmd_terms.specs.declared.stages.halt.Halt.{Halt}
+use Rattle.cmd_terms.specs.declared.stages.halt.Halt.TheVariants.{Refused, Failed, NoMemory}
+use Rattle.cmd_stanza_create.specs.declared.fault.CreateFault.{CreateFault}
+use Rattle.cmd_stanza_create.specs.declared.fault.CreateFault.TheVariants.{Server as Talked}
+use Rattle.cmd_stanza_create.specs.Server.{Server, socket_path}
+
+-- ---- what is said
+
+-- the server, where one is asked, was asked at its socket, and the talk was ended
+abbrev pub Asks : Option Server → Text → Option (List ℕ) → Option (List ℕ) → Type 0
+Asks None place old new = Unit {0}
+Asks (Some s) place old new = (place ≡ socket_path s)
+    × (new ≡ option_map (λ said. said ++ questions s.user s.database) old)
+
+-- a talk that the server's answer ended was ended with the last message too, unless the connection failed
+abbrev pub Closes : Type 0 → Option (List ℕ) → Halt CreateFault → Type 0
+Closes rose new (Refused (Talked fault)) = Ended new ⊎ rose
+Closes rose new other = Unit {0}
+
+-- the statuses of a server's answer that is refused; 70 is also that of a file that is too long
+abbrev pub IsServerRefusal : ℕ → Type 0
+IsServerRefusal status = ((47 ≤ status) × (status ≤ 51)) ⊎ ((70 ≤ status) × (status ≤ 71))
+
+-- ---- what is reported
+
+-- the server is of this system, where that is known
+abbrev pub IsOf : ℕ → Option (List ℕ) → Type 0
+IsOf system pending = IfSome pending (λ bytes. (size : ℕ) × Shows system bytes (Ok size))
+
+-- it states this fault, where that is known
+abbrev pub ShowsFault : ℕ → Option (List ℕ) → ServerFault → Type 0
+ShowsFault system pending fault = IfSome pending
+    (λ bytes. (outcome : Result ℕ Refusal) × Shows system bytes outcome × Fails fault outcome)
+
+-- ---- why the talk fails
+
+-- the connection failed, memory did, or the server's answer is refused
+abbrev pub server_halt : ServerFault → Halt CreateFault
+server_halt server.NoMemory = NoMemory
+server_halt server.ServerConnection = Failed TheServer
+server_halt fault = Refused (Talked fault)
+
+-- the server that is asked states this, to one that looks for this system
+abbrev pub AskCause : Option Server → ℕ → Option (List ℕ) → CreateFault → Type 0
+AskCause asked system pending (Talked fault) = IsSome asked × ¬ IsOutside fault × ShowsFault system pending fault
+AskCause asked system pending other = ⊥

@@ -1,0 +1,130 @@
+// The server is asked for its system.
+ghost use Rattle.std.specs.Prelude.{◌≡◌, ◌≢◌, ◌≤◌, ◌⊎◌, ◌++◌, None, Some, option_map, OnOk, IfOk, IfErr, IfSome, string_bytes};
+ghost use Rattle.base_devices.specs.Cause.{Rises};
+ghost use Rattle.server_talk.specs.declared.session.fault.ServerFault.TheVariants.{NoMemory as OutOfMemory};
+ghost use Rattle.server_talk.specs.Reads.{HasCause, IsOutside};
+ghost use Rattle.server_talk.specs.System.{questions};
+ghost use Rattle.cmd_terms.specs.declared.stages.object.Object.TheVariants.{Server as TheServer};
+ghost use Rattle.cmd_terms.specs.Halts.{HaltCause, Only};
+ghost use Rattle.cmd_stanza_create.specs.Server.{server_view, socket_path};
+ghost use Rattle.cmd_stanza_create.specs.Talking.{Asks, Ended, IsOf, ShowsFault, AskCause, Closes, server_halt};
+
+use crate::fault::CreateFault;
+use crate::server::Server;
+use base_devices::ServerConnection;
+use cmd_terms::{Halt, Object};
+use server_talk::{ServerFault, Session, check_system, close, open};
+use std::alloc::{AllocError, Global};
+
+/// The path of the socket of a server.
+pub fn socket_path(alloc: Global, server: &Server) -> Result<String, AllocError>
+    ensures { IfOk result (λ path. string_bytes path ≡ socket_path (server_view server.now)) }
+{
+    let folder = server.folder;
+    let port = server.port;
+    format!(in alloc; "{folder}/.s.PGSQL.{port}")
+}
+
+// The fault that a fault of a talk becomes.
+fn server_halt(fault: ServerFault) -> Halt<CreateFault>
+    ensures { result ≡ server_halt fault }
+{
+    match fault {
+        ServerFault::NoMemory => Halt::NoMemory,
+        ServerFault::ServerConnection => Halt::Failed(Object::Server),
+        fault => Halt::Refused(CreateFault::Server(fault)),
+    }
+}
+
+// Ends a session that was refused. That this failed isn't reported, except when out of memory.
+fn part<V: ServerConnection>(
+    connection: &mut V,
+    session: Session,
+    fault: ServerFault,
+) -> ServerFault
+    ensures fault { (result ≡ fault) ⊎ (result ≡ OutOfMemory) }
+    ensures ended { result ≢ OutOfMemory → Ended (V.state connection.new).sent
+        ⊎ Rises (V.state connection.old).faults (V.state connection.new).faults }
+    ensures later { (V.state connection.old).faults ≤ (V.state connection.new).faults }
+{
+    match close(connection, session) {
+        Ok(()) => fault,
+        Err(ServerFault::ServerConnection) => fault,
+        Err(_) => ServerFault::NoMemory,
+    }
+}
+
+// The talk: a session that asks for the system alone.
+fn talk<V: ServerConnection>(
+    alloc: Global,
+    connection: &mut V,
+    server: &Server,
+    path: &str,
+    system: u64,
+) -> Result<(), ServerFault>
+    ensures same { OnOk result (IsOf system (V.state connection.old).pending) }
+    ensures asks { OnOk result (((V.state connection.new).place ≡ path.now)
+        × ((V.state connection.new).sent ≡ option_map
+        (λ said. said ++ questions server.now.user.now server.now.database.now)
+        (V.state connection.old).sent)) }
+    ensures known { IfErr result (λ e. ¬ IsOutside e → ShowsFault system (V.state connection.old).pending e) }
+    ensures ended { IfErr result (λ e. ¬ IsOutside e →
+        Ended (V.state connection.new).sent ⊎ Rises (V.state connection.old).faults (V.state connection.new).faults) }
+    ensures cause { HasCause (V.state connection.old).faults (V.state connection.new).faults result }
+{
+    let mut session = match open(alloc, connection, path, server.user, server.database) {
+        Ok(session) => session,
+        Err(fault) => return Err(fault),
+    };
+    match check_system(alloc, connection, &mut session, system) {
+        Ok(_) => close(connection, session),
+        Err(fault) => Err(part(connection, session, fault)),
+    }
+}
+
+fn ask_system<V: ServerConnection>(
+    alloc: Global,
+    connection: &mut V,
+    server: &Server,
+    system: u64,
+) -> Result<(), Halt<CreateFault>>
+    ensures same { OnOk result (IsOf system (V.state connection.old).pending) }
+    ensures asks { OnOk result (Asks (Some (server_view server.now))
+        (V.state connection.new).place (V.state connection.old).sent (V.state connection.new).sent) }
+    ensures closed { IfErr result (Closes (Rises (V.state connection.old).faults (V.state connection.new).faults)
+        (V.state connection.new).sent) }
+    ensures later { (V.state connection.old).faults ≤ (V.state connection.new).faults }
+    ensures cause { IfErr result (HaltCause (AskCause (Some (server_view server.now)) system (V.state
+        connection.old).pending)
+        (Only TheServer (Rises (V.state connection.old).faults (V.state connection.new).faults))) }
+{
+    let path = socket_path(alloc, server)?;
+    match talk(alloc, connection, server, &path, system) {
+        Ok(()) => Ok(()),
+        Err(fault) => Err(server_halt(fault)),
+    }
+}
+
+/// Asks the server for its system, where one is to be asked. It has to be this one.
+pub(crate) fn check_server<V: ServerConnection>(
+    alloc: Global,
+    connection: &mut V,
+    server: Option<Server>,
+    system: u64,
+) -> Result<(), Halt<CreateFault>>
+    ensures quiet { server.entry ≡ None → connection.new ≡ connection.old }
+    ensures same { OnOk result (IfSome server.entry (λ _. IsOf system (V.state connection.old).pending)) }
+    ensures asks { OnOk result (Asks (option_map server_view server.entry)
+        (V.state connection.new).place (V.state connection.old).sent (V.state connection.new).sent) }
+    ensures closed { IfErr result (Closes (Rises (V.state connection.old).faults (V.state connection.new).faults)
+        (V.state connection.new).sent) }
+    ensures later { (V.state connection.old).faults ≤ (V.state connection.new).faults }
+    ensures cause { IfErr result (HaltCause (AskCause (option_map server_view server.entry) system
+        (V.state connection.old).pending)
+        (Only TheServer (Rises (V.state connection.old).faults (V.state connection.new).faults))) }
+{
+    match server {
+        Some(server) => ask_system(alloc, connection, &server, system),
+        None => Ok(()),
+    }
+}

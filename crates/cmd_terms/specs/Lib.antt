@@ -1,0 +1,10 @@
+pub mod World
+pub mod Halts
+pub mod Risen
+pub mod DisksEffect
+pub mod Reached
+pub mod Cluster
+pub mod Current
+pub mod Plans
+pub mod StagesTexts
+pub mod ServerTextsTexts

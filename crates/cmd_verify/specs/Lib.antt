@@ -1,0 +1,15 @@
+pub mod What
+pub mod Findings
+pub mod Adding
+pub mod Clean
+pub mod Lies
+pub mod Faults
+pub mod Exact
+pub mod Members
+pub mod References
+pub mod Gaps
+pub mod Archived
+pub mod Entries
+pub mod Sharing
+pub mod Verifying
+pub mod Texts

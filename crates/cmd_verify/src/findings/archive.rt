@@ -1,0 +1,90 @@
+// Looks at the stored segments.
+ghost use Rattle.std.specs.Prelude.{◌≡◌, ◌≤◌, IfOk, IfSome, IsSomeAnd, OnOk, IsErrOf, length, string_bytes};
+ghost use Rattle.base_devices.specs.Cause.{HasCause, Rises};
+ghost use Rattle.base_model.specs.Text.{Text};
+ghost use Rattle.archive_index.specs.Stored.{AreStored, IsStoredFile};
+ghost use Rattle.cmd_verify.specs.Adding.{Adds, OfSome};
+ghost use Rattle.cmd_verify.specs.Archived.{HasOther};
+ghost use Rattle.cmd_verify.specs.Findings.{FileDeviates};
+ghost use Rattle.cmd_verify.specs.Lies.{LiesSo};
+ghost use Rattle.base_devices.specs.States.{Looks};
+
+use crate::findings::finding::{Finding, LookFault, Mark};
+use crate::findings::place_sum::{Lies, deviation, sum_at};
+use crate::findings::seconds::tell_seconds;
+use archive_index::Stored;
+use base_devices::{DeviceError, Disk};
+use base_text::Sum;
+use std::alloc::Global;
+
+// What lies at a stored file's path, of as many bytes as it has.
+fn lies_of<D: Disk>(d: &mut D, file: &Stored) -> Result<Lies, DeviceError>
+    ensures lies { IfOk result (λ r. IfSome (D.state d.old).view.now
+        (λ f. IsSomeAnd (f (string_bytes file.now.path)) (λ bytes. length bytes ≡ file.now.size)
+        → LiesSo (f (string_bytes file.now.path)) 0 file.now.size r)) }
+    ensures looks { Looks (D.state d.old) (D.state d.new) }
+    ensures cause { HasCause (D.state d.old).faults (D.state d.new).faults result }
+{
+    if file.size == 0 {
+        return Ok(Lies::All(Sum::of(&[])));
+    }
+    sum_at(d, file.path.as_str(), 0, file.size)
+}
+
+// One stored file. Of one without a sum in its name nothing is reported.
+fn look_at_stored<D: Disk>(
+    alloc: Global,
+    d: &mut D,
+    file: &Stored,
+    found: &mut Vec<Finding>,
+) -> Result<(), LookFault>
+    ensures adds { OnOk result (IfSome (D.state d.old).view.now (λ f. (stanza : Text)
+        → IsStoredFile stanza f file.now → Adds (HasOther f file.now) found.old.items found.new.items)) }
+    ensures looks { Looks (D.state d.old) (D.state d.new) }
+    ensures cause { IsErrOf result LookFault.Disk → Rises (D.state d.old).faults (D.state d.new).faults }
+{
+    let Some(known) = file.sum else {
+        return Ok(());
+    };
+    let lies = lies_of(d, file)?;
+    if let Some(Mark { kind, line }) = deviation(alloc, lies, file.size, &known)? {
+        let name = String::from_str(alloc, file.path.as_str())?;
+        found.push(Finding { name, kind, line })?;
+    }
+    Ok(())
+}
+
+// The bytes of all stored segments: each is read once.
+fn look_at_bytes<D: Disk>(
+    alloc: Global,
+    d: &mut D,
+    files: &[Stored],
+    found: &mut Vec<Finding>,
+) -> Result<(), LookFault>
+    ensures adds { OnOk result (IfSome (D.state d.old).view.now (λ f. (stanza : Text) → AreStored stanza f files.now
+        → Adds (OfSome (HasOther f) files.now) found.old.items found.new.items)) }
+    ensures looks { Looks (D.state d.old) (D.state d.new) }
+    ensures cause { IsErrOf result LookFault.Disk → Rises (D.state d.old).faults (D.state d.new).faults }
+{
+    for file in files {
+        look_at_stored(alloc, d, file, found)?;
+    }
+    Ok(())
+}
+
+/// Looks at the stored segments: at their bytes, and for those that are stored twice.
+pub(crate) fn look_at_archive<D: Disk>(
+    alloc: Global,
+    d: &mut D,
+    files: &[Stored],
+    found: &mut Vec<Finding>,
+) -> Result<(), LookFault>
+    ensures adds { OnOk result (IfSome (D.state d.old).view.now (λ f. (stanza : Text) → AreStored stanza f files.now
+        → Adds (FileDeviates stanza f) found.old.items found.new.items)) }
+    ensures looks { Looks (D.state d.old) (D.state d.new) }
+    ensures cause { IsErrOf result LookFault.Disk → Rises (D.state d.old).faults (D.state d.new).faults }
+{
+    look_at_bytes(alloc, d, files, found)?;
+    tell_seconds(alloc, files, found)?;
+    Ok(())
+}

@@ -1,0 +1,73 @@
+-- What retention rules are to a repository, and what an expiry does (pgBackRest command reference, "Expire").
+use Rattle.std.specs.Prelude.{◌≡◌, ℕ, true, false, List, Option, Some}
+use Rattle.base_devices.specs.Content.{Content}
+use Rattle.base_devices.specs.Moments.{View}
+use Rattle.base_model.specs.Text.{Text, In}
+use Rattle.base_model.specs.Values.{Entry}
+use Rattle.base_model.specs.Repository.{Archived, Backup, Stanza, Repository, current_number}
+use Rattle.base_model.specs.Represents.{Represents, HasStanza}
+use Rattle.base_model.specs.Now.{NowRepresents}
+use Rattle.base_model.specs.Steady.{IsSteady, EachImage}
+use Rattle.base_model.specs.Steps.{Step, Condemn, Retention, IsPartOf, after, all_of, changed, expiry_moves}
+use Rattle.expire_rules.specs.declared.rules.Rules.{Rules}
+use Rattle.expire_rules.specs.Condemned.{is_condemned}
+use Rattle.expire_rules.specs.Descent.{listed_in}
+use Rattle.expire_rules.specs.Labels.{labels_of}
+use Rattle.expire_rules.specs.Needed.{keeping_of, keeps_file}
+use Rattle.expire_make.specs.Losing.{MayTouch}
+use Rattle.expire_make.specs.Planning.{keeps_by}
+
+-- the stanza's backups as `backup.info` lists them
+abbrev pub listed : Stanza → List Entry
+listed s = listed_in s.backups
+
+-- the rules, at a moment
+abbrev pub retention : Rules → ℕ → Retention
+retention rules moment = record {
+  condemned = λ s. is_condemned rules moment (listed s);
+  needed = λ s a. keeps_file (keeping_of rules (current_number s) (listed s) a.id.number) a.name;
+}
+
+-- ---- from one stanza
+
+-- g represents the stanza after a part of its expiry
+abbrev pub IsPartOfExpiry : Text → Retention → Stanza → Content → Type 0
+IsPartOfExpiry stanza kept s g = (done : List Step) × IsPartOf done (expiry_moves kept s)
+    × Represents stanza g (after (Some s) done)
+
+-- what the disk holds, where it is known, represents it
+abbrev pub NowPartOfExpiry : Text → Retention → Stanza → Option Content → Type 0
+NowPartOfExpiry stanza kept s now = (done : List Step) × IsPartOf done (expiry_moves kept s)
+    × NowRepresents stanza (after (Some s) done) now
+
+-- the stanza after all of its expiry
+abbrev pub expired_of : Retention → Stanza → Repository
+expired_of kept s = after (Some s) (all_of (expiry_moves kept s))
+
+-- What the disk represented, and at each moment all that may be left of it, changes by a part of the stanza's expiry.
+pub record PartFrom (stanza : Text) (kept : Retention) (s : Stanza) (old new : View) : Type 0 where
+  pub now : NowRepresents stanza (Some s) old.now → NowPartOfExpiry stanza kept s new.now
+  pub moves : IsSteady stanza (Some s) old → EachImage stanza (IsPartOfExpiry stanza kept s) old new
+
+-- at its end, by all of it
+pub record WholeFrom (stanza : Text) (kept : Retention) (s : Stanza) (old new : View) : Type 0 where
+  pub now : NowRepresents stanza (Some s) old.now → NowRepresents stanza (expired_of kept s) new.now
+  pub steady : IsSteady stanza (Some s) old → IsSteady stanza (expired_of kept s) new
+
+-- ---- what stays
+
+-- g has the stanza, and in it, with all their bytes, each backup that isn't condemned, and each archived file that the
+-- backups left need
+pub record HasNeeded (stanza : Text) (kept : Retention) (s : Stanza) (g : Content) : Type 0 where
+  pub left : Stanza
+  pub has : HasStanza stanza g left
+  pub backups : (b : Backup) → In b s.backups → kept.condemned s b.entry.label ≡ false → In b left.backups
+  pub files : (a : Archived) → In a s.archived → kept.needed (changed (Condemn (kept.condemned s)) s) a ≡ true
+      → In a left.archived
+
+-- what the expiry of a stanza may change: the backup pair, folders of labels that aren't listed in the end, and files
+-- that aren't needed then
+abbrev pub IsTouched : Text → Rules → ℕ → Stanza → Text → Type 0
+IsTouched stanza rules moment s name =
+    let left = changed (Condemn (is_condemned rules moment (listed s))) s in
+    MayTouch stanza (labels_of (listed left)) (keeps_by rules (current_number left) (listed left)) name

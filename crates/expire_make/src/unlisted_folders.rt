@@ -1,0 +1,124 @@
+// Removes the folders of labels that aren't listed.
+ghost use Rattle.std.specs.Prelude.{◌≡◌, false, map, nat_eq, IfErr, IfOk, IsTrue, OnOk};
+ghost use Rattle.std.specs.List.{starts_with};
+ghost use Rattle.base_devices.specs.Content.{is_below};
+ghost use Rattle.base_devices.specs.Cause.{Rises};
+ghost use Rattle.base_devices.specs.States.{Looks};
+ghost use Rattle.base_model.specs.Text.{◌⫽◌};
+ghost use Rattle.base_model.specs.Names.{backup_folder};
+ghost use Rattle.base_model.specs.Values.{entry_of};
+ghost use Rattle.expire_rules.specs.Labels.{labels_of};
+ghost use Rattle.expire_make.specs.Losing.{TakesAway, IsUnlisted, StaysDurable};
+ghost use Rattle.expire_make.specs.Fault.{IsDeviceFault};
+
+use crate::fault::ExpireFault;
+use crate::labels::is_unlisted;
+use base_devices::{Disk, Found};
+use base_model::Entry;
+use std::alloc::Global;
+
+// Removes the name, where it has this in front.
+fn remove_after<D: Disk>(d: &mut D, name: &str, prefix: &str) -> Result<(), ExpireFault>
+    ensures takes { TakesAway (λ n. IsTrue (starts_with nat_eq n prefix.now)) (D.state d.old) (D.state d.new) }
+    ensures cause { IfErr result (IsDeviceFault (Rises (D.state d.old).faults (D.state d.new).faults)) }
+{
+    if !name.as_bytes().starts_with(prefix.as_bytes()) {
+        return Ok(());
+    }
+    d.remove(name)?;
+    Ok(())
+}
+
+// Removes those of the names that have this in front: a disk whose contents are unknown may list others.
+fn remove_all<D: Disk>(d: &mut D, found: &[Found], prefix: &str) -> Result<(), ExpireFault>
+    ensures takes { TakesAway (λ n. IsTrue (starts_with nat_eq n prefix.now)) (D.state d.old) (D.state d.new) }
+    ensures cause { IfErr result (IsDeviceFault (Rises (D.state d.old).faults (D.state d.new).faults)) }
+{
+    for each in found {
+        remove_after(d, &each.name, prefix)?;
+    }
+    Ok(())
+}
+
+// Removes all that lies below this folder of the stanza's backups. A sync has to follow.
+fn drop_below<D: Disk>(
+    alloc: Global,
+    d: &mut D,
+    stanza: &str,
+    name: &str,
+) -> Result<(), ExpireFault>
+    ensures takes { TakesAway (λ n. IsTrue (is_below (backup_folder stanza.now ⫽ name.now) n))
+        (D.state d.old) (D.state d.new) }
+    ensures cause { IfErr result (IsDeviceFault (Rises (D.state d.old).faults (D.state d.new).faults)) }
+{
+    let folder = format!(in alloc; "backup/{stanza}/{name}")?;
+    let prefix = format!(in alloc; "{folder}/")?;
+    let found = d.names(alloc, folder.as_str())?;
+    remove_all(d, &found, prefix.as_str())
+}
+
+// Removes the folder, where its name is that of a label that isn't listed, and returns whether it is.
+fn drop_one<D: Disk>(
+    alloc: Global,
+    d: &mut D,
+    stanza: &str,
+    name: &str,
+    entries: &[Entry],
+) -> Result<bool, ExpireFault>
+    ensures takes { TakesAway (IsUnlisted stanza.now (labels_of (map entry_of entries.now)))
+        (D.state d.old) (D.state d.new) }
+    ensures idle { IfOk result (λ is_dropped. is_dropped ≡ false → Looks (D.state d.old) (D.state d.new)) }
+    ensures cause { IfErr result (IsDeviceFault (Rises (D.state d.old).faults (D.state d.new).faults)) }
+{
+    if is_unlisted(name.as_bytes(), entries) {
+        drop_below(alloc, d, stanza, name)?;
+        return Ok(true);
+    }
+    Ok(false)
+}
+
+// Removes those of the folders that are named as labels that aren't listed, and returns whether there is one.
+fn drop_each<D: Disk>(
+    alloc: Global,
+    d: &mut D,
+    stanza: &str,
+    names: &[String],
+    entries: &[Entry],
+) -> Result<bool, ExpireFault>
+    ensures takes { TakesAway (IsUnlisted stanza.now (labels_of (map entry_of entries.now)))
+        (D.state d.old) (D.state d.new) }
+    ensures idle { IfOk result (λ is_dropped. is_dropped ≡ false → Looks (D.state d.old) (D.state d.new)) }
+    ensures cause { IfErr result (IsDeviceFault (Rises (D.state d.old).faults (D.state d.new).faults)) }
+{
+    let mut is_dropped = false;
+    for name in names {
+        if drop_one(alloc, d, stanza, name.as_str(), entries)? {
+            is_dropped = true;
+        }
+    }
+    Ok(is_dropped)
+}
+
+/// Removes the folders of all labels that aren't listed. Where there are some, one sync after them all makes
+/// that durable: each would wait for the device.
+pub(crate) fn drop_unlisted<D: Disk>(
+    alloc: Global,
+    d: &mut D,
+    stanza: &str,
+    entries: &[Entry],
+) -> Result<(), ExpireFault>
+    ensures takes { TakesAway (IsUnlisted stanza.now (labels_of (map entry_of entries.now)))
+        (D.state d.old) (D.state d.new) }
+    ensures settled { OnOk result (StaysDurable (λ n. IsTrue (is_below (backup_folder stanza.now) n))
+        (D.state d.old).view (D.state d.new).view) }
+    ensures cause { IfErr result (IsDeviceFault (Rises (D.state d.old).faults (D.state d.new).faults)) }
+{
+    let folder = format!(in alloc; "backup/{stanza}")?;
+    let names = d.folders(alloc, folder.as_str())?;
+    let is_dropped = drop_each(alloc, d, stanza, &names, entries)?;
+    if is_dropped {
+        d.sync_directories(folder.as_str())?;
+        return Ok(());
+    }
+    Ok(())
+}

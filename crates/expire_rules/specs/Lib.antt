@@ -1,0 +1,5 @@
+pub mod Labels
+pub mod Condemned
+pub mod Descent
+pub mod Needed
+pub mod Known

@@ -1,0 +1,16 @@
+use Rattle.std.proofs.Common.{◌≡◌, List, map, string_bytes, sym, subst, rules}
+use Rattle.std.specs.String.{string_cmp}
+use Rattle.std.specs.BTreeMap.{IsOrdered}
+use Rattle.base_devices.specs.declared.tree.Node.{Node}
+use Rattle.base_devices.specs.Content.{Name}
+use Rattle.base_devices.specs.DataFolder.{IsTreeListing}
+use Rattle.memory_devices.specs.Nodes.{nodes_at}
+use Rattle.memory_devices.proofs.Trees.{shown_entry, tree_listing}
+use Rattle.memory_devices.proofs.nodes.list_nodes.Goals as goal
+
+pub returns : goal.returns
+returns c =
+    let nodes = c.args.nodes.now in
+    let ordered : IsOrdered string_cmp nodes = search rules in
+    let whole : map (λ s. (string_bytes s.path, s.node)) c.loop-path.seen.items ≡ map shown_entry nodes.entries = search rules in
+    subst (λ (l : List (Name × Node)). IsTreeListing (nodes_at nodes) l) (sym whole) (tree_listing nodes ordered c.requires)

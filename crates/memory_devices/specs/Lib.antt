@@ -1,0 +1,11 @@
+pub mod Counts
+pub mod State
+pub mod Agrees
+pub mod Held
+pub mod Fair
+pub mod Replay
+pub mod Image
+pub mod Nodes
+pub mod TreeFault
+pub mod InputFiles
+pub mod Locks

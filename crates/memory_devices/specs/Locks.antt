@@ -1,0 +1,20 @@
+-- What is known of locks in memory.
+use Rattle.std.specs.Prelude.{ℕ, List, String, map, string_bytes}
+use Rattle.std.specs.declared.alloc.Global.{Global}
+use Rattle.base_devices.specs.Content.{Name}
+use Rattle.base_devices.specs.declared.locks.Take.{Take}
+use Rattle.base_devices.specs.declared.locks.Take.TheVariants.{Taken, Held}
+use Rattle.memory_devices.specs.Counts.{risen}
+
+-- the names that these texts are
+abbrev pub names_in : List (String Global) → List Name
+names_in = map string_bytes
+
+-- the folders and names of these locks
+abbrev pub locks_in : List (String Global × String Global) → List (Name × Name)
+locks_in = map (λ (x : String Global × String Global). (string_bytes x.0, string_bytes x.1))
+
+-- how often a lock was held, after one more take
+abbrev pub refused : Take → ℕ → ℕ
+refused Held n = risen n
+refused Taken n = n

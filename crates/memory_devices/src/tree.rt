@@ -1,0 +1,334 @@
+// A data folder in memory.
+ghost use Rattle.std.specs.Prelude.{◌≡◌, ◌≤◌, ◌||◌, ◌&&◌, [], map, not, is_none, if◌then◌else◌, IsSomeAnd, length, string_bytes, option_map, Some, None, IfOk, IfErr, IfSome, OnOk, OnErr};
+ghost use Rattle.base_devices.specs.Cause.{HasCause};
+ghost use Rattle.base_devices.specs.States.{Opens, last_opened};
+ghost use Rattle.base_devices.specs.Content.{Reads};
+ghost use Rattle.base_devices.specs.DataFolder.{file, folder as folder_node, IsTreeListing, known_path, file_bytes, with_node, moved_node};
+ghost use Rattle.memory_devices.specs.Nodes.{node_of, nodes_at, tree_at, is_file, is_folder, is_placed, takes_file, takes_folder, may_make, may_begin, may_move, holds_nothing, longer_node, Rooted};
+ghost use Rattle.memory_devices.specs.Counts.{is_to_fail, counted, tried, tried_on, FailsWhere};
+
+use crate::failing::Failing;
+use crate::nodes::{
+    MemNode, empty_file, extend_file, first_lost, has_file, has_folder, has_its_folder, is_bare,
+    is_free, known_size, list_nodes, map_of, may_put_file, may_put_folder, move_file, put_node,
+    read_known, take_node,
+};
+use base_devices::{DataFolder, DeviceError, FolderEntry, ReadableFile};
+use std::alloc::{AllocError, Global};
+use std::collections::BTreeMap;
+
+/// Why no tree was made of some nodes.
+#[derive(Debug, Drop)]
+pub enum TreeFault {
+    /// A node lies in a folder that isn't among them.
+    NoFolder { path: String },
+    NoMemory,
+}
+
+impl From<AllocError> for TreeFault {
+    ghost use Rattle.memory_devices.specs.declared.tree.TreeFault.TheVariants.{NoMemory};
+
+    ghost from_gives = { λ _ e. e ≡ NoMemory };
+
+    fn from(_: AllocError) -> Self {
+        TreeFault::NoMemory
+    }
+}
+
+/// A data folder whose nodes are known.
+#[derive(Drop)]
+pub struct MemDataFolder {
+    alloc: Global,
+    nodes: BTreeMap<String, MemNode>,
+    failing: Failing,
+    // the last one first
+    opened: Vec<String>,
+    ghost rooted: { Rooted (nodes_at nodes) },
+}
+
+impl MemDataFolder {
+    ghost use Rattle.memory_devices.specs.TreeFault.{Names};
+
+    /// A tree with these nodes, each folder on a path among them; of a path that is given twice the last node counts.
+    /// `fail` has the numbers of the calls that are to fail, the first being 0.
+    pub fn new(
+        alloc: Global,
+        nodes: Vec<(String, MemNode)>,
+        fail: Vec<u64>,
+    ) -> Result<Self, TreeFault>
+        ensures nodes { IfOk result (λ t. (⟦<MemDataFolder as DataFolder>⟧.state t).nodes ≡ Some (tree_at nodes.items)) }
+        ensures counts { IfOk result (λ t. t.failing ≡ record { fail = fail; calls = 0; faults = 0; faulty_calls = 0 }) }
+        ensures opened { IfOk result (λ t. (⟦<MemDataFolder as DataFolder>⟧.state t).opened ≡ []) }
+        ensures lost { IfErr result (λ e. Names (tree_at nodes.items) e) }
+        ensures rooted { OnOk result (Rooted (tree_at nodes.items)) }
+    {
+        let nodes = map_of(alloc, nodes)?;
+        if let Some(path) = first_lost(&nodes) {
+            let path = String::from_str(alloc, path)?;
+            return Err(TreeFault::NoFolder { path });
+        }
+        Ok(MemDataFolder {
+            alloc,
+            nodes,
+            failing: Failing::new(fail),
+            opened: Vec::new(alloc),
+        })
+    }
+
+    /// What is at a path.
+    pub fn node(&self, path: &str) -> Option<&MemNode>
+        ensures { IsSomeAnd (⟦<MemDataFolder as DataFolder>⟧.state self.now).nodes
+            (λ f. option_map (λ n. node_of n.now) result ≡ f path.now) }
+    {
+        self.nodes.get(path)
+    }
+
+    /// How often a call failed.
+    pub fn faults(&self) -> u64
+        ensures { result ≡ (⟦<MemDataFolder as DataFolder>⟧.state self.now).faults }
+    {
+        self.failing.faults()
+    }
+
+    /// How many calls were faulty: an append or a rename of what is no file, a make, a begin or a rename to a path
+    /// whose folder isn't there, a remove of a folder that isn't empty.
+    pub fn faulty_calls(&self) -> u64
+        ensures { result ≡ (⟦<MemDataFolder as DataFolder>⟧.state self.now).faulty_calls }
+    {
+        self.failing.faulty_calls()
+    }
+
+    /// The place that was opened last, and nothing before the first.
+    pub fn place(&self) -> &str
+        ensures { result.now ≡ last_opened (⟦<MemDataFolder as DataFolder>⟧.state self.now).opened }
+    {
+        match self.opened.first() {
+            Some(place) => place.as_str(),
+            None => "",
+        }
+    }
+
+    /// The places that were opened, the last one first.
+    pub fn opened(&self) -> &[String]
+        ensures { map string_bytes result.now ≡ (⟦<MemDataFolder as DataFolder>⟧.state self.now).opened }
+    {
+        &self.opened
+    }
+}
+
+impl DataFolder for MemDataFolder {
+    ghost state = { λ t. record {
+      nodes = Some (nodes_at t.nodes);
+      opened = map string_bytes t.opened.items;
+      faulty_calls = t.failing.faulty_calls;
+      faults = t.failing.faults;
+    } };
+
+    fn open(&mut self, path: &str) -> Result<(), DeviceError>
+        ensures opens { Opens result path.now (map string_bytes self.old.opened.items)
+            (map string_bytes self.new.opened.items) }
+        ensures same { nodes_at self.new.nodes ≡ nodes_at self.old.nodes }
+        ensures fails { FailsWhere (is_to_fail self.old.failing) result }
+        ensures counts { self.new.failing ≡ counted self.old.failing }
+        ensures cause { HasCause self.old.failing.faults self.new.failing.faults result }
+    {
+        if self.failing.fails() {
+            return Err(DeviceError::Failed);
+        }
+        let place = String::from_str(self.alloc, path)?;
+        self.opened.insert(0, place)?;
+        Ok(())
+    }
+
+    fn list(&mut self, alloc: Global) -> Result<Vec<FolderEntry>, DeviceError>
+        ensures listing { IfOk result
+            (λ seen. IsTreeListing (nodes_at self.old.nodes) (map (λ s. (string_bytes s.path, s.node)) seen.items)) }
+        ensures same { nodes_at self.new.nodes ≡ nodes_at self.old.nodes }
+        ensures fails { FailsWhere (is_to_fail self.old.failing) result }
+        ensures counts { self.new.failing ≡ counted self.old.failing }
+        ensures opened { self.new.opened.items ≡ self.old.opened.items }
+        ensures cause { HasCause self.old.failing.faults self.new.failing.faults result }
+    {
+        if self.failing.fails() {
+            return Err(DeviceError::Failed);
+        }
+        Ok(list_nodes(alloc, &self.nodes)?)
+    }
+
+    fn read(
+        &mut self,
+        what: &ReadableFile,
+        at: u64,
+        buf: &mut [u8],
+    ) -> Result<Option<usize>, DeviceError>
+        ensures bytes { IfOk result
+            (λ n. Reads (file_bytes (nodes_at self.old.nodes (known_path what.now))) at (length buf.old) buf.new n) }
+        ensures room { IfOk result (λ n. IfSome n (λ n. n ≤ length buf.old)) }
+        ensures same { nodes_at self.new.nodes ≡ nodes_at self.old.nodes }
+        ensures fails { FailsWhere (is_to_fail self.old.failing) result }
+        ensures counts { self.new.failing ≡ counted self.old.failing }
+        ensures opened { self.new.opened.items ≡ self.old.opened.items }
+        ensures cause { HasCause self.old.failing.faults self.new.failing.faults result }
+    {
+        if self.failing.fails() {
+            return Err(DeviceError::Failed);
+        }
+        Ok(read_known(self.alloc, &self.nodes, what, at, buf)?)
+    }
+
+    fn size(&mut self, what: &ReadableFile) -> Result<Option<u64>, DeviceError>
+        ensures size { IfOk result
+            (λ n. n ≡ option_map length (file_bytes (nodes_at self.old.nodes (known_path what.now)))) }
+        ensures same { nodes_at self.new.nodes ≡ nodes_at self.old.nodes }
+        ensures fails { FailsWhere (is_to_fail self.old.failing) result }
+        ensures counts { self.new.failing ≡ counted self.old.failing }
+        ensures opened { self.new.opened.items ≡ self.old.opened.items }
+        ensures cause { HasCause self.old.failing.faults self.new.failing.faults result }
+    {
+        if self.failing.fails() {
+            return Err(DeviceError::Failed);
+        }
+        Ok(known_size(self.alloc, &self.nodes, what)?)
+    }
+
+    fn make(&mut self, folder: &str) -> Result<(), DeviceError>
+        ensures ok { OnOk result
+            (nodes_at self.new.nodes ≡ with_node folder.now (Some folder_node) (nodes_at self.old.nodes)) }
+        ensures err { OnErr result (nodes_at self.new.nodes ≡ nodes_at self.old.nodes) }
+        ensures fails { FailsWhere
+            (is_to_fail self.old.failing || not (may_make (nodes_at self.old.nodes) folder.now)) result }
+        ensures counts { let t = nodes_at self.old.nodes in self.new.failing ≡ tried_on (is_placed t folder.now)
+            (takes_folder (t folder.now)) self.old.failing }
+        ensures opened { self.new.opened.items ≡ self.old.opened.items }
+        ensures cause { HasCause self.old.failing.faults self.new.failing.faults result }
+    {
+        if self.failing.fails() {
+            return Err(DeviceError::Failed);
+        }
+        if !has_its_folder(&self.nodes, folder) {
+            return Err(self.failing.faulty_call());
+        }
+        if !may_put_folder(&self.nodes, folder) {
+            return Err(self.failing.fault());
+        }
+        put_node(self.alloc, &mut self.nodes, folder, MemNode::Folder)?;
+        Ok(())
+    }
+
+    fn begin(&mut self, path: &str) -> Result<(), DeviceError>
+        // A file that is begun has time 0.
+        ensures ok { OnOk result
+            (nodes_at self.new.nodes ≡ with_node path.now (Some (file [] 0)) (nodes_at self.old.nodes)) }
+        ensures err { OnErr result (nodes_at self.new.nodes ≡ nodes_at self.old.nodes) }
+        ensures fails { FailsWhere
+            (is_to_fail self.old.failing || not (may_begin (nodes_at self.old.nodes) path.now)) result }
+        ensures counts { let t = nodes_at self.old.nodes in self.new.failing ≡ tried_on (is_placed t path.now)
+            (takes_file (t path.now)) self.old.failing }
+        ensures opened { self.new.opened.items ≡ self.old.opened.items }
+        ensures cause { HasCause self.old.failing.faults self.new.failing.faults result }
+    {
+        if self.failing.fails() {
+            return Err(DeviceError::Failed);
+        }
+        if !has_its_folder(&self.nodes, path) {
+            return Err(self.failing.faulty_call());
+        }
+        if !may_put_file(&self.nodes, path) {
+            return Err(self.failing.fault());
+        }
+        let empty = empty_file(self.alloc);
+        put_node(self.alloc, &mut self.nodes, path, empty)?;
+        Ok(())
+    }
+
+    fn begin_new(&mut self, path: &str) -> Result<bool, DeviceError>
+        ensures known { IfOk result (λ made. made ≡ is_none (nodes_at self.old.nodes path.now)) }
+        // A file that is begun has time 0.
+        ensures ok { IfOk result
+            (λ made. nodes_at self.new.nodes ≡
+            (if made then with_node path.now (Some (file [] 0))
+            (nodes_at self.old.nodes) else nodes_at self.old.nodes)) }
+        ensures err { OnErr result (nodes_at self.new.nodes ≡ nodes_at self.old.nodes) }
+        ensures fails { FailsWhere
+            (is_to_fail self.old.failing || not (is_placed (nodes_at self.old.nodes) path.now)) result }
+        ensures counts { self.new.failing ≡ tried (is_placed (nodes_at self.old.nodes) path.now) self.old.failing }
+        ensures opened { self.new.opened.items ≡ self.old.opened.items }
+        ensures cause { HasCause self.old.failing.faults self.new.failing.faults result }
+    {
+        if self.failing.fails() {
+            return Err(DeviceError::Failed);
+        }
+        if !has_its_folder(&self.nodes, path) {
+            return Err(self.failing.faulty_call());
+        }
+        if !is_free(&self.nodes, path) {
+            return Ok(false);
+        }
+        let empty = empty_file(self.alloc);
+        put_node(self.alloc, &mut self.nodes, path, empty)?;
+        Ok(true)
+    }
+
+    fn append(&mut self, path: &str, bytes: &[u8]) -> Result<(), DeviceError>
+        // The file's time stays.
+        ensures ok { OnOk result
+            (nodes_at self.new.nodes ≡ with_node path.now
+            (option_map (longer_node bytes.now) (nodes_at self.old.nodes path.now)) (nodes_at self.old.nodes)) }
+        ensures err { OnErr result (nodes_at self.new.nodes ≡ nodes_at self.old.nodes) }
+        ensures fails { FailsWhere
+            (is_to_fail self.old.failing || not (is_file (nodes_at self.old.nodes path.now))) result }
+        ensures counts { self.new.failing ≡ tried (is_file (nodes_at self.old.nodes path.now)) self.old.failing }
+        ensures opened { self.new.opened.items ≡ self.old.opened.items }
+        ensures cause { HasCause self.old.failing.faults self.new.failing.faults result }
+    {
+        if self.failing.fails() {
+            return Err(DeviceError::Failed);
+        }
+        if !has_file(&self.nodes, path) {
+            return Err(self.failing.faulty_call());
+        }
+        extend_file(&mut self.nodes, path, bytes)?;
+        Ok(())
+    }
+
+    fn rename(&mut self, from: &str, to: &str) -> Result<(), DeviceError>
+        ensures ok { OnOk result (nodes_at self.new.nodes ≡ moved_node from.now to.now (nodes_at self.old.nodes)) }
+        ensures err { OnErr result (nodes_at self.new.nodes ≡ nodes_at self.old.nodes) }
+        ensures fails { FailsWhere
+            (is_to_fail self.old.failing || not (may_move (nodes_at self.old.nodes) from.now to.now)) result }
+        ensures counts { let t = nodes_at self.old.nodes in self.new.failing ≡ tried_on
+            (is_file (t from.now) && is_placed t to.now) (not (is_folder (t to.now))) self.old.failing }
+        ensures opened { self.new.opened.items ≡ self.old.opened.items }
+        ensures cause { HasCause self.old.failing.faults self.new.failing.faults result }
+    {
+        if self.failing.fails() {
+            return Err(DeviceError::Failed);
+        }
+        if !has_file(&self.nodes, from) || !has_its_folder(&self.nodes, to) {
+            return Err(self.failing.faulty_call());
+        }
+        if has_folder(&self.nodes, to) {
+            return Err(self.failing.fault());
+        }
+        move_file(self.alloc, &mut self.nodes, from, to)?;
+        Ok(())
+    }
+
+    fn remove(&mut self, path: &str) -> Result<(), DeviceError>
+        ensures ok { OnOk result (nodes_at self.new.nodes ≡ with_node path.now None (nodes_at self.old.nodes)) }
+        ensures err { OnErr result (nodes_at self.new.nodes ≡ nodes_at self.old.nodes) }
+        ensures fails { FailsWhere (is_to_fail self.old.failing || not (holds_nothing path.now self.old.nodes)) result }
+        ensures counts { self.new.failing ≡ tried (holds_nothing path.now self.old.nodes) self.old.failing }
+        ensures opened { self.new.opened.items ≡ self.old.opened.items }
+        ensures cause { HasCause self.old.failing.faults self.new.failing.faults result }
+    {
+        if self.failing.fails() {
+            return Err(DeviceError::Failed);
+        }
+        if !is_bare(&self.nodes, path) {
+            return Err(self.failing.faulty_call());
+        }
+        take_node(&mut self.nodes, path);
+        Ok(())
+    }
+}

@@ -1,0 +1,40 @@
+-- What is known of other processes in memory.
+use Rattle.std.specs.Prelude.{ℕ, Bool, true, List, [], ◌∷◌, ◌++◌, Option, Some, None, is_ok, map, take}
+use Rattle.base_model.specs.Text.{Text}
+use Rattle.archive_index.specs.Turns.{Turned, Account}
+use Rattle.memory_processes.specs.declared.turn.OtherPush.{OtherPush}
+use Rattle.memory_processes.specs.declared.turn.OtherTurn.{OtherTurn}
+use Rattle.memory_processes.specs.declared.turn.Came.{Came}
+use Rattle.memory_processes.specs.Pushing.{turn_of, marks_of}
+
+-- a step of others in which nothing is pushed
+abbrev pub idle_turn : Turned
+idle_turn = record { turn = record { id = record { version = 0; number = 0 }; pushed = []; ended = true }; marks = [] }
+
+-- the step of others with its push, by the result of it
+abbrev pub pushed_by : Text → Option OtherPush → Bool → Bool → Turned
+pushed_by stanza None tried ended = idle_turn
+pushed_by stanza (Some p) tried ended =
+    record {
+      turn = turn_of p.id p.segment p.bytes.items tried ended;
+      marks = marks_of stanza p.segment p.bytes.items tried ended;
+    }
+
+abbrev pub turned_by : Text → OtherTurn → Turned
+turned_by stanza t = pushed_by stanza t.push t.tried t.ended
+
+-- a step of others with this result
+abbrev pub after_push : OtherTurn → Came → OtherTurn
+after_push t came = record { push = t.push; tried = came.tried; ended = is_ok came.done }
+
+-- this many steps of others in which nothing is pushed
+abbrev pub idle_turns : List ℕ → List Turned
+idle_turns [] = []
+idle_turns (n ∷ ns) = idle_turns ns ++ idle_turn ∷ []
+
+-- their account has the first steps of the list, as many as were taken, and those after the list
+abbrev pub account_of : Text → List OtherTurn → ℕ → List ℕ → Account
+account_of stanza list at following = record {
+  stanza = stanza;
+  turns = map (turned_by stanza) (take at list) ++ idle_turns following;
+}

@@ -1,6 +1,0 @@
-use Rattle.std.proofs.Common.{◌≤◌}
-use Rattle.pgb_adapters.proofs.clock.RealClock.pass.Given as goal
-
--- the clock goes on, and no fault is taken back
-abbrev pub invariant-loop : goal.invariant-loop
-invariant-loop l = (l.fn.self.least ≤ l.self.least) × (l.fn.self.faults.count ≤ l.self.faults.count)

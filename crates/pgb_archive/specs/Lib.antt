@@ -1,5 +1,0 @@
-pub mod Fault
-pub mod Still
-pub mod Pieces
-pub mod Pushes
-pub mod Pushing

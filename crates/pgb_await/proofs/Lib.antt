@@ -1,9 +1,0 @@
-mod Held
-mod Coming
-pub mod Moves
-mod Sounds
-pub mod Folds
-pub mod Marks
-mod Turns
-mod Waits
-pub mod Backups

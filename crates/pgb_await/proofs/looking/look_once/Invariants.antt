@@ -1,6 +1,0 @@
-use Rattle.pgb_await.proofs.Coming.{HasCome}
-use Rattle.pgb_await.proofs.looking.look_once.Given as goal
-
-abbrev pub invariant-loop : goal.invariant-loop
-invariant-loop g l =
-    HasCome l.fn.stanza l.fn.id l.fn.wal l.counter l.segment (g.D.Disk.state l.fn.repo) (g.D.Disk.state l.repo)

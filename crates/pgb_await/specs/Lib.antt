@@ -1,3 +1,0 @@
-pub mod Stored
-pub mod Went
-pub mod Causes

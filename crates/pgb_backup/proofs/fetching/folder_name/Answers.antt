@@ -1,7 +1,0 @@
-use Rattle.std.proofs.Common.{◌∷◌, ◌++◌, ap, ◌∙◌}
-use Rattle.std.specs.Prelude.{codes}
-use Rattle.pgb_model.specs.Text.{Text}
-use Rattle.pgb_backup.proofs.fetching.folder_name.Goals as goal
-
-pub returns : goal.returns
-returns c = c.in_ok-format.ensures.ok ∙ ap (λ (t : Text). codes "backup/" ++ c.args.stanza.now ++ 47 ∷ t) c.in_ok-label.ensures

@@ -1,4 +1,0 @@
-pub mod Left
-pub mod Holdings
-pub mod Digests
-pub mod Twins

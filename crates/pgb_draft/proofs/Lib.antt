@@ -1,4 +1,0 @@
-pub mod StampOrder
-pub mod Latest
-pub mod Free
-pub mod Priors

@@ -1,6 +1,0 @@
-use Rattle.std.proofs.Common.{◌-◌, arith}
-use Rattle.pgb_draft.proofs.Latest.{in_got}
-use Rattle.pgb_draft.proofs.drafting.current_cluster.Goals as goal
-
-pub returns-clause-listed : goal.returns-clause-listed
-returns-clause-listed c = in_got c.args.list.now.history.items (c.args.list.now.current - 1) c.index.result.now (omega (arith, c.requires.current.0, c.requires.current.1)) c.index.ensures

@@ -1,5 +1,0 @@
-pub mod Faults
-pub mod Seconds
-pub mod Full
-pub mod Priors
-pub mod Drafted

@@ -1,8 +1,0 @@
-use Rattle.std.proofs.Common.{◌≡◌, ◌++◌, drop, string_bytes}
-use Rattle.std.specs.List.{flat_map}
-use Rattle.pgb_examine.specs.Examining.{finding_line}
-use Rattle.pgb_examine.proofs.examining.lines_of.Given as goal
-
--- the lines that are there and those to come are all
-abbrev pub invariant-loop-finding : goal.invariant-loop-finding
-invariant-loop-finding l = string_bytes l.lines ++ flat_map finding_line (drop l.finding-index l.found) ≡ flat_map finding_line l.found

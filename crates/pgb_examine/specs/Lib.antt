@@ -1,2 +1,0 @@
-pub mod Examining
-pub mod Texts

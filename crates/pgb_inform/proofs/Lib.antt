@@ -1,5 +1,0 @@
-mod EntryLines
-mod Ends
-mod ReportNames
-mod EndNames
-mod Reported

@@ -1,9 +1,0 @@
-pub mod Kept
-pub mod Room
-pub mod Calls
-pub mod Fresh
-pub mod Synced
-pub mod Ways
-pub mod Made
-pub mod Places
-pub mod Filed

@@ -1,6 +1,0 @@
-use Rattle.std.proofs.Common.{take, map, string_bytes}
-use Rattle.pgb_memory.proofs.Through.{AreThrough}
-use Rattle.pgb_memory.proofs.held.folders_among.Given as goal
-
-abbrev pub invariant-loop-name : goal.invariant-loop-name
-invariant-loop-name l = AreThrough l.folder (take l.name-index l.found) (map string_bytes l.told.items)

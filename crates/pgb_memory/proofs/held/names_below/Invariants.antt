@@ -1,8 +1,0 @@
-use Rattle.std.proofs.Common.{◌≡◌, ◌++◌, map, string_bytes, length}
-use Rattle.pgb_outside.specs.Content.{is_below}
-use Rattle.pgb_memory.proofs.Listing.{listed}
-use Rattle.pgb_memory.proofs.NamesBelow.{below_listed}
-use Rattle.pgb_memory.proofs.held.names_below.Given as goal
-
-abbrev pub invariant-loop-name : goal.invariant-loop-name
-invariant-loop-name l = map (λ x. (string_bytes x.name, x.size)) l.found.items ++ listed (is_below l.folder) (λ v. length v.items) l.name-iterator ≡ below_listed l.folder l.names

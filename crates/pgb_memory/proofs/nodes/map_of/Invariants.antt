@@ -1,6 +1,0 @@
-use Rattle.std.proofs.Common.{◌≡◌}
-use Rattle.pgb_memory.specs.Nodes.{nodes_at, tree_at}
-use Rattle.pgb_memory.proofs.nodes.map_of.Given as goal
-
-abbrev pub invariant-loop-path : goal.invariant-loop-path
-invariant-loop-path l = nodes_at l.nodes ≡ tree_at l.yielded

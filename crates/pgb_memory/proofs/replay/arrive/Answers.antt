@@ -1,6 +1,0 @@
-use Rattle.pgb_memory.specs.Replay.{arrived_at, value_of, states_in, state_of_trace}
-use Rattle.pgb_memory.proofs.Replayed.{edited}
-use Rattle.pgb_memory.proofs.replay.arrive.Goals as goal
-
-pub returns : goal.returns
-returns c = edited c.put.result c.args.name.now (arrived_at (value_of c.args.value) c.args.loose) (states_in c.args.traces.now) (states_in c.take.new.traces) (states_in c.put.new.traces) (state_of_trace c.in_ok-trace.trace) (state_of_trace c.arrive.new.self) c.put.ensures c.in_ok-trace.ensures.others c.in_ok-trace.ensures.trace c.in_ok-arrive.ensures

@@ -1,9 +1,0 @@
-use Rattle.std.proofs.Common.{◌≡◌, ◌∙◌}
-use Rattle.std.proofs.lemmas.Result.{on_ok_weaker}
-use Rattle.pgb_memory.specs.Replay.{states_in, changed_at, arrived_at, value_of}
-use Rattle.pgb_memory.proofs.Replayed.{renamed_parts}
-use Rattle.pgb_memory.proofs.replay.rename.Goals as goal
-
-pub returns : goal.returns
-returns c = on_ok_weaker c.arrive.result (λ (did : states_in c.arrive.new.traces ≡ changed_at c.args.to.now (arrived_at (value_of c.in_ok-value.value) c.is_loose-loose.result) (states_in c.remove_other.new.traces)).
-    did ∙ renamed_parts c.args.from.now c.args.to.now (states_in c.args.traces.now) (states_in c.remove_other.new.traces) (value_of c.in_ok-value.value) c.is_loose-loose.result c.in_ok-value.ensures c.is_loose-loose.ensures c.in_ok-remove_other.ensures) c.arrive.ensures

@@ -1,6 +1,0 @@
-use Rattle.pgb_memory.specs.Replay.{swept_at, states_in, state_of_trace}
-use Rattle.pgb_memory.proofs.Replayed.{edited}
-use Rattle.pgb_memory.proofs.replay.sweep_name.Goals as goal
-
-pub returns : goal.returns
-returns c = edited c.put.result c.args.name.now (swept_at c.args.sweep) (states_in c.args.traces.now) (states_in c.take.new.traces) (states_in c.put.new.traces) (state_of_trace c.in_ok-trace.trace) (state_of_trace c.sweep.new.self) c.put.ensures c.in_ok-trace.ensures.others c.in_ok-trace.ensures.trace c.in_ok-sweep.ensures

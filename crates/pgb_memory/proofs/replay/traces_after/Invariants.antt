@@ -1,8 +1,0 @@
-use Rattle.std.proofs.Common.{◌≡◌, take}
-use Rattle.std.specs.Prelude.{fold}
-use Rattle.pgb_memory.specs.State.{first_state}
-use Rattle.pgb_memory.specs.Replay.{states_in, states_of, step_at}
-use Rattle.pgb_memory.proofs.replay.traces_after.Given as goal
-
-abbrev pub invariant-loop-change : goal.invariant-loop-change
-invariant-loop-change l = states_in l.traces ≡ fold step_at (states_of (first_state l.given)) (take l.change-index l.changes)

@@ -1,3 +1,0 @@
-pub mod Receipts
-pub mod Pushed
-pub mod Told

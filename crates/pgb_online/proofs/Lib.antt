@@ -1,2 +1,0 @@
-mod Replies
-mod Parted

@@ -1,6 +1,0 @@
-pub mod Causes
-pub mod Mends
-pub mod Onward
-pub mod Saved
-pub mod Owned
-pub mod Lasts

@@ -1,7 +1,0 @@
-use Rattle.pgb_plan.specs.Filter.{IsTimed}
-use Rattle.pgb_plan.specs.Views.{seen_of}
-use Rattle.pgb_plan.proofs.Taking.{all_of_one}
-use Rattle.pgb_plan.proofs.filtering.take.Goals as goal
-
-pub returns-clause-timed : goal.returns-clause-timed
-returns-clause-timed c = all_of_one IsTimed c.args.online (seen_of c.args.seen.now) (λ keep. c.in_ok-add.ensures.timed)

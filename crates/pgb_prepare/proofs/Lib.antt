@@ -1,8 +1,0 @@
-mod Ends
-mod Found
-mod Fronts
-mod Heals
-mod Mended
-mod Readings
-mod Idle
-mod Begun

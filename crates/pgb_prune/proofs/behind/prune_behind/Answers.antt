@@ -1,7 +1,0 @@
-use Rattle.std.proofs.Common.{string_bytes}
-use Rattle.pgb_prune.proofs.Prunings.{undone_behind}
-use Rattle.pgb_prune.proofs.behind.prune_behind.Goals as goal
-
-pub returns-in_err-moment-clause-follows : goal.returns-in_err-moment-clause-follows
-returns-in_err-moment-clause-follows g c = undone_behind c.args.stanza.now c.args.rules.now (g.C.Clock.state c.args.clock.now) (g.C.Clock.state c.moment_behind.new.clock)
-    (g.D.Disk.state c.args.repo.now).view (string_bytes c.args.lines.now) c.from_residual.result c.in_err-moment.field-0.0 c.from_residual.ensures.1

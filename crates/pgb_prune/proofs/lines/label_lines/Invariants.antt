@@ -1,7 +1,0 @@
-use Rattle.std.proofs.Common.{◌≡◌, ◌++◌, drop, flat_map, string_bytes}
-use Rattle.pgb_prune.specs.Texts.{label_line}
-use Rattle.pgb_prune.proofs.lines.label_lines.Given as goal
-
--- the lines that are there and those to come are the whole
-abbrev pub invariant-loop-label : goal.invariant-loop-label
-invariant-loop-label l = string_bytes l.lines ++ flat_map label_line (drop l.label-index l.labels) ≡ flat_map label_line l.labels

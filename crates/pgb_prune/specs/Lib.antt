@@ -1,5 +1,0 @@
-pub mod Rules
-pub mod Texts
-pub mod Faults
-pub mod Pruning
-pub mod Behind

@@ -1,9 +1,0 @@
-use Rattle.std.proofs.Common.{◌≡◌, map}
-use Rattle.serde_json.specs.View.{view}
-use Rattle.pgb_ini.specs.Parts.{key_of}
-use Rattle.pgb_report.specs.Labelled.{labelled_data}
-use Rattle.pgb_report.proofs.listed.backups_value.Given as goal
-
--- the values that are there are those of the keys so far
-abbrev pub invariant-loop-label : goal.invariant-loop-label
-invariant-loop-label l = map view l.backups.items ≡ map labelled_data (map key_of l.yielded)

@@ -1,7 +1,0 @@
-use Rattle.std.proofs.Common.{ℕ, ◌≡◌, ◌<◌, true, Some, slice_get}
-use Rattle.pgb_fill.specs.declared.files.Filed.{Filed}
-use Rattle.pgb_fill.specs.Files.{is_wanted}
-use Rattle.pgb_restore.proofs.checking.first_wrong.Given as goal
-
-abbrev pub invariant-loop-file : goal.invariant-loop-file
-invariant-loop-file l = (k : ℕ) (f : Filed) → k < l.file-index → slice_get l.files k ≡ Some f → is_wanted f.wanted f.end ≡ true

@@ -1,5 +1,0 @@
-pub mod Labels
-pub mod Condemned
-pub mod Descent
-pub mod Needed
-pub mod Told

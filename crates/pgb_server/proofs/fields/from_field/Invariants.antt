@@ -1,9 +1,0 @@
-use Rattle.std.proofs.Common.{◌≡◌, true, length}
-use Rattle.pgb_server.specs.Fields.{from_field}
-use Rattle.pgb_server.proofs.fields.from_field.Given as goal
-
-abbrev pub invariant-loop-rest : goal.invariant-loop-rest
-invariant-loop-rest l = from_field l.kind l.starts l.rest ≡ from_field l.fn.kind true l.fn.body
-
-abbrev pub decreases-loop-rest : goal.decreases-loop-rest
-decreases-loop-rest l = length l.rest

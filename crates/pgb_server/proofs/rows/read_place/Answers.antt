@@ -1,6 +1,0 @@
-use Rattle.std.proofs.Common.{List, ℕ, sym, subst}
-use Rattle.pgb_wal.specs.Lsn.{IsLsn}
-use Rattle.pgb_server.proofs.rows.read_place.Goals as goal
-
-pub returns-in_default-clause-none : goal.returns-in_default-clause-none
-returns-in_default-clause-none c = λ at s is named same. c.in_default.ensures.none at (subst (λ (text : List ℕ). IsLsn text at) (sym c.as_bytes.ensures.value) is)

@@ -1,7 +1,0 @@
-use Rattle.std.proofs.Common.{◌∙◌}
-use Rattle.pgb_spool.proofs.Looks.{done_by}
-use Rattle.pgb_spool.proofs.asking.look.Goals as goal
-
-pub returns-then-branch-clause-answers : goal.returns-then-branch-clause-answers
-returns-then-branch-clause-answers g c =
-    done_by c.args.names.now c.args.sum.now.0 c.requires _ _ _ c.in_ok-holds.field-0 c.as_str.ensures.value (c.as_bytes.ensures.value ∙ c.in-Ok.ensures) c.if-branch.true c.in_ok-holds.ensures.holds

@@ -1,6 +1,0 @@
-use Rattle.std.proofs.Common.{◌≡◌, map, take, string_bytes}
-use Rattle.pgb_model.specs.Names.{receipt_name}
-use Rattle.pgb_spool.proofs.clearing.receipts_of.Given as goal
-
-abbrev pub invariant-loop-each : goal.invariant-loop-each
-invariant-loop-each l = map string_bytes l.names.items ≡ map (receipt_name l.stanza) (take l.each-index l.ready)

@@ -1,3 +1,0 @@
-pub mod Dates
-pub mod StampTexts
-pub mod LabelTexts

@@ -1,8 +1,0 @@
-use Rattle.std.proofs.Common.{◌≡◌, ◌++◌, drop, map}
-use Rattle.std.specs.List.{flat_map}
-use Rattle.pgb_standin.specs.Answers.{cell, each}
-use Rattle.pgb_standin.proofs.answers.cells.Given as goal
-
--- the columns that are there and those to come are all
-abbrev pub invariant-loop-text : goal.invariant-loop-text
-invariant-loop-text l = l.bytes.items ++ flat_map cell (map (λ t. t.now) (drop l.text-index l.texts)) ≡ each cell (map (λ t. t.now) l.texts)

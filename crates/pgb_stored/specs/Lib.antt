@@ -1,7 +1,0 @@
-pub mod Stored
-pub mod Causes
-pub mod Fault
-pub mod Paths
-pub mod Listing
-pub mod Looks
-pub mod Ends

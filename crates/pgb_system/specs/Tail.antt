@@ -1,7 +1,0 @@
--- The last bytes of a stream. Own.
-use Rattle.std.specs.Prelude.{ℕ, List, take}
-use Rattle.pgb_system.specs.declared.tail.Tail.{Tail}
-
--- the bytes that are kept
-abbrev pub tail_of : Tail → List ℕ
-tail_of t = take t.count t.bytes

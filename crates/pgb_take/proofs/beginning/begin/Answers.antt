@@ -1,4 +1,0 @@
-use Rattle.pgb_take.proofs.beginning.begin.Goals as goal
-
-pub returns-clause-settled : goal.returns-clause-settled
-returns-clause-settled g c = c.in_ok-list.ensures.settled

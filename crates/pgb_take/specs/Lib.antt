@@ -1,6 +1,0 @@
-pub mod Faults
-pub mod Texts
-pub mod Beginning
-pub mod Drafting
-pub mod Making
-pub mod Causes

@@ -1,8 +1,0 @@
-use Rattle.std.proofs.Common.{arith}
-use Rattle.pgb_wal.proofs.Compared.{text_cmp-segment_text}
-use Rattle.pgb_wal.proofs.order.compare.Goals as goal
-
-pub returns : goal.returns
-returns c =
-    let names = text_cmp-segment_text c.args.a.now c.args.b.now (omega arith) (omega arith) (omega arith) (omega arith) (omega arith) (omega arith) in
-    cc c.cmp.ensures

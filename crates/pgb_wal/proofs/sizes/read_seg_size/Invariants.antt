@@ -1,5 +1,0 @@
-use Rattle.std.proofs.Common.{◌≢◌, ℕ, ◌<◌, ◌≤◌, ◌^◌}
-use Rattle.pgb_wal.proofs.sizes.read_seg_size.Given as goal
-
-abbrev pub invariant-loop-exponent : goal.invariant-loop-exponent
-invariant-loop-exponent l = (k : ℕ) → 20 ≤ k → k < l.exponent → l.bytes ≢ 2 ^ k

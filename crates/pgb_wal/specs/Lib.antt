@@ -1,4 +1,0 @@
-pub mod Next
-pub mod Lsn
-pub mod Header
-pub mod Spans

@@ -1,9 +1,0 @@
-use Rattle.std.proofs.Common.{◌≡◌, [], map, length}
-use Rattle.pgb_worker_dispatch.specs.Run.{Left}
-use Rattle.pgb_worker_dispatch.proofs.telling.set_up_all.Given as goal
-
-abbrev pub invariant-loop-link : goal.invariant-loop-link
-invariant-loop-link g l = record {
-  left : Left [] (map g.L.Link.link_state l.yielded) l.fn.lost.items l.lost.items (map g.L.Link.link_state l.links.items);
-  place : l.place ≡ length l.yielded;
-}

@@ -1,4 +1,0 @@
-pub mod Frames
-pub mod Replies
-pub mod Views
-pub mod Reading

@@ -1,5 +1,0 @@
-use Rattle.std.proofs.lemmas.Nat.{be_bytes_4}
-use Rattle.pgb_worker_hear.proofs.reading.hear_length.Goals as goal
-
-pub returns-clause-takes : goal.returns-clause-takes
-returns-clause-takes g c = rw (be_bytes_4 c.full.new.buf c.from_be_bytes.result c.full.auto.buf c.full.ensures.bytes c.from_be_bytes.ensures) c.in_ok-full.ensures.takes

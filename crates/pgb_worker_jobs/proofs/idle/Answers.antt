@@ -1,5 +1,0 @@
-use Rattle.pgb_worker_jobs.proofs.Places.{read_is}
-use Rattle.pgb_worker_jobs.proofs.idle.Goals as goal
-
-pub returns-in_default-clause-no : goal.returns-in_default-clause-no
-returns-in_default-clause-no c = λ e i. c.in_default.not-Idle (read_is c.args.holders.now.items c.args.link _ _ i c.index.ensures)

@@ -1,6 +1,0 @@
-use Rattle.std.proofs.Common.{◌≡◌, take}
-use Rattle.pgb_memory.specs.Image.{named}
-use Rattle.pgb_worker_links.proofs.meet.copy_files.Given as goal
-
-abbrev pub invariant-loop-name : goal.invariant-loop-name
-invariant-loop-name l = named l.copy.items ≡ named (take l.name-index l.files)

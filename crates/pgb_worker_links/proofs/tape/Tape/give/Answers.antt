@@ -1,7 +1,0 @@
-use Rattle.std.proofs.Common.{ap, ◌∙◌}
-use Rattle.pgb_worker_links.specs.Tapes.{given_more}
-use Rattle.pgb_worker_links.proofs.Given.{tape_more}
-use Rattle.pgb_worker_links.proofs.tape.Tape.give.Goals as goal
-
-pub returns-clause-given : goal.returns-clause-given
-returns-clause-given c = tape_more c.self.inside.bytes.items c.self.inside.at c.min-n.result ∙ ap (given_more c.min-n.result) c.self.view_is

@@ -1,0 +1,51 @@
+-- Why the arguments and their configuration give no command.
+use Rattle.std.specs.Prelude.{◌≡◌, ◌⊎◌, ◌<◌, ℕ, List, length, Option, None, Result, Ok, IfSome, IsSomeAnd, string_bytes}
+use Rattle.base_devices.specs.Content.{Content}
+use Rattle.base_model.specs.Text.{Text}
+use Rattle.options_read.specs.Faults.{Fault as Refusal}
+use Rattle.options_read.specs.Paths.{Path, nowhere, usual, named, path_of_arguments}
+use Rattle.options_read.specs.Settings.{Resolved}
+use Rattle.options_read.specs.Views.{Fails}
+use Rattle.cmd_terms.specs.declared.stages.object.Object.TheVariants.{Config}
+use Rattle.cmd_terms.specs.declared.stages.fault.StageFault.{StageFault}
+use Rattle.cmd_terms.specs.declared.stages.fault.StageFault.TheVariants.{ConfigMissing, ConfigLong}
+use Rattle.program_run.specs.declared.fault.Fault.{Fault}
+use Rattle.program_run.specs.declared.fault.Fault.TheVariants.{Usage, Stage, Command, FollowUp, Failed, NoMemory}
+use Rattle.program_run.specs.Asked.{config_limit, ArgumentsResolve}
+
+-- the path of a configuration that is read
+abbrev pub IsPathOf : Path → Text → Type 0
+IsPathOf nowhere path = ⊥
+IsPathOf (usual text) path = path ≡ text
+IsPathOf (named text) path = path ≡ text
+
+-- a file at this path is too long, or its source failed
+abbrev pub SourceCause : Text → ℕ → Option Content → Type 0 → Fault → Type 0
+SourceCause path limit files rose (Usage usage) = ⊥
+SourceCause path limit files rose (Stage (ConfigLong name most)) = (string_bytes name ≡ path) × (most ≡ limit)
+    × IfSome files (λ f. IsSomeAnd (f path) (λ b. limit < length b))
+SourceCause path limit files rose (Stage other) = ⊥
+SourceCause path limit files rose (Command fault) = ⊥
+SourceCause path limit files rose (FollowUp lines fault) = ⊥
+SourceCause path limit files rose (Failed object) = (object ≡ Config) × rose
+SourceCause path limit files rose NoMemory = Unit {0}
+
+-- a configuration that is named isn't there, or one that is read is too long
+abbrev pub FileCause : List Text → Option Content → StageFault → Type 0
+FileCause arguments files (ConfigMissing path) = (path_of_arguments arguments ≡ Ok (named (string_bytes path)))
+    × IfSome files (λ f. f (string_bytes path) ≡ None)
+FileCause arguments files (ConfigLong path most) = (p : Path) × (path_of_arguments arguments ≡ Ok p)
+    × IsPathOf p (string_bytes path) × (most ≡ config_limit)
+    × IfSome files (λ f. IsSomeAnd (f (string_bytes path)) (λ b. config_limit < length b))
+FileCause arguments files other = ⊥
+
+-- what the arguments say of the configuration is refused, or what the two resolve to is, or the configuration can't be
+-- had
+abbrev pub ConfigCause : List Text → Option Content → Type 0 → Fault → Type 0
+ConfigCause arguments files rose (Usage usage) = Fails usage (path_of_arguments arguments)
+    ⊎ ((read : Result Resolved Refusal) × ArgumentsResolve arguments files read × Fails usage read)
+ConfigCause arguments files rose (Stage fault) = FileCause arguments files fault
+ConfigCause arguments files rose (Command fault) = ⊥
+ConfigCause arguments files rose (FollowUp lines fault) = ⊥
+ConfigCause arguments files rose (Failed object) = (object ≡ Config) × rose
+ConfigCause arguments files rose NoMemory = Unit {0}

@@ -1,0 +1,13 @@
+pub mod Asked
+pub mod Faults
+pub mod Answers
+pub mod Configuring
+pub mod Output
+pub mod Serving
+pub mod Kept
+pub mod Modelled
+pub mod Uses
+pub mod Tables
+pub mod CallEffect
+pub mod Causes
+pub mod Ranges

@@ -1,0 +1,62 @@
+// What is handed to the program.
+ghost use Rattle.std.specs.Prelude.{map};
+ghost use Rattle.cmd_terms.specs.World.{World};
+
+use archive_index::OtherProcesses;
+use base_devices::{
+    Clock, DataFolder, Disk, InputFiles, Link, Locks, OutputStream, Scheduler, ServerConnection,
+};
+
+/// The objects that the program works on: the repository, the spool, the data folder, the connection to the
+/// server, other processes, the clock, the locks, the configuration, the output, and the workers with the choice among
+/// them.
+#[derive(Drop)]
+pub struct Outside<D, S, T, V, A, C, K, I, O, L, U> {
+    pub repo: D,
+    pub spool: S,
+    pub tree: T,
+    pub server: V,
+    pub processes: A,
+    pub clock: C,
+    pub locks: K,
+    pub config: I,
+    pub out: O,
+    pub links: Vec<L>,
+    pub turns: U,
+}
+
+/// What the objects report, as one value.
+pub trait Modelled {
+    ghost known: { Self → World };
+}
+
+impl<
+    D: Disk,
+    S: Disk,
+    T: DataFolder,
+    V: ServerConnection,
+    A: OtherProcesses<D, S>,
+    C: Clock,
+    K: Locks,
+    I: InputFiles,
+    O: OutputStream,
+    L: Link,
+    U: Scheduler,
+> Modelled for Outside<D, S, T, V, A, C, K, I, O, L, U> {
+    ghost known = { λ o. record {
+      repo = D.state o.repo;
+      spool = S.state o.spool;
+      tree = T.state o.tree;
+      server = V.state o.server;
+      others = A.state o.processes;
+      clock = C.state o.clock;
+      locks = record {
+        took = (K.state o.locks).took;
+        refusals = (K.state o.locks).refusals;
+        faults = (K.state o.locks).faults;
+      };
+      config = I.state o.config;
+      out = O.state o.out;
+      links = map L.link_state o.links.items;
+    } };
+}

@@ -1,0 +1,15 @@
+use Rattle.std.proofs.Common.{◌≡◌, ◌+◌, length}
+use Rattle.repo_ini.specs.Config.{start, run}
+use Rattle.repo_ini.specs.Form.{pieces}
+use Rattle.repo_ini.specs.Reading.{rest_pieces}
+use Rattle.repo_ini.specs.Views.{config_of}
+use Rattle.repo_ini.proofs.config.read_config.Given as goal
+
+abbrev pub invariant-loop-rest : goal.invariant-loop-rest
+invariant-loop-rest l = record {
+  read : run (config_of l.config) (l.line + 1) (rest_pieces l.rest) ≡ run start 1 (pieces l.fn.bytes);
+  count : l.line + length (rest_pieces l.rest) ≡ length (pieces l.fn.bytes);
+}
+
+abbrev pub decreases-loop-rest : goal.decreases-loop-rest
+decreases-loop-rest l = length (rest_pieces l.rest)

@@ -1,0 +1,10 @@
+pub mod Alone
+pub mod FileFacts
+pub mod Sections
+pub mod Wrong
+pub mod Tied
+pub mod ManifestForm
+pub mod Head
+pub mod Read
+pub mod Keeping
+pub mod Locating

@@ -1,0 +1,68 @@
+-- The sections of a manifest, each by itself.
+use Rattle.std.specs.Prelude.{◌≡◌, ◌≢◌, ◌⊎◌, ◌+◌, ◌<◌, ◌≤◌, ◌^◌, List, ◌∷◌, ◌++◌, codes, sum_by}
+use Rattle.serde_json.specs.Data.{Data, object, no_members}
+use Rattle.base_model.specs.Text.{Text, In, ◌⫽◌}
+use Rattle.base_model.specs.Fields.{Field}
+use Rattle.base_model.specs.ManifestText.{data_path, file_field, folder_field, HasItsFolders}
+use Rattle.base_model.specs.Values.{FileEntry}
+use Rattle.repo_manifest.specs.Alone.{IsFile, IsDirectory}
+
+-- the sections of the files and folders
+abbrev pub target_file : Text
+target_file = codes "target:file"
+
+abbrev pub target_path : Text
+target_path = codes "target:path"
+
+-- the data folder itself, which each manifest lists
+abbrev pub root_field : Field
+root_field = (codes "pg_data", object no_members)
+
+-- the key has something there that no file has
+abbrev pub IsNoFile : List Field → Text → Type 0
+IsNoFile ks key = (d : Data) × In (key, d) ks
+    × ((e : FileEntry) → IsFile e → (let k : Field = (key, d) in k) ≢ file_field e)
+
+-- The key has something there that neither the data folder nor a folder in it has; or it is the data folder's, and
+-- isn't there.
+abbrev pub IsNoFolder : List Field → Text → Type 0
+IsNoFolder ks key = ((d : Data) × In (key, d) ks × ((let k : Field = (key, d) in k) ≢ root_field)
+    × ((p : Text) → IsDirectory p → (let k : Field = (key, d) in k) ≢ folder_field p))
+    ⊎ ((key ≡ codes "pg_data") × ((d : Data) → ¬ In (key, d) ks))
+
+-- what is reported where the first key isn't the data folder's: that one, where the first may be a folder's, else the
+-- first
+abbrev pub IsRootKey : Text → Text → Type 0
+IsRootKey first key = ((key ≡ codes "pg_data") × (p : Text) × (first ≡ data_path p))
+    ⊎ ((key ≡ first) × ((p : Text) → first ≢ data_path p))
+
+-- the key has something there that no folder below the data folder has
+abbrev pub IsNoDirectory : List Field → Text → Type 0
+IsNoDirectory ks key = (d : Data) × In (key, d) ks
+    × ((p : Text) → IsDirectory p → (let k : Field = (key, d) in k) ≢ folder_field p)
+
+-- a folder on the path isn't listed
+abbrev pub Lacks : List Text → Text → Type 0
+Lacks folders path = (prefix : Text) × (last : Text) × (path ≡ prefix ⫽ last) × (¬ In prefix folders)
+
+-- the rules between files and folders: each folder on a path is listed, and no file is a folder
+abbrev pub IsPlaced : List Text → FileEntry → Type 0
+IsPlaced folders e = HasItsFolders folders e.path × (¬ In e.path folders)
+
+-- a file lacks a folder, which is reported at the file; or it is a folder too, which is reported at the folder
+abbrev pub IsUnplacedFile : List FileEntry → List Text → Text → Text → Type 0
+IsUnplacedFile files folders section key = (e : FileEntry) × In e files × (key ≡ data_path e.path)
+    × (((section ≡ target_file) × Lacks folders e.path) ⊎ ((section ≡ target_path) × In e.path folders))
+
+-- a folder lacks a folder
+abbrev pub IsUnplacedFolder : List Text → Text → Text → Type 0
+IsUnplacedFolder folders section key = (p : Text) × In p folders × (key ≡ data_path p) × (section ≡ target_path)
+    × Lacks folders p
+
+-- With this file the sizes pass their bound, and without it they don't.
+pub record IsPast (files : List FileEntry) (e : FileEntry) : Type 0 where
+  pub prefix : List FileEntry
+  pub more : List FileEntry
+  pub is : files ≡ prefix ++ e ∷ more
+  pub within : sum_by (λ (f : FileEntry). f.size) prefix ≤ 2 ^ 63
+  pub past : 2 ^ 63 < sum_by (λ (f : FileEntry). f.size) prefix + e.size

@@ -1,0 +1,12 @@
+pub mod Hexadecimal
+pub mod Digits
+pub mod SegSizes
+pub mod SegmentTexts
+pub mod Compared
+pub mod Follows
+pub mod Halves
+pub mod Prefixes
+pub mod Dates
+pub mod StampTexts
+pub mod LabelTexts
+pub mod Faultless

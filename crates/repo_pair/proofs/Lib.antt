@@ -1,0 +1,6 @@
+pub mod Causes
+pub mod HealsPair
+pub mod Onward
+pub mod Saved
+pub mod Owned
+pub mod Lasts

@@ -1,0 +1,10 @@
+use Rattle.base_model.specs.InfoText.{info_text}
+use Rattle.repo_pair.proofs.Owned.{none_owned}
+use Rattle.repo_pair.proofs.HealsPair.{no_writes}
+use Rattle.repo_pair.proofs.pair_heal.heal_members.Goals as goal
+
+pub returns-in_err-text-clause-crash : goal.returns-in_err-text-clause-crash
+returns-in_err-text-clause-crash g c = λ main copy. no_writes c.args.name.now (info_text (g.I.Info.sections c.args.value.now)) _
+
+pub returns-in_err-text-clause-only : goal.returns-in_err-text-clause-only
+returns-in_err-text-clause-only g c = none_owned c.args.name.now _

@@ -1,0 +1,9 @@
+pub mod Causes
+pub mod ControlFile
+pub mod Fault
+pub mod Judging
+pub mod HealingPair
+pub mod Pairs
+pub mod Synced
+pub mod Owned
+pub mod Unused

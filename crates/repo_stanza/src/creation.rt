@@ -1,0 +1,128 @@
+// Makes a stanza, or keeps the one that is there.
+ghost use Rattle.std.specs.Prelude.{◌≡◌, ◌≤◌, ◌⊎◌, None, Some, OnOk, IfOk, IfErr, IfNone, IfSome, IsSome};
+ghost use Rattle.base_devices.specs.States.{Frame, Looks};
+ghost use Rattle.base_devices.specs.Moments.{Unchanged};
+ghost use Rattle.base_devices.specs.Cause.{Rises};
+ghost use Rattle.base_disk.specs.Store.{ChangesOnly};
+ghost use Rattle.base_model.specs.Repository.{Repository, Stanza};
+ghost use Rattle.base_model.specs.Represents.{Represents};
+ghost use Rattle.base_model.specs.Steps.{step, Create};
+ghost use Rattle.base_model.specs.Steady.{IsSteady, EachImage};
+ghost use Rattle.base_model.specs.Now.{NowRepresents, HasNewPairs};
+ghost use Rattle.repo_stanza.specs.Owned.{IsOfPairs};
+ghost use Rattle.repo_stanza.specs.ControlFile.{first_cluster};
+ghost use Rattle.repo_stanza.specs.Pairs.{HasStanzaOf, IsStanzaOf, PairsAgree};
+ghost use Rattle.repo_stanza.specs.Unused.{IsUnused};
+ghost use Rattle.base_model.specs.InfoFiles.{IsArchiveInfo, IsBackupInfo, IsLabel};
+ghost use Rattle.base_model.specs.Values.{archive_info_of, backup_info_of};
+ghost use Rattle.repo_stanza.specs.Judging.{KeepsStanza};
+ghost use Rattle.repo_stanza.specs.Causes.{CreateCause, OnContent, IfNew, IfSame, IfLost};
+
+use crate::control::Control;
+use crate::fault::StanzaFault;
+use crate::keeping::keep_stanza;
+use crate::making::make_stanza;
+use crate::pair_read::look;
+use crate::pair_rules::PairValues;
+use crate::unused::check_unused;
+use base_devices::Disk;
+use std::alloc::Global;
+
+/// How a stanza came to be there.
+#[derive(Clone, Copy, Debug, PartialEq, Eq)]
+pub enum Created {
+    /// it was made
+    New,
+    /// it was there, of the same cluster
+    Same,
+}
+
+// What is kept of the stanza's two pairs, or none where the repository has nothing of a stanza.
+fn find_kept<D: Disk>(
+    alloc: Global,
+    d: &mut D,
+    stanza: &str,
+    control: &Control,
+) -> Result<Option<PairValues>, StanzaFault>
+    ensures lacking { IfOk result (λ o. IfNone o (IfSome (D.state d.old).view.now (IsUnused stanza.now))) }
+    ensures kept { IfOk result
+        (λ o. IfSome o (λ k. IfSome (D.state d.old).view.now
+        (λ f. KeepsStanza stanza.now control.now f (archive_info_of k.archive) (backup_info_of k.backup)))) }
+    ensures archive { IfOk result (λ o. IfSome o (λ k. IsArchiveInfo (archive_info_of k.archive))) }
+    ensures backup { IfOk result (λ o. IfSome o (λ k. IsBackupInfo (backup_info_of k.backup))) }
+    ensures looks { Looks (D.state d.old) (D.state d.new) }
+    ensures cause { IfErr result
+        (CreateCause stanza.now control.now (D.state d.old).view.now
+        (Rises (D.state d.old).faults (D.state d.new).faults)) }
+    ensures label { IfErr result (λ e. IfLost e IsLabel) }
+{
+    match look(alloc, d, stanza, control)? {
+        None => {
+            check_unused(alloc, d, stanza)?;
+            Ok(None)
+        }
+        Some(kept) => Ok(Some(kept)),
+    }
+}
+
+/// Makes the stanza of a cluster, where the repository has nothing of a stanza. A stanza of the same system identifier
+/// and version is kept: of its two pairs each member that isn't its value's text is written anew, the backup pair's
+/// without a cluster that is still to come. Nothing is written before every refusal for what the disk holds is over.
+pub fn create<D: Disk>(
+    alloc: Global,
+    d: &mut D,
+    stanza: &str,
+    control: &Control,
+) -> Result<Created, StanzaFault>
+    // After every answer, and after every crash, the stanza is as before or made, and at Ok it is made.
+    ensures part { (r : Repository) → IsSome (D.state d.old).view.now
+        → NowRepresents stanza.now r (D.state d.old).view.now
+        → NowRepresents stanza.now r (D.state d.new).view.now ⊎ NowRepresents stanza.now
+        (step r (Create (first_cluster control.now))) (D.state d.new).view.now }
+    ensures done { OnOk result ((r : Repository) → IsSome (D.state d.old).view.now
+        → NowRepresents stanza.now r (D.state d.old).view.now
+        → NowRepresents stanza.now (step r (Create (first_cluster control.now))) (D.state d.new).view.now) }
+    ensures moves { (r : Repository) → IsSteady stanza.now r (D.state d.old).view → IsSome (D.state d.old).view.now
+        → EachImage stanza.now (λ g. Represents stanza.now g r ⊎ Represents stanza.now g
+        (step r (Create (first_cluster control.now)))) (D.state d.old).view (D.state d.new).view }
+    ensures made { OnOk result ((r : Repository) → IsSteady stanza.now r (D.state d.old).view
+        → IsSome (D.state d.old).view.now
+        → IsSteady stanza.now (step r (Create (first_cluster control.now))) (D.state d.new).view) }
+    // New comes only where the disk has no stanza, no archive file of it and nothing in the folder of a label, and Same
+    // where it has a stanza of this cluster.
+    ensures lacking { IfOk result (λ c. IfNew c (IfSome (D.state d.old).view.now (IsUnused stanza.now))) }
+    ensures new { IfOk result
+        (λ c. IfNew c ((r : Repository) → IsSome (D.state d.old).view.now
+        → NowRepresents stanza.now r (D.state d.old).view.now → r ≡ None)) }
+    ensures members { IfOk result
+        (λ c. IfNew c (IsSome (D.state d.old).view.now → IfSome (D.state d.new).view.now
+        (HasNewPairs stanza.now (first_cluster control.now)))) }
+    ensures having { IfOk result
+        (λ c. IfSame c (IfSome (D.state d.old).view.now (HasStanzaOf stanza.now control.now))) }
+    ensures same { IfOk result
+        (λ c. IfSame c ((r : Repository) → IsSome (D.state d.old).view.now
+        → NowRepresents stanza.now r (D.state d.old).view.now
+        → (s : Stanza) × (r ≡ Some s) × IsStanzaOf control.now s)) }
+    ensures agrees { OnOk result (IsSome (D.state d.old).view.now
+        → IfSome (D.state d.new).view.now (PairsAgree stanza.now)) }
+    ensures refused { IfErr result (λ e. OnContent e ((D.state d.new).view.now ≡ (D.state d.old).view.now)) }
+    ensures rests { IfErr result (λ e. OnContent e (Unchanged (D.state d.old).view (D.state d.new).view)) }
+    ensures known { IsSome (D.state d.old).view.now → IsSome (D.state d.new).view.now }
+    ensures only { ChangesOnly (IsOfPairs stanza.now) (D.state d.old).view (D.state d.new).view }
+    ensures frame { Frame (D.state d.old) (D.state d.new) }
+    ensures cause { IfErr result
+        (CreateCause stanza.now control.now (D.state d.old).view.now
+        (Rises (D.state d.old).faults (D.state d.new).faults)) }
+    ensures label { IfErr result (λ e. IfLost e IsLabel) }
+{
+    match find_kept(alloc, d, stanza, control)? {
+        None => {
+            make_stanza(alloc, d, stanza, control)?;
+            Ok(Created::New)
+        }
+        Some(kept) => {
+            keep_stanza(alloc, d, stanza, &kept)?;
+            Ok(Created::Same)
+        }
+    }
+}

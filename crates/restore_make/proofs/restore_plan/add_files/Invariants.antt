@@ -1,0 +1,16 @@
+use Rattle.std.proofs.Common.{◌≡◌, ◌++◌, map, take}
+use Rattle.base_model.specs.Values.{file_entry_of}
+use Rattle.worker_protocol.specs.Views.{job_of}
+use Rattle.restore_parts.specs.Sources.{reading}
+use Rattle.restore_make.specs.Options.{recovery_of}
+use Rattle.restore_make.specs.Kept.{marked}
+use Rattle.restore_make.specs.Entries.{reads_of, want_of, want_in}
+use Rattle.restore_make.proofs.restore_plan.add_files.Given as goal
+
+abbrev pub invariant-loop-place : goal.invariant-loop-place
+invariant-loop-place l =
+    let es = reads_of (recovery_of l.recovery) (take l.place (marked (map file_entry_of l.files) l.marks)) in
+    record {
+      jobs : map job_of l.planned.jobs.items ≡ map job_of l.fn.planned.jobs.items ++ map (reading l.stanza l.own) es;
+      wanted : map want_in l.planned.wanted.items ≡ map want_in l.fn.planned.wanted.items ++ map want_of es;
+    }

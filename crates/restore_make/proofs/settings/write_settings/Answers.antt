@@ -1,0 +1,44 @@
+use Rattle.std.proofs.Common.{◌∙◌, refl}
+use Rattle.restore_parts.proofs.Filing.{same_begun, same_longer}
+use Rattle.restore_parts.proofs.Placing.{begun_file, in_root}
+use Rattle.base_model.specs.Restored.{conf_path, signal_path}
+use Rattle.restore_make.proofs.Lines.{begun_has}
+use Rattle.restore_make.proofs.settings.write_settings.Goals as goal
+
+pub returns-in_err-append-clause-others : goal.returns-in_err-append-clause-others
+returns-in_err-append-clause-others g c = λ q off off_signal.
+    let old = (g.T.DataFolder.state c.args.tree.now).nodes in
+    let begun = (g.T.DataFolder.state c.begin.new.self).nodes in
+    let long = (g.T.DataFolder.state c.append.new.self).nodes in
+    same_longer c.append.result conf_path c.args.text.now begun long c.append.ensures.nodes q off
+    ∙ same_begun c.begin.result conf_path old begun c.begin.ensures.nodes q off
+
+pub returns-clause-signal : goal.returns-clause-signal
+returns-clause-signal g c = begun_has c.begin-2.result signal_path (g.T.DataFolder.state c.append.new.self).nodes (g.T.DataFolder.state c.begin-2.new.self).nodes c.begin-2.ensures.nodes
+
+pub returns-clause-others : goal.returns-clause-others
+returns-clause-others g c = λ q off off_signal.
+    let old = (g.T.DataFolder.state c.args.tree.now).nodes in
+    let begun = (g.T.DataFolder.state c.begin.new.self).nodes in
+    let long = (g.T.DataFolder.state c.append.new.self).nodes in
+    let last = (g.T.DataFolder.state c.begin-2.new.self).nodes in
+    same_begun c.begin-2.result signal_path long last c.begin-2.ensures.nodes q off_signal
+    ∙ same_longer c.append.result conf_path c.args.text.now begun long c.append.ensures.nodes q off
+    ∙ same_begun c.begin.result conf_path old begun c.begin.ensures.nodes q off
+
+pub returns-in_err-begin-clause-proper : goal.returns-in_err-begin-clause-proper
+returns-in_err-begin-clause-proper g c = c.begin.ensures.proper (in_root conf_path (g.T.DataFolder.state c.args.tree.now).nodes refl)
+
+pub returns-in_err-append-clause-proper : goal.returns-in_err-append-clause-proper
+returns-in_err-append-clause-proper g c =
+    let old = (g.T.DataFolder.state c.args.tree.now).nodes in
+    let begun = (g.T.DataFolder.state c.begin.new.self).nodes in
+    c.append.ensures.proper (begun_file conf_path old begun c.in_ok-begin.ensures.nodes) ∙ c.begin.ensures.proper (in_root conf_path old refl)
+
+pub returns-clause-proper : goal.returns-clause-proper
+returns-clause-proper g c =
+    let old = (g.T.DataFolder.state c.args.tree.now).nodes in
+    let begun = (g.T.DataFolder.state c.begin.new.self).nodes in
+    c.begin-2.ensures.proper (in_root signal_path (g.T.DataFolder.state c.append.new.self).nodes refl)
+    ∙ c.append.ensures.proper (begun_file conf_path old begun c.in_ok-begin.ensures.nodes)
+    ∙ c.begin.ensures.proper (in_root conf_path old refl)

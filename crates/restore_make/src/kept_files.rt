@@ -1,0 +1,122 @@
+// Which files of the data folder are kept.
+ghost use Rattle.std.specs.Prelude.{◌≡◌, ◌<◌, ◌≤◌, ◌^◌, ℕ, Some, true, map, length, vec_len, slice_get, IfOk, IfErr, OnOk};
+ghost use Rattle.base_devices.specs.Order.{are_in_order};
+ghost use Rattle.base_model.specs.Text.{Text, In};
+ghost use Rattle.base_model.specs.Values.{FileEntry as Entry, file_entry_of};
+ghost use Rattle.base_model.specs.declared.labels.Label as labels;
+ghost use Rattle.worker_pool.specs.Run.{AreReady};
+ghost use Rattle.restore_parts.specs.Clearing.{seen_of};
+ghost use Rattle.restore_parts.specs.Sources.{IsEntry};
+ghost use Rattle.restore_make.specs.Options.{options_of};
+ghost use Rattle.restore_make.specs.Kept.{AllAlike, MarksAlike};
+ghost use Rattle.restore_make.specs.Digested.{file_of, marked_one, NoneMarked, AreMarked, IsMarkedBy, MarksEqual};
+ghost use Rattle.worker_pool.specs.Left.{IsLeft};
+ghost use Rattle.restore_make.specs.Faults.{FillFails};
+
+use crate::candidates::{Candidate, candidates};
+use crate::digesting::digest;
+use crate::fault::FillFault;
+use crate::options::RestoreOptions;
+use base_devices::{FolderEntry, Link, Scheduler};
+use base_model::FileEntry;
+use std::alloc::{AllocError, Global};
+use worker_pool::{Lost, is_equal};
+use worker_protocol::ItemEnd;
+
+// This many places without a mark.
+fn unmarked(alloc: Global, count: usize) -> Result<Vec<bool>, AllocError>
+    ensures count { IfOk result (λ marks. length marks.items ≡ count) }
+    ensures none { IfOk result (λ marks. NoneMarked marks.items) }
+{
+    let mut marks = Vec::new(alloc);
+    for _ in 0..count {
+        marks.push(false)?;
+    }
+    Ok(marks)
+}
+
+// Marks a candidate's place, where its file is equal.
+fn mark_one(marks: &mut Vec<bool>, candidate: &Candidate<'_>, end: &Option<ItemEnd>)
+    requires { candidate.now.place < length marks.old.items }
+    ensures { marks.new.items ≡ marked_one candidate.now end.now marks.old.items }
+{
+    if is_equal(candidate.file, end) {
+        marks[candidate.place] = true;
+    }
+}
+
+// Marks the place of each candidate whose file is equal, among this many.
+fn mark(
+    alloc: Global,
+    count: usize,
+    candidates: &[Candidate<'_>],
+    ends: &[Option<ItemEnd>],
+) -> Result<Vec<bool>, AllocError>
+    requires places { (k : ℕ) (c : Candidate) → slice_get candidates.now k ≡ Some c → c.place < count }
+    requires ends { length candidates.now ≤ length ends.now }
+    ensures by { IfOk result (λ marks. IsMarkedBy candidates.now ends.now marks.items) }
+    ensures all { IfOk result (λ marks. MarksEqual candidates.now ends.now marks.items) }
+{
+    let mut marks = unmarked(alloc, count)?;
+    for i in 0..candidates.len() {
+        mark_one(&mut marks, &candidates[i], &ends[i]);
+    }
+    Ok(marks)
+}
+
+// Marks the places of the candidates of which workers report that they are equal, among this many.
+fn mark_alike<L: Link, U: Scheduler>(
+    alloc: Global,
+    count: usize,
+    candidates: &[Candidate<'_>],
+    links: &mut Vec<L>,
+    scheduler: &mut U,
+    lost: &mut Vec<Lost>,
+) -> Result<Vec<bool>, FillFault>
+    requires few { vec_len links.old < 2 ^ 32 }
+    requires ready { AreReady (map L.link_state links.old.items) }
+    requires entries { (e : Entry) → In e (map file_of candidates.now) → IsEntry e }
+    requires places { (k : ℕ) (c : Candidate) → slice_get candidates.now k ≡ Some c → c.place < count }
+    ensures marked { IfOk result
+        (λ marks. AreMarked (map L.link_state links.old.items) candidates.now marks.items) }
+    ensures left { OnOk result
+        (IsLeft (map L.link_state links.old.items) (map L.link_state links.new.items) lost.old.items lost.new.items) }
+    ensures fault { (stanza : Text) (own : labels.Label) (f g : ℕ) → IfErr result
+        (λ e. FillFails e stanza own (map file_of candidates.now) (map L.link_state links.old.items)
+        (map L.link_state links.new.items) lost.old.items lost.new.items f g) }
+{
+    let ends = digest(alloc, candidates, links, scheduler, lost)?;
+    Ok(mark(alloc, count, candidates, &ends)?)
+}
+
+/// Marks the files that are kept, by their places in the manifest: with delta those of which workers report that the
+/// data folder has them already.
+pub(crate) fn find_kept<L: Link, U: Scheduler>(
+    alloc: Global,
+    options: &RestoreOptions<'_>,
+    files: &[FileEntry],
+    seen: &[FolderEntry],
+    links: &mut Vec<L>,
+    scheduler: &mut U,
+    lost: &mut Vec<Lost>,
+) -> Result<Vec<bool>, FillFault>
+    requires few { vec_len links.old < 2 ^ 32 }
+    requires ready { AreReady (map L.link_state links.old.items) }
+    requires entries { (e : Entry) → In e (map file_entry_of files.now) → IsEntry e }
+    requires order { are_in_order (map (λ e. e.path) (map file_entry_of files.now)) ≡ true }
+    ensures alike { IfOk result (λ marks. AllAlike (map L.link_state links.old.items) (options_of options.now)
+        (map seen_of seen.now) (map file_entry_of files.now) marks.items) }
+    ensures all { IfOk result (λ marks. MarksAlike (map L.link_state links.old.items) (options_of options.now)
+        (map seen_of seen.now) (map file_entry_of files.now) marks.items) }
+    ensures left { OnOk result
+        (IsLeft (map L.link_state links.old.items) (map L.link_state links.new.items) lost.old.items lost.new.items) }
+    ensures fault { (stanza : Text) (own : labels.Label) (f g : ℕ) → IfErr result
+        (λ e. FillFails e stanza own (map file_entry_of files.now) (map L.link_state links.old.items)
+        (map L.link_state links.new.items) lost.old.items lost.new.items f g) }
+{
+    if !options.delta {
+        return Ok(Vec::new(alloc));
+    }
+    let candidates = candidates(alloc, &options.recovery, files, seen)?;
+    mark_alike(alloc, files.len(), &candidates, links, scheduler, lost)
+}

@@ -1,0 +1,13 @@
+pub mod Parts
+pub mod Words
+pub mod Fitting
+pub mod Nodes
+pub mod Cleared
+pub mod Paths
+pub mod Bare
+pub mod Ordered
+pub mod Emptied
+pub mod Filing
+pub mod Placing
+pub mod Listing
+pub mod Stepping

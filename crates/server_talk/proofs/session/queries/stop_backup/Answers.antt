@@ -1,0 +1,10 @@
+use Rattle.server_talk.specs.declared.session.phase.Phase.TheVariants.{Heading}
+use Rattle.server_talk.specs.Rows.{StopOutcome}
+use Rattle.server_talk.specs.Talk.{talk_at}
+use Rattle.server_talk.specs.Views.{session_view, talk_view}
+use Rattle.server_talk.proofs.Telling.{known_refuses}
+use Rattle.server_talk.proofs.session.queries.stop_backup.Goals as goal
+
+pub returns-clause-read : goal.returns-clause-read
+returns-clause-read g c =
+    known_refuses StopOutcome (g.V.ServerConnection.state c.args.connection.now).pending (talk_at Heading 4 (session_view c.args.session.now)) c.in-Err-stop_of.fault (talk_view c.in-Ok.talk) (g.V.ServerConnection.state c.ask.new.connection).pending c.in-Ok.ensures.read c.in-Err-stop_of.ensures.value

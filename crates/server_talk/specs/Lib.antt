@@ -1,0 +1,14 @@
+pub mod Fault
+pub mod Message
+pub mod Fields
+pub mod Cells
+pub mod Talk
+pub mod Session
+pub mod Rows
+pub mod Sends
+pub mod Views
+pub mod Reads
+pub mod System
+pub mod Telling
+pub mod Ending
+pub mod Causes

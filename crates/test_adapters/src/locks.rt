@@ -1,0 +1,127 @@
+// Locks by files of the system.
+use crate::same::{same, shell, well};
+use adapters_files::RealLocks;
+use adapters_process::Scratch;
+use base_devices::{DeviceError, Locks, Take};
+
+// What a taking of one lock by a program of its own answers, with the counts of refusals and faults.
+fn take_anew(rt: HostRuntime, folder: &str, name: &str) -> (Result<Take, DeviceError>, u64, u64) {
+    let mut locks = RealLocks::new(rt);
+    let answer = locks.take(folder, name);
+    (answer, locks.refusals(), locks.faults())
+}
+
+const TAKEN: (Result<Take, DeviceError>, u64, u64) = (Ok(Take::Taken), 0, 0);
+
+const HELD: (Result<Take, DeviceError>, u64, u64) = (Ok(Take::Held), 1, 0);
+
+const FAULT: (Result<Take, DeviceError>, u64, u64) = (Err(DeviceError::Failed), 0, 1);
+
+const MODES: &str = "[ \"$(stat -c %a a a/b a/b/one.lock | tr '\\n' ' ')\" = '700 700 600 ' ]";
+
+#[test]
+fn takes_and_releases(rt: HostRuntime) {
+    let scratch = well(&rt, Scratch::new(rt, "locks"));
+    let folder = well(&rt, scratch.below("a/b"));
+    let mut first = RealLocks::new(rt);
+    same(&rt, first.take(&folder, "one.lock"), Ok(Take::Taken));
+    same(&rt, take_anew(rt, &folder, "one.lock"), HELD);
+    same(&rt, take_anew(rt, &folder, "two.lock"), TAKEN);
+    // the one before ended with its owner
+    same(&rt, take_anew(rt, &folder, "two.lock"), TAKEN);
+    // a folder is no lock's file
+    same(&rt, take_anew(rt, &folder, ".."), FAULT);
+    same(&rt, take_anew(rt, &scratch.path, "one.lock"), TAKEN);
+    shell(&rt, &scratch, MODES);
+    first.release("two.lock");
+    same(&rt, take_anew(rt, &folder, "one.lock"), HELD);
+    first.release("one.lock");
+    same(&rt, take_anew(rt, &folder, "one.lock"), TAKEN);
+    let file = well(&rt, scratch.below("one.lock"));
+    same(&rt, take_anew(rt, &file, "one.lock"), FAULT);
+    well(&rt, scratch.remove());
+}
+
+// What is at the place of a lock, or of its folder, and what taking it answers.
+const PLACES: &[(&str, Result<Take, DeviceError>)] = &[
+    ("true", Ok(Take::Taken)),
+    ("mkdir lock", Ok(Take::Taken)),
+    ("mkdir -m 1777 lock", Ok(Take::Taken)),
+    ("mkdir -m 777 lock", Err(DeviceError::Failed)),
+    ("mkdir -m 702 lock", Err(DeviceError::Failed)),
+    ("mkdir -m 2775 lock", Ok(Take::Taken)),
+    ("mkdir other; ln -s other lock", Ok(Take::Taken)),
+    ("mkdir lock; mkfifo lock/one.lock", Err(DeviceError::Failed)),
+    (
+        "mkdir lock; >other; ln -s ../other lock/one.lock",
+        Err(DeviceError::Failed),
+    ),
+    (
+        "mkdir lock; ln -s ../absent lock/one.lock",
+        Err(DeviceError::Failed),
+    ),
+];
+
+#[test]
+fn is_made_at_no_other_place(rt: HostRuntime) {
+    let scratch = well(&rt, Scratch::new(rt, "places"));
+    let folder = well(&rt, scratch.below("lock"));
+    for (before, wanted) in PLACES {
+        shell(&rt, &scratch, before);
+        same(&rt, take_anew(rt, &folder, "one.lock").0, *wanted);
+        shell(&rt, &scratch, "[ ! -e absent ]; rm -rf lock other");
+    }
+    well(&rt, scratch.remove());
+}
+
+// A lock of a guarded repository that one program holds, and what another finds that has its locks elsewhere.
+const GUARDED: &[(&str, &str, Take)] = &[
+    ("s-archive.lock", "s-archive.lock", Take::Held),
+    ("s-backup.lock", "s-backup.lock", Take::Held),
+    ("s-archive.lock", "s-backup.lock", Take::Taken),
+    ("s-archive.lock", "t-archive.lock", Take::Taken),
+    ("absent-archive.lock", "absent-archive.lock", Take::Held),
+    ("absent-archive.lock", "absent-backup.lock", Take::Taken),
+    ("absent-archive.lock", "s-archive.lock", Take::Taken),
+    ("other.lock", "other.lock", Take::Taken),
+];
+
+#[test]
+fn guards_the_repository(rt: HostRuntime) {
+    let scratch = well(&rt, Scratch::new(rt, "guarded"));
+    shell(&rt, &scratch, "mkdir -p archive/s archive/t backup/s");
+    let one = well(&rt, scratch.below("one"));
+    let two = well(&rt, scratch.below("two"));
+    for (held, asked, wanted) in GUARDED {
+        let mut first = RealLocks::new(rt);
+        let mut second = RealLocks::new(rt);
+        let mut third = RealLocks::new(rt);
+        well(&rt, first.guard(&scratch.path));
+        well(&rt, second.guard(&scratch.path));
+        well(&rt, third.guard(&scratch.path));
+        same(&rt, first.take(&one, held), Ok(Take::Taken));
+        same(&rt, second.take(&two, asked), Ok(*wanted));
+        second.release(asked);
+        first.release(held);
+        // with the lock its folder is free
+        same(&rt, third.take(&two, held), Ok(Take::Taken));
+    }
+    well(&rt, scratch.remove());
+}
+
+// The file of a lock that is held is removed: the next program makes another, and the guard finds it held.
+#[test]
+fn holds_without_its_file(rt: HostRuntime) {
+    let scratch = well(&rt, Scratch::new(rt, "exchanged"));
+    shell(&rt, &scratch, "mkdir -p archive/s");
+    let folder = well(&rt, scratch.below("lock"));
+    let mut first = RealLocks::new(rt);
+    well(&rt, first.guard(&scratch.path));
+    same(&rt, first.take(&folder, "s-archive.lock"), Ok(Take::Taken));
+    shell(&rt, &scratch, "rm lock/s-archive.lock");
+    let mut second = RealLocks::new(rt);
+    well(&rt, second.guard(&scratch.path));
+    same(&rt, second.take(&folder, "s-archive.lock"), Ok(Take::Held));
+    same(&rt, second.refusals(), 1);
+    well(&rt, scratch.remove());
+}

@@ -1,0 +1,17 @@
+pub mod Places
+pub mod Modelled
+pub mod Steps
+pub mod Changes
+pub mod Counting
+pub mod Going
+pub mod Reading
+pub mod Payloads
+pub mod Events
+pub mod Given
+pub mod Turns
+pub mod Whole
+pub mod Setting
+pub mod Ready
+pub mod Held
+pub mod Digests
+pub mod Links

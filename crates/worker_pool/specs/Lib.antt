@@ -1,0 +1,15 @@
+pub mod Dispatch
+pub mod RepliesFaults
+pub mod Receivings
+pub mod Reads
+pub mod Going
+pub mod DispatchFaults
+pub mod Slots
+pub mod Counts
+pub mod Run
+pub mod Setups
+pub mod Payloads
+pub mod Left
+pub mod Holdings
+pub mod Digests
+pub mod Twins

@@ -1,0 +1,5 @@
+pub mod Writing
+pub mod Answers
+pub mod Opening
+pub mod Receiving
+pub mod Serving
