@@ -97,6 +97,11 @@ if command -v fuser >/dev/null; then
     has 'flock' errors
     typed 0 'A command hangs, or 20 stays' 2 "s/PID/$(tr -s ' \n' ' ' <output)/"
     wait
+    for try in $(seq 100); do
+        fuser -s "$room/$repo/backup/main" || break
+        sleep 0.1
+    done
+    typed 0 'A command hangs, or 20 stays' 3
 fi
 
 typed 0 "The server's disk is full" 1
