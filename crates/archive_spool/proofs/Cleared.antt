@@ -19,7 +19,7 @@ use Rattle.base_model.specs.declared.wal.ArchiveName.{ArchiveName}
 use Rattle.base_model.specs.Names.{archive_folder, receipt_name, wal_text}
 use Rattle.base_model.specs.Represents.{IsWalName}
 use Rattle.base_model.specs.Text.{Text, ◌⫽◌, In}
-use Rattle.archive_index.specs.Stored.{ChangesArchive}
+use Rattle.archive_lookup.specs.Stored.{ChangesArchive}
 use Rattle.archive_spool.specs.Clearing.{IsStale, IsStaleAt, IsMarkAt, Lessens, Clears, IsCleared}
 use Rattle.archive_spool.specs.Marks.{GivesMarks, AddsMarks, IsNoReceipt}
 

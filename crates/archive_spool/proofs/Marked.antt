@@ -16,8 +16,8 @@ use Rattle.base_model.specs.Names.{archive_folder, receipt_name, wal_text}
 use Rattle.base_model.specs.Represents.{IsWalName}
 use Rattle.base_model.specs.Steps.{Named}
 use Rattle.base_model.proofs.Temporary.{receipt_lasts, refusal_lasts}
-use Rattle.archive_index.specs.Turns.{refusal_name}
-use Rattle.archive_index.proofs.OnePath.{wal_injective}
+use Rattle.archive_lookup.specs.Turns.{refusal_name}
+use Rattle.archive_lookup.proofs.OnePath.{wal_injective}
 use Rattle.archive_spool.specs.Marks.{named, AddsMarks, IsNoReceipt, GivesMarks, receipt_text, mark_temporary}
 
 -- ---- the names of marks

@@ -7,7 +7,7 @@ use Rattle.base_model.specs.declared.wal.ArchiveName.{ArchiveName}
 use Rattle.base_model.specs.Names.{wal_text}
 use Rattle.base_model.specs.Represents.{IsWalName}
 use Rattle.base_model.specs.Text.{Text}
-use Rattle.archive_index.proofs.OnePath.{stripped, below_after}
+use Rattle.archive_lookup.proofs.OnePath.{stripped, below_after}
 
 drop_prefix : (xs ys : Text) → drop (length xs) (xs ++ ys) ≡ ys
 drop_prefix [] ys = refl

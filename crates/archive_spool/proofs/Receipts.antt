@@ -17,7 +17,7 @@ use Rattle.base_model.specs.Names.{receipt_name}
 use Rattle.base_model.specs.Represents.{IsWalName}
 use Rattle.base_model.specs.Steps.{Named}
 use Rattle.base_model.specs.Log.{HasReceipt}
-use Rattle.archive_index.specs.Turns.{HadReceipt}
+use Rattle.archive_lookup.specs.Turns.{HadReceipt}
 use Rattle.archive_spool.specs.Marks.{GivesMarks, receipt_text}
 
 -- a crash may leave this value there, kept or unsynced

@@ -6,7 +6,7 @@ use Rattle.base_model.specs.declared.wal.ArchiveName.{ArchiveName}
 use Rattle.base_model.specs.Text.{Text}
 use Rattle.base_model.specs.Log.{HasReceipt}
 use Rattle.base_model.specs.Names.{receipt_name}
-use Rattle.archive_index.specs.Turns.{refusal_name}
+use Rattle.archive_lookup.specs.Turns.{refusal_name}
 use Rattle.archive_spool.specs.declared.spool_query.MarkNames.{MarkNames}
 use Rattle.archive_spool.specs.declared.spool_query.Asked.{Asked}
 use Rattle.archive_spool.specs.declared.spool_query.Asked.TheVariants.{Done, NotYet, Reported}

@@ -5,7 +5,7 @@ use Rattle.base_model.specs.declared.wal.ArchiveName.{ArchiveName}
 use Rattle.base_model.specs.Names.{receipt_name, wal_text}
 use Rattle.base_model.specs.Represents.{IsWalName}
 use Rattle.base_model.specs.Text.{Text, In}
-use Rattle.archive_index.specs.Turns.{refusal_name}
+use Rattle.archive_lookup.specs.Turns.{refusal_name}
 
 -- the name is that of a refusal
 abbrev pub IsRefusal : Text → Name → Type 0

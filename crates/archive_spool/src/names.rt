@@ -1,7 +1,7 @@
 // The names and texts of marks.
 ghost use Rattle.std.specs.Prelude.{◌≡◌, IfOk, string_bytes};
 ghost use Rattle.base_model.specs.Names.{receipt_name};
-ghost use Rattle.archive_index.specs.Turns.{refusal_name};
+ghost use Rattle.archive_lookup.specs.Turns.{refusal_name};
 ghost use Rattle.archive_spool.specs.Marks.{receipt_text, refusal_text, mark_temporary};
 
 use base_model::ArchiveName;

@@ -9,7 +9,7 @@ ghost use Rattle.base_disk.specs.Store.{ChangesOnly};
 ghost use Rattle.base_model.specs.Names.{receipt_name};
 ghost use Rattle.base_model.specs.Represents.{IsWalName};
 ghost use Rattle.base_model.specs.Text.{Text};
-ghost use Rattle.archive_index.specs.Turns.{refusal_name};
+ghost use Rattle.archive_lookup.specs.Turns.{refusal_name};
 ghost use Rattle.archive_spool.specs.Marks.{named, receipt_text, refusal_text, mark_temporary, IsMarkAs, GivesMarks};
 
 use crate::mark_place::{Mark, place};

@@ -2,7 +2,7 @@
 ghost use Rattle.std.specs.Prelude.{◌≡◌, ◌≢◌, ◌==◌, ◌<◌, ◌^◌, ◌++◌, ◌∷◌, ℕ, true, IfOk, IfSome, IfNone, decimal, position, string_bytes};
 ghost use Rattle.std.specs.Str.{is_utf8};
 ghost use Rattle.base_model.specs.Text.{Text};
-ghost use Rattle.archive_index.specs.Paths.{Lacks};
+ghost use Rattle.archive_lookup.specs.Paths.{Lacks};
 ghost use Rattle.archive_spool.specs.Marks.{refusal_text};
 
 use base_text::{NoMemory, read_decimal, text_of};

@@ -10,7 +10,7 @@ ghost use Rattle.base_disk.specs.Fault.{IsDeviceFault, IfTooLong};
 ghost use Rattle.base_model.specs.declared.wal.ArchiveName.{ArchiveName};
 ghost use Rattle.base_model.specs.Names.{receipt_name};
 ghost use Rattle.base_model.specs.Text.{Text};
-ghost use Rattle.archive_index.specs.Turns.{refusal_name};
+ghost use Rattle.archive_lookup.specs.Turns.{refusal_name};
 ghost use Rattle.archive_spool.specs.Asking.{Answers, AreNamesOf, IsLong, IsNameOf, IsMarkName};
 ghost use Rattle.archive_spool.specs.Marks.{GivesMarks, refusal_text};
 

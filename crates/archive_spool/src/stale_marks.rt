@@ -6,7 +6,7 @@ ghost use Rattle.base_devices.specs.States.{Frame, Works};
 ghost use Rattle.base_disk.specs.Dropped.{IsAbsent};
 ghost use Rattle.base_disk.specs.Fault.{IsDeviceFault};
 ghost use Rattle.base_model.specs.Names.{receipt_name};
-ghost use Rattle.archive_index.specs.Stored.{ChangesArchive};
+ghost use Rattle.archive_lookup.specs.Stored.{ChangesArchive};
 ghost use Rattle.archive_spool.specs.Clearing.{IsStale, IsStaleAt, IsMarkAt, Lessens, Clears, IsCleared};
 ghost use Rattle.archive_spool.specs.Marks.{GivesMarks};
 

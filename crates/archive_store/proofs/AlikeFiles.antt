@@ -4,10 +4,10 @@ use Rattle.base_devices.specs.Content.{Content}
 use Rattle.base_model.specs.declared.wal.ArchiveId.{ArchiveId}
 use Rattle.base_model.specs.declared.wal.ArchiveName.{ArchiveName}
 use Rattle.base_model.specs.Text.{Text}
-use Rattle.archive_index.specs.Causes.{StoresBytes}
+use Rattle.archive_lookup.specs.Causes.{StoresBytes}
 use Rattle.archive_store.specs.Pushes.{IsPathOf}
-use Rattle.archive_index.specs.Stored.{archive_path, HasSum, Stores, StoresNone, StoresOnly}
-use Rattle.archive_index.proofs.Owns.{stored_has}
+use Rattle.archive_lookup.specs.Stored.{archive_path, HasSum, Stores, StoresNone, StoresOnly}
+use Rattle.archive_lookup.proofs.Owns.{stored_has}
 
 module _ (stanza : Text) (id : ArchiveId) (name : ArchiveName) (f g : Content) (same : (n : Text) → IsPathOf stanza id name n → g n ≡ f n) where
   pub alike_stores : (sum : Text) → Stores stanza id name f sum → Stores stanza id name g sum

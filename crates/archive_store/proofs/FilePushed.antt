@@ -15,10 +15,10 @@ use Rattle.base_model.specs.Repository.{Archived, Stanza}
 use Rattle.base_model.specs.Represents.{HasStanza, IsArchivePlace, stored_name}
 use Rattle.base_model.specs.Steps.{Push, push_of, is_archived, is_same_file}
 use Rattle.base_model.proofs.Pushed.{file_of, archived_as, archived_by}
-use Rattle.archive_index.specs.Stored.{archived_file, archive_path, HasSum, Stores, StoresNone}
-use Rattle.archive_index.proofs.Cuts.{divided}
-use Rattle.archive_index.proofs.OnePath.{id_lacks, id_of_text, wal_injective}
-use Rattle.archive_index.proofs.Owns.{has_own, stored_has}
+use Rattle.archive_lookup.specs.Stored.{archived_file, archive_path, HasSum, Stores, StoresNone}
+use Rattle.archive_lookup.proofs.Cuts.{divided}
+use Rattle.archive_lookup.proofs.OnePath.{id_lacks, id_of_text, wal_injective}
+use Rattle.archive_lookup.proofs.Owns.{has_own, stored_has}
 use Rattle.archive_store.proofs.Got.{held_archived}
 
 -- f stores the file with some sum

@@ -19,21 +19,21 @@ use Rattle.base_model.specs.Repository.{Archived, Stanza}
 use Rattle.base_model.specs.Represents.{HasStanza, IsArchivePlace, stored_name}
 use Rattle.base_model.specs.Now.{NowRepresents}
 use Rattle.base_model.proofs.Pushed.{at_known, file_of}
-use Rattle.archive_index.specs.declared.stored.fault.ArchiveFault.{ArchiveFault}
-use Rattle.archive_index.specs.declared.stored.fault.ArchiveFault.TheVariants.{HeaderForm, SegmentSize, HeaderMismatch, Ambiguous, Duplicate, NotFound, SegmentDamaged, TooLong, TooMany, Disk, NoMemory}
-use Rattle.archive_index.specs.declared.stored.files.Stored.{Stored}
-use Rattle.archive_index.specs.declared.stored.stored_lookup.StoredFile.{StoredFile}
-use Rattle.archive_index.specs.declared.stored.stored_lookup.Look.{Look}
-use Rattle.archive_index.specs.declared.stored.stored_lookup.Look.TheVariants.{One}
-use Rattle.archive_index.specs.declared.stored.names.FileNames.{FileNames}
-use Rattle.archive_index.specs.Fault.{fault_of_store}
-use Rattle.archive_index.specs.Stored.{archived_file, archive_path, known_sum, HasSum, StoresNone, Finds}
-use Rattle.archive_index.specs.Paths.{has_sum}
-use Rattle.archive_index.specs.Looks.{AreNamesOf, Shows, ShowsOne, IsStoredAs, IsDeviceFault, LookCause}
-use Rattle.archive_index.specs.Causes.{HasHeader, StoresBytes, StoresLong, GetCause, PresentCause, IsUnarchived, OnFinding, OnAnswer, limit_of}
-use Rattle.archive_index.proofs.OnePath.{one_path}
-use Rattle.archive_index.proofs.Owns.{has_own, stored_has}
-use Rattle.archive_index.proofs.Looked.{path_long}
+use Rattle.archive_lookup.specs.declared.stored.fault.ArchiveFault.{ArchiveFault}
+use Rattle.archive_lookup.specs.declared.stored.fault.ArchiveFault.TheVariants.{HeaderForm, SegmentSize, HeaderMismatch, Ambiguous, Duplicate, NotFound, SegmentDamaged, TooLong, TooMany, Disk, NoMemory}
+use Rattle.archive_lookup.specs.declared.stored.files.Stored.{Stored}
+use Rattle.archive_lookup.specs.declared.stored.stored_lookup.StoredFile.{StoredFile}
+use Rattle.archive_lookup.specs.declared.stored.stored_lookup.Look.{Look}
+use Rattle.archive_lookup.specs.declared.stored.stored_lookup.Look.TheVariants.{One}
+use Rattle.archive_lookup.specs.declared.stored.names.FileNames.{FileNames}
+use Rattle.archive_lookup.specs.Fault.{fault_of_store}
+use Rattle.archive_lookup.specs.Stored.{archived_file, archive_path, known_sum, HasSum, StoresNone, Finds}
+use Rattle.archive_lookup.specs.Paths.{has_sum}
+use Rattle.archive_lookup.specs.Looks.{AreNamesOf, Shows, ShowsOne, IsStoredAs, IsDeviceFault, LookCause}
+use Rattle.archive_lookup.specs.Causes.{HasHeader, StoresBytes, StoresLong, GetCause, PresentCause, IsUnarchived, OnFinding, OnAnswer, limit_of}
+use Rattle.archive_lookup.proofs.OnePath.{one_path}
+use Rattle.archive_lookup.proofs.Owns.{has_own, stored_has}
+use Rattle.archive_lookup.proofs.Looked.{path_long}
 
 -- ---- a stored file, and the repository
 

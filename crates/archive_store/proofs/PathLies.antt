@@ -8,12 +8,12 @@ use Rattle.base_model.specs.declared.wal.ArchiveName.{ArchiveName}
 use Rattle.base_model.specs.declared.wal.ArchiveName.TheVariants.{Segment as Whole, Partial, History, Backup}
 use Rattle.base_model.specs.Text.{Text, hex_upper}
 use Rattle.base_model.specs.Names.{wal_text, segment_text}
-use Rattle.archive_index.specs.Paths.{Lacks, has_sum}
-use Rattle.archive_index.specs.Looks.{file_place, dash, sum_digits}
+use Rattle.archive_lookup.specs.Paths.{Lacks, has_sum}
+use Rattle.archive_lookup.specs.Looks.{file_place, dash, sum_digits}
 use Rattle.archive_store.specs.Pushes.{IsPathOf}
-use Rattle.archive_index.proofs.Cuts.{lacks_append, hex_lacks}
-use Rattle.archive_index.proofs.OnePath.{segment_lacks, history_lacks, history_slash}
-use Rattle.archive_index.proofs.Looked.{in_place}
+use Rattle.archive_lookup.proofs.Cuts.{lacks_append, hex_lacks}
+use Rattle.archive_lookup.proofs.OnePath.{segment_lacks, history_lacks, history_slash}
+use Rattle.archive_lookup.proofs.Looked.{in_place}
 
 index_lacks : (c : ℕ) (t : Text) → Lacks c t → c ≢ 0 → (i : ℕ) → slice_index t i ≢ c
 index_lacks c [] lacks some i e = some (sym e)

@@ -16,19 +16,19 @@ use Rattle.base_model.specs.Text.{Text, ◌⫽◌}
 use Rattle.base_model.specs.Names.{archive_folder, archive_text, id_text, wal_text}
 use Rattle.base_model.specs.Represents.{IsArchivePlace, IsArchiveFile}
 use Rattle.base_model.proofs.Temporary.{file_lasts}
-use Rattle.archive_index.specs.declared.stored.fault.ArchiveFault.{ArchiveFault}
-use Rattle.archive_index.specs.declared.stored.fault.ArchiveFault.TheVariants.{HeaderForm, SegmentSize, HeaderMismatch, Ambiguous, Duplicate, NotFound, SegmentDamaged, TooLong, TooMany, Disk, NoMemory}
-use Rattle.archive_index.specs.declared.stored.stored_lookup.StoredFile.{StoredFile}
-use Rattle.archive_index.specs.declared.stored.stored_lookup.Look.{Look}
-use Rattle.archive_index.specs.declared.stored.stored_lookup.Look.TheVariants.{One, Two}
-use Rattle.archive_index.specs.declared.stored.names.FileNames.{FileNames}
+use Rattle.archive_lookup.specs.declared.stored.fault.ArchiveFault.{ArchiveFault}
+use Rattle.archive_lookup.specs.declared.stored.fault.ArchiveFault.TheVariants.{HeaderForm, SegmentSize, HeaderMismatch, Ambiguous, Duplicate, NotFound, SegmentDamaged, TooLong, TooMany, Disk, NoMemory}
+use Rattle.archive_lookup.specs.declared.stored.stored_lookup.StoredFile.{StoredFile}
+use Rattle.archive_lookup.specs.declared.stored.stored_lookup.Look.{Look}
+use Rattle.archive_lookup.specs.declared.stored.stored_lookup.Look.TheVariants.{One, Two}
+use Rattle.archive_lookup.specs.declared.stored.names.FileNames.{FileNames}
 use Rattle.archive_store.specs.Still.{rests_none}
-use Rattle.archive_index.specs.Stored.{archive_path, StoresOnly, StoresTwo, ChangesArchive}
-use Rattle.archive_index.specs.Paths.{has_sum, folder_text}
-use Rattle.archive_index.specs.Causes.{IsFileOf, PushCause}
-use Rattle.archive_index.specs.Looks.{file_place, dash, sum_digits, path_with, AreNamesOf, Shows, ShowsOne, LookCause}
-use Rattle.archive_index.proofs.OnePath.{joined}
-use Rattle.archive_index.proofs.Looked.{place_is, in_place, with_prefix}
+use Rattle.archive_lookup.specs.Stored.{archive_path, StoresOnly, StoresTwo, ChangesArchive}
+use Rattle.archive_lookup.specs.Paths.{has_sum, folder_text}
+use Rattle.archive_lookup.specs.Causes.{IsFileOf, PushCause}
+use Rattle.archive_lookup.specs.Looks.{file_place, dash, sum_digits, path_with, AreNamesOf, Shows, ShowsOne, LookCause}
+use Rattle.archive_lookup.proofs.OnePath.{joined}
+use Rattle.archive_lookup.proofs.Looked.{place_is, in_place, with_prefix}
 use Rattle.archive_store.proofs.Got.{no_header, long_known}
 use Rattle.archive_store.proofs.FilePushed.{StoresSome}
 

@@ -28,9 +28,9 @@ use Rattle.base_model.specs.Steady.{IsSteady, EachImage}
 use Rattle.base_model.specs.Walks.{IsSynced, Walks}
 use Rattle.base_model.proofs.Segments.{IsPartOfPush, NowPartOfPush}
 use Rattle.base_model.proofs.Walking.{rests_synced, rests_walks, walks_on, ends_on, crash_walks, ends_with, settled_same, settles_on, steady_synced, walks_moves, ends_steady}
-use Rattle.archive_index.specs.declared.stored.names.FileNames.{FileNames}
-use Rattle.archive_index.specs.Stored.{archived_file, archive_path, StoresNone}
-use Rattle.archive_index.specs.Looks.{AreNamesOf, path_with}
+use Rattle.archive_lookup.specs.declared.stored.names.FileNames.{FileNames}
+use Rattle.archive_lookup.specs.Stored.{archived_file, archive_path, StoresNone}
+use Rattle.archive_lookup.specs.Looks.{AreNamesOf, path_with}
 use Rattle.archive_store.specs.Pushes.{IsPathOf, writes_of, PushesPart, PushesAll, LeavesPart, LeavesAll, Writes}
 use Rattle.archive_store.proofs.AlikeFiles.{alike_stores, alike_none}
 use Rattle.archive_store.proofs.FilePushed.{StoresSome, lacks_at, new_push, no_push}

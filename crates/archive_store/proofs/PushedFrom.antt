@@ -12,15 +12,15 @@ use Rattle.base_model.specs.declared.wal.ArchiveId.{ArchiveId}
 use Rattle.base_model.specs.declared.wal.ArchiveName.{ArchiveName}
 use Rattle.base_model.specs.Text.{Text}
 use Rattle.repo_names.specs.Header.{BeginsWith}
-use Rattle.archive_index.specs.declared.stored.fault.ArchiveFault.{ArchiveFault}
-use Rattle.archive_index.specs.declared.stored.fault.ArchiveFault.TheVariants.{HeaderForm, SegmentSize, HeaderMismatch, Ambiguous, Duplicate, NotFound, SegmentDamaged, TooLong, TooMany, Disk, NoMemory}
+use Rattle.archive_lookup.specs.declared.stored.fault.ArchiveFault.{ArchiveFault}
+use Rattle.archive_lookup.specs.declared.stored.fault.ArchiveFault.TheVariants.{HeaderForm, SegmentSize, HeaderMismatch, Ambiguous, Duplicate, NotFound, SegmentDamaged, TooLong, TooMany, Disk, NoMemory}
 use Rattle.archive_store.specs.declared.fault.PushFault.{PushFault}
 use Rattle.archive_store.specs.declared.fault.PushFault.TheVariants.{Archive, Source}
-use Rattle.archive_index.specs.declared.stored.stored_lookup.Look.TheVariants.{Two}
-use Rattle.archive_index.specs.declared.stored.names.FileNames.{FileNames}
-use Rattle.archive_index.specs.Stored.{StoresNone, StoresOnly}
-use Rattle.archive_index.specs.Causes.{PushCause}
-use Rattle.archive_index.specs.Looks.{AreNamesOf, Shows, path_with}
+use Rattle.archive_lookup.specs.declared.stored.stored_lookup.Look.TheVariants.{Two}
+use Rattle.archive_lookup.specs.declared.stored.names.FileNames.{FileNames}
+use Rattle.archive_lookup.specs.Stored.{StoresNone, StoresOnly}
+use Rattle.archive_lookup.specs.Causes.{PushCause}
+use Rattle.archive_lookup.specs.Looks.{AreNamesOf, Shows, path_with}
 use Rattle.archive_store.specs.ByteSource.{IsReadFrom}
 use Rattle.archive_store.specs.Pushes.{IsPathOf, writes_of, LeavesPart, LeavesAll, Leaves, LeavesFile}
 use Rattle.archive_store.specs.Pushing.{PushFromCause, OnPushFinding, DeviceCause, AreOfSystem, HasPlaces, OtherCause, PutsPart, PutsWhole}

@@ -1,7 +1,7 @@
 -- Which fault of a push each fault of the source of its bytes is.
 use Rattle.base_devices.specs.declared.stop.DeviceError.{DeviceError}
 use Rattle.base_devices.specs.declared.stop.DeviceError.TheVariants.{Failed, NoMemory as ErrorNoMemory}
-use Rattle.archive_index.specs.declared.stored.fault.ArchiveFault.TheVariants.{NoMemory}
+use Rattle.archive_lookup.specs.declared.stored.fault.ArchiveFault.TheVariants.{NoMemory}
 use Rattle.archive_store.specs.declared.fault.PushFault.{PushFault}
 use Rattle.archive_store.specs.declared.fault.PushFault.TheVariants.{Archive, Source}
 

@@ -12,7 +12,7 @@ use Rattle.base_model.specs.Repository.{Stanza}
 use Rattle.base_model.specs.Represents.{Represents, HasStanza}
 use Rattle.base_model.specs.Steps.{Step, One, IsPartOf, after, after_all, push_of}
 use Rattle.base_model.specs.Walks.{IsSynced, Walks}
-use Rattle.archive_index.specs.Stored.{archived_file, archive_path, ChangesArchive}
+use Rattle.archive_lookup.specs.Stored.{archived_file, archive_path, ChangesArchive}
 
 -- the name is the file's, with some sum
 abbrev pub IsPathOf : Text → ArchiveId → ArchiveName → Text → Type 0

@@ -11,13 +11,13 @@ use Rattle.base_model.specs.declared.wal.ArchiveName.{ArchiveName}
 use Rattle.base_model.specs.Text.{Text}
 use Rattle.base_model.specs.Represents.{IsArchivePlace}
 use Rattle.repo_names.specs.Header.{BeginsWith}
-use Rattle.archive_index.specs.declared.stored.fault.ArchiveFault.TheVariants.{Duplicate, Disk, NoMemory}
+use Rattle.archive_lookup.specs.declared.stored.fault.ArchiveFault.TheVariants.{Duplicate, Disk, NoMemory}
 use Rattle.archive_store.specs.declared.fault.PushFault.{PushFault}
 use Rattle.archive_store.specs.declared.fault.PushFault.TheVariants.{Archive, Source}
 use Rattle.archive_store.specs.declared.pushing.Pushed.{Pushed}
 use Rattle.archive_store.specs.declared.pushing.Pushed.TheVariants.{New, Same}
-use Rattle.archive_index.specs.Stored.{StoresNone, StoresOnly}
-use Rattle.archive_index.specs.Causes.{IsFileOf, PushCause, OnFinding}
+use Rattle.archive_lookup.specs.Stored.{StoresNone, StoresOnly}
+use Rattle.archive_lookup.specs.Causes.{IsFileOf, PushCause, OnFinding}
 use Rattle.archive_store.specs.ByteSource.{IsReadFrom}
 use Rattle.archive_store.specs.Pushes.{writes_of}
 

@@ -1,9 +1,9 @@
 // Why a file that is read in pieces isn't stored.
 ghost use Rattle.std.specs.Prelude.{◌≡◌};
-ghost use Rattle.archive_index.specs.declared.stored.fault.ArchiveFault.TheVariants.{NoMemory as WithoutMemory};
+ghost use Rattle.archive_lookup.specs.declared.stored.fault.ArchiveFault.TheVariants.{NoMemory as WithoutMemory};
 ghost use Rattle.archive_store.specs.Fault.{fault_of_source};
 
-use archive_index::ArchiveFault;
+use archive_lookup::ArchiveFault;
 use base_devices::DeviceError;
 use base_disk::StoreFault;
 use base_text::NoMemory;
@@ -30,7 +30,7 @@ impl From<ArchiveFault> for PushFault {
 impl From<StoreFault> for PushFault {
     ghost use Rattle.std.specs.Prelude.{◌≡◌};
     ghost use Rattle.archive_store.specs.declared.fault.PushFault.TheVariants.{Archive};
-    ghost use Rattle.archive_index.specs.Fault.{fault_of_store};
+    ghost use Rattle.archive_lookup.specs.Fault.{fault_of_store};
 
     ghost from_gives = { λ s e. e ≡ Archive (fault_of_store s) };
 

@@ -11,14 +11,14 @@ ghost use Rattle.base_model.specs.Repository.{Stanza};
 ghost use Rattle.base_model.specs.Now.{NowRepresents};
 ghost use Rattle.base_model.specs.Text.{Text, In};
 ghost use Rattle.base_model.specs.Walks.{IsSynced};
-ghost use Rattle.archive_index.specs.Stored.{archived_file, Finds};
-ghost use Rattle.archive_index.specs.Paths.{has_sum};
+ghost use Rattle.archive_lookup.specs.Stored.{archived_file, Finds};
+ghost use Rattle.archive_lookup.specs.Paths.{has_sum};
 ghost use Rattle.archive_store.specs.Pushes.{IsPathOf};
 ghost use Rattle.archive_store.specs.Pushing.{HasPlaces};
-ghost use Rattle.archive_index.specs.Looks.{AreNamesOf, IsStoredAs, IsDeviceFault};
-ghost use Rattle.archive_index.specs.Causes.{StoresBytes, GetCause, ReadCause, IsUnarchived, PresentCause, OnAnswer, limit_of};
+ghost use Rattle.archive_lookup.specs.Looks.{AreNamesOf, IsStoredAs, IsDeviceFault};
+ghost use Rattle.archive_lookup.specs.Causes.{StoresBytes, GetCause, ReadCause, IsUnarchived, PresentCause, OnAnswer, limit_of};
 
-use archive_index::{
+use archive_lookup::{
     ArchiveFault, FileNames, HISTORY_LIMIT, Look, Stored, StoredFile, file_names, has_sum,
     look_in_folder, look_synced,
 };

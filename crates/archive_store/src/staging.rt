@@ -10,14 +10,14 @@ ghost use Rattle.base_disk.specs.Store.{LiesIn, ChangesOnly};
 ghost use Rattle.base_disk.specs.Staged.{staged_name, staging_name, staging_length, HasLength};
 ghost use Rattle.base_model.specs.Text.{Text};
 ghost use Rattle.repo_names.specs.Header.{BeginsWith};
-ghost use Rattle.archive_index.specs.Looks.{path_with};
+ghost use Rattle.archive_lookup.specs.Looks.{path_with};
 ghost use Rattle.archive_store.specs.ByteSource.{IsReadFrom};
 ghost use Rattle.archive_store.specs.Pushing.{DeviceCause, PutsPart, PutsWhole};
 
 use crate::fault::{PushFault, source_fault};
 use crate::pieces::{ByteSource, Prefix};
 use crate::stream_sum::{PIECE_SIZE, next_piece};
-use archive_index::{ArchiveFault, FileNames};
+use archive_lookup::{ArchiveFault, FileNames};
 use base_devices::Disk;
 use base_disk::{Staged, Staging, add_stage, end_stage, publish, start_stage};
 use base_text::Sum;

@@ -13,7 +13,7 @@ use Rattle.base_model.specs.ManifestText.{IsWalPart, position, segments_per_log}
 use Rattle.base_model.specs.Repository.{IsWithinSpan}
 use Rattle.base_model.specs.Text.{Text}
 use Rattle.repo_names.specs.Next.{IsNext}
-use Rattle.archive_index.specs.Stored.{StoresNone}
+use Rattle.archive_lookup.specs.Stored.{StoresNone}
 use Rattle.archive_store.specs.Still.{rests_none}
 use Rattle.archive_wait.specs.declared.fault.AwaitFault.{AwaitFault}
 use Rattle.archive_wait.specs.declared.fault.AwaitFault.TheVariants.{NotArrived, Ambiguous, Repo, Spool, NoMemory}

@@ -12,8 +12,8 @@ use Rattle.base_model.specs.Now.{NowRepresents, NowEffect}
 use Rattle.base_model.specs.Steady.{CarriesOn}
 use Rattle.base_model.proofs.Logged.{rests_still, rests_between}
 use Rattle.base_model.proofs.Waited.{turns_carry, turns_pass}
-use Rattle.archive_index.specs.Stored.{ChangesArchive}
-use Rattle.archive_index.specs.Turns.{GoesByTurn}
+use Rattle.archive_lookup.specs.Stored.{ChangesArchive}
+use Rattle.archive_lookup.specs.Turns.{GoesByTurn}
 use Rattle.archive_wait.specs.TurnsDone.{all_ended, GoesByTurns}
 use Rattle.archive_wait.proofs.EachImage.{turns_do}
 use Rattle.archive_wait.proofs.Sounds.{turn_stays, turns_stay}

@@ -19,8 +19,8 @@ use Rattle.base_model.specs.Walks.{IsSynced}
 use Rattle.base_model.proofs.Begun.{old_leaves}
 use Rattle.base_model.proofs.Pushed.{at_known}
 use Rattle.base_model.proofs.Walking.{rests_synced}
-use Rattle.archive_index.specs.declared.stored.files.Stored.{Stored}
-use Rattle.archive_index.specs.Stored.{archive_path, StoresNone, StoresOnly, Finds}
+use Rattle.archive_lookup.specs.declared.stored.files.Stored.{Stored}
+use Rattle.archive_lookup.specs.Stored.{archive_path, StoresNone, StoresOnly, Finds}
 use Rattle.archive_store.specs.Pushes.{IsPathOf}
 use Rattle.archive_store.proofs.AlikeFiles.{alike_only}
 use Rattle.archive_store.proofs.Got.{same_place}

@@ -11,10 +11,10 @@ use Rattle.base_model.specs.Steps.{Turn, ArchivePushAsync, all_of, steps_of}
 use Rattle.base_model.specs.Log.{Done, Keeps, KeepsSpool, IsDone, Reaches}
 use Rattle.base_model.proofs.Begun.{either}
 use Rattle.base_model.proofs.Done.{part_none}
-use Rattle.base_traces.specs.Trace.{HasReceiptsOf}
-use Rattle.archive_index.specs.Stored.{ChangesArchive}
-use Rattle.archive_index.specs.Turns.{GoesByTurn, GivesReceipts}
-use Rattle.archive_index.proofs.Waiting.{turn_keeps, turn_receipts}
+use Rattle.base_crash_lists.specs.Trace.{HasReceiptsOf}
+use Rattle.archive_lookup.specs.Stored.{ChangesArchive}
+use Rattle.archive_lookup.specs.Turns.{GoesByTurn, GivesReceipts}
+use Rattle.archive_lookup.proofs.Waiting.{turn_keeps, turn_receipts}
 use Rattle.archive_wait.specs.TurnsDone.{all_ended, GoesByTurns, MarksByTurns}
 use Rattle.archive_wait.proofs.Folds.{no_moves, ended_on}
 use Rattle.archive_wait.proofs.EachImage.{entry, leads_on, leads_more}

@@ -14,7 +14,7 @@ use Rattle.base_model.specs.Now.{NowRepresents, NowEffect}
 use Rattle.base_model.proofs.PushDone.{after_some}
 use Rattle.base_model.proofs.Turned.{turn_with, turn_sound}
 use Rattle.base_model.proofs.Waited.{all_after, steps, own, own_all, leads_both}
-use Rattle.archive_index.specs.Turns.{IsUnder}
+use Rattle.archive_lookup.specs.Turns.{IsUnder}
 
 -- ---- one file after another
 

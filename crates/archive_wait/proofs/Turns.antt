@@ -6,8 +6,8 @@ use Rattle.std.proofs.lemmas.List.{map-append, append-nil}
 use Rattle.base_devices.specs.Moments.{View, Unchanged}
 use Rattle.base_disk.proofs.Changes.{only_on, only_none, only_rests}
 use Rattle.base_model.specs.Steps.{Turn}
-use Rattle.archive_index.specs.Stored.{ChangesArchive}
-use Rattle.archive_index.specs.Turns.{Turned, Account, GoesOn, GoesOnBy, OnTurn, GoesByTurn, GivesReceipts}
+use Rattle.archive_lookup.specs.Stored.{ChangesArchive}
+use Rattle.archive_lookup.specs.Turns.{Turned, Account, GoesOn, GoesOnBy, OnTurn, GoesByTurn, GivesReceipts}
 use Rattle.archive_wait.specs.TurnsDone.{all_ended, turns_of, GoesByTurns, MarksByTurns, TurnsDone}
 use Rattle.archive_wait.proofs.Folds.{still_goes, one_goes, goes_after, both_ended}
 use Rattle.archive_wait.proofs.Marks.{none_marks, one_marks, marks_after}

@@ -13,7 +13,7 @@ use Rattle.base_model.specs.Log.{Done, KeepsRepository}
 use Rattle.base_model.specs.Repository.{Repository, IsWithinSpan}
 use Rattle.base_model.specs.Text.{Text}
 use Rattle.base_model.specs.Walks.{IsSynced}
-use Rattle.archive_index.specs.Turns.{ProcessesState}
+use Rattle.archive_lookup.specs.Turns.{ProcessesState}
 use Rattle.archive_store.specs.Still.{rests_none}
 use Rattle.archive_wait.specs.declared.fault.AwaitFault.{AwaitFault}
 use Rattle.archive_wait.specs.declared.fault.AwaitFault.TheVariants.{NotArrived, Ambiguous, Repo, Spool, NoMemory}

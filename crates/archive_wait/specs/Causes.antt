@@ -7,9 +7,9 @@ use Rattle.base_model.specs.declared.wal.Segment.{Segment}
 use Rattle.base_model.specs.declared.wal.WalPart.{WalPart}
 use Rattle.base_model.specs.Repository.{IsWithinSpan}
 use Rattle.base_model.specs.Text.{Text}
-use Rattle.archive_index.specs.Stored.{StoresTwo}
-use Rattle.archive_index.specs.declared.pushes.processes.TurnError.{TurnError}
-use Rattle.archive_index.specs.declared.pushes.processes.TurnError.TheVariants as stops
+use Rattle.archive_lookup.specs.Stored.{StoresTwo}
+use Rattle.archive_lookup.specs.declared.pushes.processes.TurnError.{TurnError}
+use Rattle.archive_lookup.specs.declared.pushes.processes.TurnError.TheVariants as stops
 use Rattle.archive_wait.specs.declared.fault.AwaitFault.{AwaitFault}
 use Rattle.archive_wait.specs.declared.fault.AwaitFault.TheVariants.{NotArrived, Ambiguous, Repo, Spool, NoMemory}
 use Rattle.archive_wait.specs.Stored.{IsFirstMissing}

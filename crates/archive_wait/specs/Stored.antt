@@ -12,7 +12,7 @@ use Rattle.base_model.specs.Repository.{Archived, Stanza, IsWithinSpan}
 use Rattle.base_model.specs.Represents.{HasStanza}
 use Rattle.base_model.specs.Text.{Text, In}
 use Rattle.base_model.specs.Walks.{IsSynced}
-use Rattle.archive_index.specs.Stored.{StoresNone, StoresOnly}
+use Rattle.archive_lookup.specs.Stored.{StoresNone, StoresOnly}
 
 -- f stores the segment under the id with one sum alone, and a stanza that f represents has it archived
 pub record HoldsSegment (stanza : Text) (id : ArchiveId) (f : Content) (segment : Segment) : Type 0 where

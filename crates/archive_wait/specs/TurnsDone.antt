@@ -7,9 +7,9 @@ use Rattle.base_model.specs.Repository.{Repository, IsSound}
 use Rattle.base_model.specs.Steady.{CarriesOn, PassesOnly, LeavesOnly}
 use Rattle.base_model.specs.Steps.{Turn, ArchivePushAsync, after, all_of, steps_of}
 use Rattle.base_model.specs.Text.{Text}
-use Rattle.base_traces.specs.Trace.{HasReceiptsOf}
-use Rattle.archive_index.specs.Stored.{ChangesArchive}
-use Rattle.archive_index.specs.Turns.{Turned, Account}
+use Rattle.base_crash_lists.specs.Trace.{HasReceiptsOf}
+use Rattle.archive_lookup.specs.Stored.{ChangesArchive}
+use Rattle.archive_lookup.specs.Turns.{Turned, Account}
 
 -- all of the steps of others succeeded
 abbrev pub all_ended : List Turn → Bool

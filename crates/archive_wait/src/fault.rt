@@ -2,7 +2,7 @@
 ghost use Rattle.std.specs.Prelude.{◌≡◌};
 ghost use Rattle.archive_wait.specs.Causes.{fault_of_turn};
 
-use archive_index::TurnError;
+use archive_lookup::TurnError;
 use repo_names::Segment;
 
 /// Why not each segment is archived.

@@ -10,13 +10,13 @@ ghost use Rattle.base_model.specs.ManifestText.{IsSegSize, IsWalPart, position, 
 ghost use Rattle.base_model.specs.Repository.{IsWithinSpan};
 ghost use Rattle.base_model.specs.Text.{Text};
 ghost use Rattle.repo_names.specs.Next.{IsOfLog, IsNext};
-ghost use Rattle.archive_index.specs.Stored.{StoresNone};
-ghost use Rattle.archive_index.specs.Causes.{PresentCause};
+ghost use Rattle.archive_lookup.specs.Stored.{StoresNone};
+ghost use Rattle.archive_lookup.specs.Causes.{PresentCause};
 ghost use Rattle.archive_wait.specs.Causes.{LookCause, PartCause};
 ghost use Rattle.archive_wait.specs.Stored.{HoldsSegment, HoldsPart, IsFirstMissing, Lasts};
 
 use crate::fault::AwaitFault;
-use archive_index::ArchiveFault;
+use archive_lookup::ArchiveFault;
 use archive_store::present;
 use base_devices::Disk;
 use base_model::{ArchiveId, ArchiveName, WalPart};

@@ -14,7 +14,7 @@ ghost use Rattle.archive_wait.specs.TurnsDone.{Counts, TurnsDone};
 
 use crate::fault::{AwaitFault, turn_fault};
 use crate::missing_segment::first_missing;
-use archive_index::OtherProcesses;
+use archive_lookup::OtherProcesses;
 use base_devices::Disk;
 use base_model::{ArchiveId, WalPart};
 use std::alloc::Global;

@@ -12,7 +12,7 @@ use Rattle.base_model.specs.Text.{In}
 use Rattle.base_model.specs.Values.{BackupInfo, Entry, FileEntry, Manifest}
 use Rattle.base_model.specs.Repository.{Backup, File, Stanza}
 use Rattle.base_model.specs.Represents.{HasStanza, IsManifestOf, IsEntryOf}
-use Rattle.backup_files.proofs.Ways.{Law}
+use Rattle.backup_sink.proofs.Ways.{Law}
 use Rattle.backup_plan.specs.declared.values.PlanSettings.{PlanSettings}
 use Rattle.backup_plan.specs.Layout.{layout}
 use Rattle.backup_record.specs.Entries.{prior_bytes}

@@ -13,7 +13,7 @@ use Rattle.base_model.specs.Represents.{Represents, HasStanza}
 use Rattle.base_model.specs.Now.{NowRepresents}
 use Rattle.base_model.specs.Steady.{IsSteady}
 use Rattle.repo_stanza.specs.Judging.{Validates}
-use Rattle.cmd_terms.specs.Current.{HasValue}
+use Rattle.cmd_types.specs.Current.{HasValue}
 use Rattle.backup_record.specs.Record.{IsListOf}
 use Rattle.backup_make.specs.declared.draft.Draft.{Draft}
 use Rattle.backup_make.specs.Draft.{stanza_of, old_in, list_in, IsDraft}

@@ -8,9 +8,9 @@ use Rattle.base_model.specs.Values.{Manifest}
 use Rattle.base_model.specs.Repository.{Backup}
 use Rattle.base_model.specs.Steps.{Command, MakeBackup}
 use Rattle.archive_store.specs.Still.{IsStill}
-use Rattle.cmd_terms.specs.declared.stages.plan.SyncScope.TheVariants.{Whole}
-use Rattle.cmd_terms.specs.DisksEffect.{Reached, to_end, turned_back, stopped, turns_of, RepoEffect}
-use Rattle.cmd_terms.proofs.Doing.{rests_does}
+use Rattle.cmd_types.specs.declared.stages.plan.SyncScope.TheVariants.{Whole}
+use Rattle.cmd_types.specs.DisksEffect.{Reached, to_end, turned_back, stopped, turns_of, RepoEffect}
+use Rattle.cmd_types.proofs.Doing.{rests_does}
 use Rattle.backup_record.proofs.Left.{OneManifest}
 use Rattle.backup_make.specs.declared.draft.Draft.{Draft}
 use Rattle.backup_make.specs.declared.fault.MakeFault.{MakeFault}

@@ -14,9 +14,9 @@ use Rattle.base_model.specs.Steps.{Step, Command, MakeBackup, AddBackup, changed
 use Rattle.base_model.specs.Log.{IsDone}
 use Rattle.base_model.specs.Now.{NowRepresents}
 use Rattle.base_model.specs.Steady.{IsSteady, EachImage}
-use Rattle.cmd_terms.specs.declared.stages.plan.SyncScope.TheVariants.{Whole}
-use Rattle.cmd_terms.specs.DisksEffect.{IsPart, DoesPart, DoesWhole}
-use Rattle.backup_files.specs.Way.{IsBeside}
+use Rattle.cmd_types.specs.declared.stages.plan.SyncScope.TheVariants.{Whole}
+use Rattle.cmd_types.specs.DisksEffect.{IsPart, DoesPart, DoesWhole}
+use Rattle.backup_sink.specs.Way.{IsBeside}
 use Rattle.backup_record.specs.Record.{IsListOf}
 use Rattle.backup_record.proofs.Left.{OneManifest}
 use Rattle.backup_make.specs.declared.draft.Draft.{Draft}

@@ -21,8 +21,8 @@ use Rattle.worker_protocol.specs.declared.sinks.ItemEnd.TheVariants.{Whole, Vani
 use Rattle.worker_protocol.specs.PartSinkState.{Held, Done, JobItems}
 use Rattle.worker_pool.specs.Reads.{ReadBy, EndsAs, AllEnd}
 use Rattle.worker_pool.specs.Run.{EndedBy}
-use Rattle.backup_files.specs.declared.keeper.EndedItem.{EndedItem}
-use Rattle.backup_files.proofs.JobItems.{some_and}
+use Rattle.backup_sink.specs.declared.keeper.EndedItem.{EndedItem}
+use Rattle.backup_sink.proofs.JobItems.{some_and}
 use Rattle.backup_plan.specs.declared.values.Choice.{Choice}
 use Rattle.backup_plan.specs.declared.values.Choice.TheVariants.{Skip, Empty, Alone, Bundle, Last}
 use Rattle.backup_plan.specs.Listed.{Taken, entry_at}

@@ -19,9 +19,9 @@ use Rattle.base_model.specs.Now.{NowRepresents}
 use Rattle.base_model.specs.Steady.{IsSteady, EachImage}
 use Rattle.base_model.proofs.Done.{part_none}
 use Rattle.base_model.proofs.PushDone.{after_some}
-use Rattle.cmd_terms.specs.declared.stages.plan.SyncScope.TheVariants.{Whole}
-use Rattle.cmd_terms.specs.DisksEffect.{IsPart, DoesPart, DoesWhole, RepoEffect, Reached, to_end, turned_back, stopped}
-use Rattle.backup_files.specs.Way.{IsBeside}
+use Rattle.cmd_types.specs.declared.stages.plan.SyncScope.TheVariants.{Whole}
+use Rattle.cmd_types.specs.DisksEffect.{IsPart, DoesPart, DoesWhole, RepoEffect, Reached, to_end, turned_back, stopped}
+use Rattle.backup_sink.specs.Way.{IsBeside}
 use Rattle.backup_record.specs.Record.{IsListOf}
 use Rattle.backup_record.proofs.Left.{OneManifest}
 use Rattle.backup_make.specs.declared.draft.Draft.{Draft}

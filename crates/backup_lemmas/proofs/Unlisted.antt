@@ -10,8 +10,8 @@ use Rattle.base_model.specs.Steps.{Command, steps_of}
 use Rattle.base_model.specs.Now.{NowRepresents}
 use Rattle.base_model.specs.Steady.{IsSteady, EachImage}
 use Rattle.base_model.proofs.Done.{part_none}
-use Rattle.cmd_terms.specs.declared.stages.plan.SyncScope.TheVariants.{Whole}
-use Rattle.cmd_terms.specs.DisksEffect.{IsPart, DoesPart}
+use Rattle.cmd_types.specs.declared.stages.plan.SyncScope.TheVariants.{Whole}
+use Rattle.cmd_types.specs.DisksEffect.{IsPart, DoesPart}
 use Rattle.backup_record.specs.Record.{IsListOf}
 use Rattle.backup_record.proofs.Left.{OneManifest}
 use Rattle.backup_make.specs.declared.draft.Draft.{Draft}

@@ -15,7 +15,7 @@ use Rattle.base_model.specs.Steps.{Step, Push, Move, One, Any, Turn, Named, Comm
 use Rattle.base_model.specs.Log.{Done, KeepsRepository, RepresentsAfter, Leads}
 use Rattle.base_model.specs.Steady.{IsSteady, EachImage}
 use Rattle.base_model.proofs.Waited.{all_after, steps as own_steps}
-use Rattle.cmd_terms.specs.DisksEffect.{IsPart}
+use Rattle.cmd_types.specs.DisksEffect.{IsPart}
 use Rattle.backup_lemmas.specs.Backups.{Waits}
 use Rattle.backup_lemmas.proofs.Begun.{known_as}
 

@@ -17,7 +17,7 @@ use Rattle.base_model.specs.Represents.{HasStanza}
 use Rattle.base_model.specs.Steps.{Command, MakeBackup, ArchivePushAsync, AddBackup, Turn, after, all_of, changed, steps_of}
 use Rattle.base_model.specs.Now.{NowRepresents, NowEffect}
 use Rattle.base_model.specs.Steady.{CarriesOn, PassesOnly}
-use Rattle.archive_index.specs.Stored.{ChangesArchive}
+use Rattle.archive_lookup.specs.Stored.{ChangesArchive}
 use Rattle.worker_protocol.specs.declared.frames.frames.Root.TheVariants.{DataFolder}
 use Rattle.worker_protocol.specs.Frames.{Item}
 use Rattle.worker_pool.specs.Reads.{ReadBy}

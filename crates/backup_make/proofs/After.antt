@@ -7,8 +7,8 @@ use Rattle.base_devices.specs.Crash.{IsTemporary, Ends, NowChanges}
 use Rattle.base_devices.specs.Links.{LinkState}
 use Rattle.base_devices.proofs.Nows.{known_as}
 use Rattle.base_model.specs.Names.{copy_of}
-use Rattle.backup_files.specs.Way.{Way, MayUnsync, IsBeside}
-use Rattle.backup_files.proofs.Ways.{way_on}
+use Rattle.backup_sink.specs.Way.{Way, MayUnsync, IsBeside}
+use Rattle.backup_sink.proofs.Ways.{way_on}
 use Rattle.backup_make.specs.declared.draft.Draft.{Draft}
 use Rattle.backup_make.specs.declared.fault.MakeFault.{MakeFault}
 use Rattle.backup_make.specs.Draft.{pair_of, main_of, is_own_of}

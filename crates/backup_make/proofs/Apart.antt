@@ -11,7 +11,7 @@ use Rattle.base_model.specs.Names.{copy_of, backup_info, backup_folder, label_fo
 use Rattle.base_model.specs.Log.{Manifested}
 use Rattle.base_model.proofs.Temporary.{fixed_lasts, pair_lasts}
 use Rattle.base_model.proofs.NameLemmas.{copy_apart}
-use Rattle.backup_files.specs.Keeping.{is_own}
+use Rattle.backup_sink.specs.Keeping.{is_own}
 use Rattle.backup_make.specs.Made.{AreApart}
 
 get_prefix : (x t : Name) (k : ℕ) → k < length x → get_or (x ++ t) k 0 ≡ get_or x k 0

@@ -14,12 +14,12 @@ use Rattle.base_model.specs.Names.{is_of_stanza, backup_folder, label_folder, la
 use Rattle.base_model.specs.Log.{Pair, Manifested}
 use Rattle.base_model.proofs.Below.{fixed_of}
 use Rattle.repo_pair.specs.Member.{IsOfPair}
-use Rattle.base_traces.specs.Beside.{StaysBeside}
-use Rattle.base_traces.proofs.Named.{in_backup}
-use Rattle.base_traces.proofs.Stays.{beside_on}
-use Rattle.backup_files.specs.Keeping.{is_own}
-use Rattle.backup_files.specs.Relation.{Touches}
-use Rattle.backup_files.proofs.Synced.{own_below}
+use Rattle.base_crash_lists.specs.Beside.{StaysBeside}
+use Rattle.base_crash_lists.proofs.Named.{in_backup}
+use Rattle.base_crash_lists.proofs.Stays.{beside_on}
+use Rattle.backup_sink.specs.Keeping.{is_own}
+use Rattle.backup_sink.specs.Relation.{Touches}
+use Rattle.backup_sink.proofs.Synced.{own_below}
 
 both_ways : {X : Type 0} (b : Bool) → b ≡ true → b ≡ false → X
 both_ways b is out = let u : ◌≡◌ {A = Bool} true false = sym is ∙ out in cc

@@ -14,8 +14,8 @@ use Rattle.worker_protocol.specs.declared.sinks.ItemEnd.TheVariants.{Whole, Vani
 use Rattle.worker_protocol.specs.PartSinkState.{Held, Done, JobItems, Holds}
 use Rattle.worker_pool.specs.Reads.{AllEnd, EndsAs, EndsWhole}
 use Rattle.worker_pool.specs.Run.{AllDone, EndedBy}
-use Rattle.backup_files.specs.declared.keeper.EndedItem.{EndedItem}
-use Rattle.backup_files.specs.Keeping.{Progress, dones, job_bytes, kept_of, keeps}
+use Rattle.backup_sink.specs.declared.keeper.EndedItem.{EndedItem}
+use Rattle.backup_sink.specs.Keeping.{Progress, dones, job_bytes, kept_of, keeps}
 use Rattle.backup_record.proofs.Coming.{AreReads}
 use Rattle.backup_record.specs.Ends.{AreEnds, AreAllEnds, AreReceived, IsReceived, ComesAs, AllCome, JobsCome}
 

@@ -14,11 +14,11 @@ use Rattle.base_model.specs.InfoFiles.{backup_sections, IsBackupText}
 use Rattle.base_model.specs.ManifestText.{manifest_limit}
 use Rattle.repo_manifest.specs.Keeping.{manifest_text}
 use Rattle.worker_protocol.specs.PartSinkState.{Done, JobItems}
-use Rattle.backup_files.specs.declared.keeper.EndedItem.{EndedItem}
-use Rattle.backup_files.specs.Relation.{Touches, touches_same}
-use Rattle.backup_files.specs.Way.{Way, MayUnsync, IsBeside}
-use Rattle.backup_files.proofs.Ways.{Law, way_as}
-use Rattle.backup_files.proofs.Made.{HasStored, IsMade, stored_way, manifest_way, made_way, made_ends}
+use Rattle.backup_sink.specs.declared.keeper.EndedItem.{EndedItem}
+use Rattle.backup_sink.specs.Relation.{Touches, touches_same}
+use Rattle.backup_sink.specs.Way.{Way, MayUnsync, IsBeside}
+use Rattle.backup_sink.proofs.Ways.{Law, way_as}
+use Rattle.backup_sink.proofs.Made.{HasStored, IsMade, stored_way, manifest_way, made_way, made_ends}
 use Rattle.backup_record.specs.Further.{Further, with_name, with_kept, kept_of}
 use Rattle.backup_record.proofs.Extended.{at_both, with_placed}
 use Rattle.backup_make.specs.declared.draft.Draft.{Draft}

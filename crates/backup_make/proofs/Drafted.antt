@@ -14,9 +14,9 @@ use Rattle.base_model.specs.ManifestText.{IsWalPart}
 use Rattle.base_devices.specs.States.{last_second}
 use Rattle.worker_pool.specs.Payloads.{AllByFile}
 use Rattle.worker_pool.specs.Run.{AllDone}
-use Rattle.backup_files.specs.declared.keeper.EndedItem.{EndedItem}
-use Rattle.backup_files.specs.Keeping.{Progress, keeps as kept_in, total, Agrees, IsPlan}
-use Rattle.backup_files.proofs.Places.{placed, bytes_at}
+use Rattle.backup_sink.specs.declared.keeper.EndedItem.{EndedItem}
+use Rattle.backup_sink.specs.Keeping.{Progress, keeps as kept_in, total, Agrees, IsPlan}
+use Rattle.backup_sink.proofs.Places.{placed, bytes_at}
 use Rattle.backup_plan.specs.Listed.{Taken, control_path}
 use Rattle.backup_plan.specs.Layout.{Layout, layout, jobs_of, bundles}
 use Rattle.backup_plan.proofs.Fitting.{jobs_fit}

@@ -20,7 +20,7 @@ use Rattle.base_model.specs.Represents.{Represents, HasStanza, IsManifestOf, bac
 use Rattle.base_model.specs.Steps.{changed, AddBackup}
 use Rattle.base_model.specs.Log.{IsFixed, IsPlaceOf, Lists}
 use Rattle.base_model.specs.Steady.{IsSteady, EachImage}
-use Rattle.backup_files.specs.Way.{IsBeside}
+use Rattle.backup_sink.specs.Way.{IsBeside}
 use Rattle.backup_plan.proofs.Lists.{in_parts}
 use Rattle.backup_record.specs.Item.{IsItem}
 use Rattle.backup_record.specs.Making.{entry_with}

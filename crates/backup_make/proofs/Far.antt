@@ -31,7 +31,7 @@ use Rattle.repo_pair.specs.Member.{IsPlain}
 use Rattle.repo_ini.proofs.Orders.{not_itself}
 use Rattle.repo_stanza.proofs.OneBackup.{pair_agrees, backup_rules}
 use Rattle.repo_names.proofs.LabelTexts.{label_text-injective}
-use Rattle.backup_files.specs.Keeping.{is_own}
+use Rattle.backup_sink.specs.Keeping.{is_own}
 use Rattle.backup_record.specs.Record.{IsListOf}
 use Rattle.backup_record.proofs.Following.{label_of}
 use Rattle.backup_record.proofs.Left.{OneManifest, pair_one}

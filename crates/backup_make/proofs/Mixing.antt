@@ -17,7 +17,7 @@ use Rattle.base_model.specs.Repository.{Stanza}
 use Rattle.base_model.specs.Log.{Manifested, IsPlaceOf}
 use Rattle.base_model.specs.Steady.{IsSteady}
 use Rattle.base_model.proofs.Frame.{pair_same}
-use Rattle.backup_files.proofs.Ways.{Law}
+use Rattle.backup_sink.proofs.Ways.{Law}
 use Rattle.backup_make.proofs.EachImage.{IsMixed}
 use Rattle.backup_make.proofs.Far.{no_slash, parts, copy_in, manifest_plain, manifest_copy_plain}
 

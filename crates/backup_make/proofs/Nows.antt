@@ -7,9 +7,9 @@ use Rattle.base_devices.specs.Moments.{View}
 use Rattle.base_model.specs.Text.{Text}
 use Rattle.base_model.specs.Names.{copy_of}
 use Rattle.base_model.specs.Create.{member_writes}
-use Rattle.backup_files.specs.Relation.{Touches}
-use Rattle.backup_files.specs.Way.{IsBeside}
-use Rattle.backup_files.proofs.Made.{IsMade, first_other, first_main, all_other, all_main}
+use Rattle.backup_sink.specs.Relation.{Touches}
+use Rattle.backup_sink.specs.Way.{IsBeside}
+use Rattle.backup_sink.proofs.Made.{IsMade, first_other, first_main, all_other, all_main}
 
 -- what it holds, where it is known
 held : (o : Option Content) → IsSome o → (f : Content) × (o ≡ Some f)

@@ -1,6 +1,6 @@
 -- The parts of a backup's making, one after the other.
 use Rattle.std.proofs.Common.{◌≡◌, List, Option, ◌∙◌, subst}
-use Rattle.backup_files.specs.declared.keeper.EndedItem.{EndedItem}
+use Rattle.backup_sink.specs.declared.keeper.EndedItem.{EndedItem}
 use Rattle.backup_make.specs.declared.backup_close.Closed.{Closed}
 use Rattle.backup_make.specs.declared.draft.Draft.{Draft}
 use Rattle.backup_make.specs.declared.draft_jobs.Fetched.{Fetched}

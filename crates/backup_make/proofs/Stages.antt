@@ -8,11 +8,11 @@ use Rattle.base_devices.specs.Links.{LinkState}
 use Rattle.base_devices.specs.Moments.{View, GrowsBy, MayKeep}
 use Rattle.base_model.specs.Text.{Text}
 use Rattle.base_model.specs.Names.{archive_folder}
-use Rattle.backup_files.specs.declared.keeper.EndedItem.{EndedItem}
-use Rattle.backup_files.specs.Placed.{IsPlaced}
-use Rattle.backup_files.specs.Sealed.{IsSealed, IsSealedAt}
-use Rattle.backup_files.proofs.Filed.{has_at, holds_at, sealed_more}
-use Rattle.backup_files.proofs.Synced.{stays}
+use Rattle.backup_sink.specs.declared.keeper.EndedItem.{EndedItem}
+use Rattle.backup_sink.specs.Placed.{IsPlaced}
+use Rattle.backup_sink.specs.Sealed.{IsSealed, IsSealedAt}
+use Rattle.backup_sink.proofs.Filed.{has_at, holds_at, sealed_more}
+use Rattle.backup_sink.proofs.Synced.{stays}
 use Rattle.backup_make.specs.declared.draft.Draft.{Draft}
 use Rattle.backup_make.specs.Draft.{stanza_of, is_own_of, label_name, IsDraft, IsFree}
 use Rattle.backup_make.specs.Online.{Online}

@@ -15,7 +15,7 @@ use Rattle.base_model.specs.Log.{IsFixed, Pair, Manifested, IsPlaceOf, Lists}
 use Rattle.base_model.specs.Steady.{IsSteady, EachImage}
 use Rattle.base_model.proofs.Temporary.{fixed_lasts}
 use Rattle.base_model.proofs.Frame.{pair_same}
-use Rattle.backup_files.specs.Way.{Way, MayUnsync, IsBeside}
+use Rattle.backup_sink.specs.Way.{Way, MayUnsync, IsBeside}
 use Rattle.backup_make.specs.declared.draft.Draft.{Draft}
 use Rattle.backup_make.specs.Draft.{stanza_of, pair_of, main_of, is_own_of}
 use Rattle.backup_make.specs.Made.{IsSyncedAt}

@@ -10,8 +10,8 @@ use Rattle.base_model.specs.Names.{label_folder, file_name, manifest_name, backu
 use Rattle.base_model.specs.InfoFiles.{IsBackupInfo}
 use Rattle.base_model.specs.ManifestText.{IsFileEntry}
 use Rattle.base_model.specs.Values.{BackupInfo, FileEntry, Manifest, backup_info_of, file_entry_of}
-use Rattle.backup_files.specs.declared.keeper.EndedItem.{EndedItem}
-use Rattle.backup_files.specs.Keeping.{is_own}
+use Rattle.backup_sink.specs.declared.keeper.EndedItem.{EndedItem}
+use Rattle.backup_sink.specs.Keeping.{is_own}
 use Rattle.backup_plan.specs.declared.values.PlanSettings.{PlanSettings}
 use Rattle.backup_plan.specs.Listed.{Taken, control_path}
 use Rattle.backup_plan.specs.Layout.{layout, jobs_of}

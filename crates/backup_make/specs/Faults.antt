@@ -17,7 +17,7 @@ use Rattle.repo_manifest.specs.declared.write_fault.WriteFault.{WriteFault}
 use Rattle.repo_manifest.specs.declared.write_fault.WriteFault.TheVariants as writes
 use Rattle.repo_manifest.specs.Keeping.{manifest_text}
 use Rattle.worker_protocol.specs.PartSinkState.{JobItems}
-use Rattle.backup_files.specs.declared.keeper.EndedItem.{EndedItem}
+use Rattle.backup_sink.specs.declared.keeper.EndedItem.{EndedItem}
 use Rattle.worker_pool.specs.declared.dispatch.fault.Lost.{Lost}
 use Rattle.worker_pool.specs.Reads.{UnreadBy}
 use Rattle.worker_pool.specs.Run.{AllDone, AllLost, begun}

@@ -13,9 +13,9 @@ use Rattle.repo_manifest.specs.Keeping.{manifest_text}
 use Rattle.worker_protocol.specs.PartSinkState.{Done, JobItems}
 use Rattle.worker_pool.specs.Payloads.{AllByFile}
 use Rattle.worker_pool.specs.Run.{AllDone}
-use Rattle.backup_files.specs.declared.keeper.EndedItem.{EndedItem}
-use Rattle.backup_files.specs.Placed.{IsPlaced}
-use Rattle.backup_files.specs.Way.{Way, MayUnsync, IsBeside}
+use Rattle.backup_sink.specs.declared.keeper.EndedItem.{EndedItem}
+use Rattle.backup_sink.specs.Placed.{IsPlaced}
+use Rattle.backup_sink.specs.Way.{Way, MayUnsync, IsBeside}
 use Rattle.backup_record.specs.Ends.{AreAllEnds, AreReceived, JobsCome}
 use Rattle.backup_record.specs.Faults.{HasControl}
 use Rattle.backup_record.specs.Further.{with_name, with_kept}

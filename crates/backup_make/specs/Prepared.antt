@@ -4,7 +4,7 @@ use Rattle.base_model.specs.Text.{Text}
 use Rattle.base_model.specs.InfoFiles.{IsBackupText}
 use Rattle.base_model.specs.ManifestText.{IsManifest}
 use Rattle.base_model.specs.Values.{BackupInfo, Manifest}
-use Rattle.backup_files.specs.declared.keeper.EndedItem.{EndedItem}
+use Rattle.backup_sink.specs.declared.keeper.EndedItem.{EndedItem}
 use Rattle.backup_record.specs.Faults.{HasControl}
 use Rattle.backup_record.specs.Making.{IsListWith}
 use Rattle.backup_make.specs.declared.draft.Draft.{Draft}

@@ -4,8 +4,8 @@ use Rattle.base_devices.specs.Content.{Content, Holds}
 use Rattle.base_devices.specs.Links.{LinkState}
 use Rattle.base_devices.specs.Moments.{View}
 use Rattle.base_devices.specs.States.{last_second}
-use Rattle.backup_files.specs.declared.keeper.EndedItem.{EndedItem}
-use Rattle.backup_files.specs.Sealed.{IsSealed}
+use Rattle.backup_sink.specs.declared.keeper.EndedItem.{EndedItem}
+use Rattle.backup_sink.specs.Sealed.{IsSealed}
 use Rattle.backup_make.specs.declared.draft.Draft.{Draft}
 use Rattle.backup_make.specs.declared.draft_jobs.Fetched.{Fetched}
 use Rattle.backup_make.specs.declared.backup_close.Closed.{Closed}

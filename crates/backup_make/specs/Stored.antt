@@ -4,8 +4,8 @@ use Rattle.base_devices.specs.Content.{Name, Content, HasBytes, Holds}
 use Rattle.base_devices.specs.Crash.{IsTemporary}
 use Rattle.base_devices.specs.Links.{LinkState}
 use Rattle.worker_protocol.specs.PartSinkState.{Done, JobItems}
-use Rattle.backup_files.specs.declared.keeper.EndedItem.{EndedItem}
-use Rattle.backup_files.specs.Placed.{IsPlaced}
+use Rattle.backup_sink.specs.declared.keeper.EndedItem.{EndedItem}
+use Rattle.backup_sink.specs.Placed.{IsPlaced}
 use Rattle.worker_pool.specs.Payloads.{AllByFile}
 use Rattle.worker_pool.specs.Run.{AllDone}
 use Rattle.backup_plan.specs.Layout.{Layout}

@@ -1,7 +1,7 @@
 // Makes a backup: its bytes, its manifest, and the stanza's list.
 ghost use Rattle.std.specs.Prelude.{◌≡◌, ◌<◌, ◌≤◌, ◌^◌, map, vec_len, IfErr, IfSome, IsSome, OnOk};
 ghost use Rattle.base_devices.specs.States.{Frame};
-ghost use Rattle.base_traces.specs.Beside.{StaysBeside};
+ghost use Rattle.base_crash_lists.specs.Beside.{StaysBeside};
 ghost use Rattle.worker_pool.specs.Run.{AddsLosses, Left, AreReady};
 ghost use Rattle.backup_make.specs.Draft.{IsDraft, jobs_in, main_of};
 ghost use Rattle.repo_stanza.specs.Pairs.{AgreeAt};

@@ -2,7 +2,7 @@
 ghost use Rattle.std.specs.Prelude.{◌≡◌, List, IfErr, IfSome, IsSome, OnOk};
 ghost use Rattle.base_devices.specs.Links.{LinkState};
 ghost use Rattle.base_devices.specs.States.{Frame};
-ghost use Rattle.base_traces.specs.Beside.{StaysBeside};
+ghost use Rattle.base_crash_lists.specs.Beside.{StaysBeside};
 ghost use Rattle.repo_stanza.specs.Pairs.{AgreeAt};
 ghost use Rattle.backup_make.specs.Draft.{main_of};
 ghost use Rattle.backup_make.specs.Faults.{PublishFails};

@@ -14,8 +14,8 @@ use Rattle.base_model.specs.ManifestText.{IsFileEntry}
 use Rattle.base_model.specs.Values.{FileEntry}
 use Rattle.worker_protocol.specs.declared.sinks.ItemEnd.{ItemEnd}
 use Rattle.worker_protocol.specs.declared.sinks.ItemEnd.TheVariants.{Whole, Vanished}
-use Rattle.backup_files.specs.declared.keeper.EndedItem.{EndedItem}
-use Rattle.backup_files.specs.Keeping.{total}
+use Rattle.backup_sink.specs.declared.keeper.EndedItem.{EndedItem}
+use Rattle.backup_sink.specs.Keeping.{total}
 use Rattle.backup_plan.specs.declared.values.Choice.{Choice}
 use Rattle.backup_plan.specs.declared.values.Choice.TheVariants.{Skip, Empty, Alone, Bundle, Last}
 use Rattle.backup_plan.specs.declared.values.PlanSettings.{PlanSettings}

@@ -12,7 +12,7 @@ use Rattle.base_model.specs.Text.{Text, Map, In, text_cmp}
 use Rattle.base_model.specs.ManifestText.{IsManifest, IsFileEntry}
 use Rattle.base_model.specs.Place.{LiesAt}
 use Rattle.base_model.specs.Repository.{File}
-use Rattle.backup_files.specs.Placed.{IsPlaced, held_sum}
+use Rattle.backup_sink.specs.Placed.{IsPlaced, held_sum}
 use Rattle.base_model.specs.declared.files.FileEntry as rust
 use Rattle.base_model.specs.Values.{FileEntry, file_entry_of}
 use Rattle.worker_protocol.specs.declared.sinks.ItemEnd.{ItemEnd}

@@ -3,8 +3,8 @@ use Rattle.std.proofs.Common.{◌≡◌, List, [], ◌∷◌, ◌++◌, length, 
 use Rattle.base_devices.specs.Content.{Name, Content, at}
 use Rattle.base_model.specs.Text.{Text}
 use Rattle.worker_protocol.specs.PartSinkState.{JobItems}
-use Rattle.backup_files.specs.declared.keeper.EndedItem.{EndedItem}
-use Rattle.backup_files.specs.Keeping.{Progress, dones, job_bytes, keeps}
+use Rattle.backup_sink.specs.declared.keeper.EndedItem.{EndedItem}
+use Rattle.backup_sink.specs.Keeping.{Progress, dones, job_bytes, keeps}
 use Rattle.backup_record.specs.Ends.{AreEnds, AreAllEnds}
 
 dones_end : (es : List EndedItem) (b : Option Text) → AreEnds es (dones es b)

@@ -13,9 +13,9 @@ use Rattle.base_model.specs.Place.{place}
 use Rattle.worker_protocol.specs.declared.sinks.ItemEnd.{ItemEnd}
 use Rattle.worker_protocol.specs.declared.sinks.ItemEnd.TheVariants.{Whole, Vanished}
 use Rattle.worker_protocol.specs.PartSinkState.{Done, JobItems}
-use Rattle.backup_files.specs.declared.keeper.EndedItem.{EndedItem}
-use Rattle.backup_files.specs.Keeping.{total}
-use Rattle.backup_files.specs.Placed.{held_sum}
+use Rattle.backup_sink.specs.declared.keeper.EndedItem.{EndedItem}
+use Rattle.backup_sink.specs.Keeping.{total}
+use Rattle.backup_sink.specs.Placed.{held_sum}
 use Rattle.backup_plan.specs.Listed.{Taken}
 use Rattle.backup_record.specs.Ends.{end_at, bytes_before, AreEnds, AreAllEnds, AreReceived}
 use Rattle.backup_record.specs.Entries.{read_entry, copied, known_at}

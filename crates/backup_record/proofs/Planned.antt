@@ -18,7 +18,7 @@ use Rattle.base_model.specs.Names.{label_folder, file_name, bundle_name}
 use Rattle.base_model.specs.Values.{FileEntry}
 use Rattle.base_model.specs.ManifestText.{IsFileEntry}
 use Rattle.base_model.proofs.Temporary.{entry_lasts}
-use Rattle.backup_files.specs.Keeping.{IsPlan, is_own}
+use Rattle.backup_sink.specs.Keeping.{IsPlan, is_own}
 use Rattle.backup_plan.specs.declared.values.PlanSettings.{PlanSettings}
 use Rattle.backup_plan.specs.declared.values.What.{What}
 use Rattle.backup_plan.specs.declared.values.What.TheVariants.{Leave, Nothing, Single, Small, Control}

@@ -13,7 +13,7 @@ use Rattle.base_model.specs.Represents.{IsManifestOf, IsEntryOf, IsAncestor, Pri
 use Rattle.base_model.specs.Steps.{changed, AddBackup}
 use Rattle.base_model.proofs.Pushed.{in_left}
 use Rattle.worker_protocol.specs.PartSinkState.{Done, JobItems}
-use Rattle.backup_files.specs.Placed.{held_sum, IsPlaced}
+use Rattle.backup_sink.specs.Placed.{held_sum, IsPlaced}
 use Rattle.backup_record.specs.Ends.{AreReceived}
 use Rattle.backup_record.specs.Item.{IsItem}
 use Rattle.backup_record.specs.Record.{HasFile, PriorRead, HasPrior, IsLeft, IsRecord}

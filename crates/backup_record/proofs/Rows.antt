@@ -2,7 +2,7 @@
 use Rattle.std.proofs.Common.{◌≡◌, ⊎_elim, inl, inr, ◌<◌, ◌+◌, ◌-◌, ℕ, zero, suc, Bool, true, false, List, [], ◌∷◌, map, Option, Some, None, refl, sym, ◌∙◌, ap, subst, arith, slice_get, option_map}
 use Rattle.std.specs.Prelude.{unwrap_or, bytes_eq, if◌then◌else◌}
 use Rattle.std.proofs.lemmas.Slice.Eq.{bytes_eq-Decides}
-use Rattle.backup_files.specs.declared.keeper.EndedItem.{EndedItem}
+use Rattle.backup_sink.specs.declared.keeper.EndedItem.{EndedItem}
 use Rattle.base_devices.specs.Content.{Name}
 use Rattle.base_model.specs.declared.labels.Label.{Label}
 use Rattle.base_model.specs.declared.files.Bundled.{Bundled}

@@ -1,8 +1,8 @@
 -- How many bytes lie before an item.
 use Rattle.std.proofs.Common.{◌≡◌, ◌+◌, ℕ, zero, suc, List, [], ◌∷◌, map, take, Option, Some, None, refl, sym, ◌∙◌, ap, arith, slice_get, option_map}
 use Rattle.std.specs.Prelude.{option_and_then}
-use Rattle.backup_files.specs.declared.keeper.EndedItem.{EndedItem}
-use Rattle.backup_files.specs.Keeping.{total}
+use Rattle.backup_sink.specs.declared.keeper.EndedItem.{EndedItem}
+use Rattle.backup_sink.specs.Keeping.{total}
 use Rattle.backup_record.specs.Sums.{sums}
 use Rattle.backup_record.specs.Ends.{end_at, bytes_before}
 

@@ -12,7 +12,7 @@ use Rattle.base_model.specs.InfoFiles.{IsLabel, label_kind}
 use Rattle.base_model.specs.ManifestText.{IsFileEntry, IsWalPart, HasItsPrior}
 use Rattle.base_model.specs.Values.{BackupInfo, FileEntry}
 use Rattle.worker_protocol.specs.declared.sinks.ItemEnd.TheVariants.{Whole}
-use Rattle.backup_files.specs.declared.keeper.EndedItem.{EndedItem}
+use Rattle.backup_sink.specs.declared.keeper.EndedItem.{EndedItem}
 use Rattle.backup_plan.specs.declared.values.Choice.{Choice}
 use Rattle.backup_plan.specs.Listed.{Taken}
 use Rattle.backup_plan.specs.Layout.{Layout, bundles}

@@ -7,8 +7,8 @@ use Rattle.worker_protocol.specs.Frames.{Item, Job}
 use Rattle.worker_protocol.specs.declared.sinks.ItemEnd.{ItemEnd}
 use Rattle.worker_protocol.specs.declared.sinks.ItemEnd.TheVariants.{Whole, Vanished}
 use Rattle.worker_protocol.specs.PartSinkState.{Done, JobItems}
-use Rattle.backup_files.specs.declared.keeper.EndedItem.{EndedItem}
-use Rattle.backup_files.specs.Keeping.{total}
+use Rattle.backup_sink.specs.declared.keeper.EndedItem.{EndedItem}
+use Rattle.backup_sink.specs.Keeping.{total}
 
 -- how an item of a job ended
 abbrev pub end_at : List (List EndedItem) → ℕ → ℕ → Option EndedItem

@@ -8,7 +8,7 @@ use Rattle.base_model.specs.Values.{FileEntry}
 use Rattle.base_model.specs.Place.{place}
 use Rattle.worker_protocol.specs.declared.sinks.ItemEnd.TheVariants.{Whole}
 use Rattle.worker_protocol.specs.PartSinkState.{Done, JobItems}
-use Rattle.backup_files.specs.Placed.{held_sum}
+use Rattle.backup_sink.specs.Placed.{held_sum}
 
 -- The entry is that of an item that was received: these are its bytes, their number and sum are those that were
 -- received, and it lies where they were put.

@@ -8,8 +8,8 @@ ghost use Rattle.backup_record.specs.Views.{went_of};
 
 use crate::places::{end_of, sum_at};
 use crate::ran::Ran;
-use backup_files::EndedItem;
 use backup_plan::{Choice, Taken, find_entry};
+use backup_sink::EndedItem;
 use base_model::{Bundled, FileEntry, Label};
 use base_text::Sum;
 use std::alloc::{AllocError, Global};

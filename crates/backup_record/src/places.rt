@@ -1,11 +1,11 @@
 // Where the items of the jobs lie.
 ghost use Rattle.std.specs.Prelude.{◌≡◌, ◌<◌, ◌^◌, map, slice_get, option_map, option_and_then, IfOk};
 ghost use Rattle.std.specs.List.{AllByRecursion};
-ghost use Rattle.backup_files.specs.Keeping.{total};
+ghost use Rattle.backup_sink.specs.Keeping.{total};
 ghost use Rattle.backup_record.specs.Sums.{sums};
 ghost use Rattle.backup_record.specs.Ends.{end_at};
 
-use backup_files::EndedItem;
+use backup_sink::EndedItem;
 use std::alloc::{AllocError, Global};
 
 // How many bytes lie before each item of a job.

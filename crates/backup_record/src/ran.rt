@@ -4,7 +4,7 @@ ghost use Rattle.base_devices.specs.Order.{are_in_order};
 ghost use Rattle.base_model.specs.Values.{file_entry_of};
 ghost use Rattle.backup_record.specs.Sums.{sums};
 
-use backup_files::EndedItem;
+use backup_sink::EndedItem;
 use base_model::{FileEntry, Label};
 
 /// How a backup went: the label and the files of the prior one, how many jobs are of single files, how each item of

@@ -6,7 +6,7 @@ ghost use Rattle.backup_record.specs.Sums.{sums};
 ghost use Rattle.backup_record.specs.Views.{went_of};
 
 use crate::ran::Ran;
-use backup_files::EndedItem;
+use backup_sink::EndedItem;
 use base_model::{FileEntry, Label};
 
 /// How a backup went that has these ends, with what lies before each.

@@ -18,12 +18,12 @@ use Rattle.base_model.specs.Now.{NowRepresents}
 use Rattle.repo_keys.proofs.Numbers.{in_map, map_in}
 use Rattle.repo_info.proofs.OneArchive.{one_archive_pair}
 use Rattle.repo_stanza.specs.declared.control.Control.{Control}
-use Rattle.archive_index.specs.declared.stored.fault.ArchiveFault.TheVariants.{NotFound}
-use Rattle.archive_index.specs.Stored.{StoresNone}
-use Rattle.archive_index.specs.Causes.{StoresBytes, IsUnarchived}
+use Rattle.archive_lookup.specs.declared.stored.fault.ArchiveFault.TheVariants.{NotFound}
+use Rattle.archive_lookup.specs.Stored.{StoresNone}
+use Rattle.archive_lookup.specs.Causes.{StoresBytes, IsUnarchived}
 use Rattle.archive_store.proofs.Got.{got_archived, answer_none}
-use Rattle.cmd_terms.specs.Current.{id_kept}
-use Rattle.cmd_terms.proofs.Places.{place_of}
+use Rattle.cmd_types.specs.Current.{id_kept}
+use Rattle.cmd_types.proofs.Places.{place_of}
 use Rattle.cmd_archive_get.specs.Getting.{IsSame, FoundIn, AbsentIn, IsArchivedFirst, Serves, IsMissing, ServesArchived, LacksArchived}
 
 module _ (stanza : Text) (f : Content) (s : Stanza) (now : NowRepresents stanza (Some s) (Some f)) (name : ArchiveName) (fits : IsWalName name) where

@@ -12,12 +12,12 @@ use Rattle.base_model.specs.Pair.{PairIs}
 use Rattle.base_model.specs.Values.{ArchiveInfo}
 use Rattle.base_model.specs.InfoFiles.{IsArchiveText}
 use Rattle.repo_stanza.specs.declared.control.Control.{Control}
-use Rattle.cmd_terms.specs.declared.stages.halt.Halt.{Halt}
-use Rattle.cmd_terms.specs.declared.stages.halt.Halt.TheVariants.{Refused}
-use Rattle.cmd_terms.specs.Halts.{HaltCause}
+use Rattle.cmd_types.specs.declared.stages.halt.Halt.{Halt}
+use Rattle.cmd_types.specs.declared.stages.halt.Halt.TheVariants.{Refused}
+use Rattle.cmd_types.specs.Halts.{HaltCause}
 use Rattle.cmd_archive_get.specs.declared.fault.GetFault.{GetFault}
 use Rattle.cmd_archive_get.specs.declared.fault.GetFault.TheVariants.{SegmentName, PathOutside, StanzaMismatch, Ambiguous, SegmentDamaged, TooLong}
-use Rattle.cmd_terms.specs.Cluster.{FolderShows}
+use Rattle.cmd_types.specs.Cluster.{FolderShows}
 use Rattle.repo_stanza.specs.Pairs.{identity_kept, identity_known}
 use Rattle.cmd_archive_get.specs.Getting.{AreArguments, served_path, HasSame, IsForeign, IsFound, IsAbsent, IsServed, IsPut, ChangesPath, Serves, IsWanted, IsMissing, FetchCause}
 use Rattle.cmd_archive_get.specs.Serving.{RoseIn, Puts, SearchCause}

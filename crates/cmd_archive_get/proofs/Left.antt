@@ -17,10 +17,10 @@ use Rattle.base_model.proofs.Walking.{rests_synced}
 use Rattle.archive_store.specs.Pushes.{IsPathOf}
 use Rattle.archive_store.proofs.AlikeFiles.{alike_none, alike_bytes}
 use Rattle.base_model.specs.Values.{ArchiveInfo}
-use Rattle.cmd_terms.specs.declared.stages.halt.Halt.{Halt}
-use Rattle.cmd_terms.specs.declared.stages.halt.Halt.TheVariants.{Refused, Failed, NoMemory}
-use Rattle.cmd_terms.specs.Current.{HasValue, id_kept}
-use Rattle.cmd_terms.specs.DisksEffect.{PairAlike}
+use Rattle.cmd_types.specs.declared.stages.halt.Halt.{Halt}
+use Rattle.cmd_types.specs.declared.stages.halt.Halt.TheVariants.{Refused, Failed, NoMemory}
+use Rattle.cmd_types.specs.Current.{HasValue, id_kept}
+use Rattle.cmd_types.specs.DisksEffect.{PairAlike}
 use Rattle.repo_stanza.specs.declared.control.Control.{Control}
 use Rattle.cmd_archive_get.specs.declared.fault.GetFault.{GetFault}
 use Rattle.cmd_archive_get.specs.Getting.{IsSame, HasSame, IsFound, IsAbsent}

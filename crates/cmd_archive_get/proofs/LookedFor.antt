@@ -12,11 +12,11 @@ use Rattle.base_model.specs.Values.{ArchiveInfo}
 use Rattle.repo_stanza.specs.declared.control.Control.{Control}
 use Rattle.archive_store.specs.Pushes.{IsPathOf}
 use Rattle.archive_store.proofs.AlikeFiles.{alike_none, alike_only}
-use Rattle.archive_index.specs.declared.stored.files.Stored.{Stored}
-use Rattle.archive_index.specs.Stored.{Finds, IsStoredFile, archive_path}
-use Rattle.archive_index.proofs.Owns.{stored_has}
-use Rattle.cmd_terms.specs.Current.{HasValue, id_kept}
-use Rattle.cmd_terms.specs.declared.stages.halt.Halt.{Halt}
+use Rattle.archive_lookup.specs.declared.stored.files.Stored.{Stored}
+use Rattle.archive_lookup.specs.Stored.{Finds, IsStoredFile, archive_path}
+use Rattle.archive_lookup.proofs.Owns.{stored_has}
+use Rattle.cmd_types.specs.Current.{HasValue, id_kept}
+use Rattle.cmd_types.specs.declared.stages.halt.Halt.{Halt}
 use Rattle.cmd_archive_get.specs.declared.fault.GetFault.{GetFault}
 use Rattle.cmd_archive_get.specs.Getting.{IsSame, HasSame, AbsentIn}
 use Rattle.cmd_archive_get.specs.Looking.{KeptIn, FindsIn, FindsUnder, IsLookedUp}

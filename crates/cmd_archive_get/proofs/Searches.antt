@@ -8,13 +8,13 @@ use Rattle.base_model.specs.declared.wal.ArchiveName.{ArchiveName}
 use Rattle.base_model.specs.Text.{Text, In}
 use Rattle.base_model.specs.InfoFiles.{AreFrom}
 use Rattle.repo_stanza.specs.declared.control.Control.{Control}
-use Rattle.archive_index.specs.declared.stored.fault.ArchiveFault.{ArchiveFault}
-use Rattle.archive_index.specs.declared.stored.fault.ArchiveFault.TheVariants.{Ambiguous as AmbiguousOf, SegmentDamaged as DamagedOf, TooLong as LongOf}
-use Rattle.archive_index.specs.Stored.{StoresNone}
-use Rattle.archive_index.specs.Causes.{StoresBytes, GetCause as ArchiveCause}
+use Rattle.archive_lookup.specs.declared.stored.fault.ArchiveFault.{ArchiveFault}
+use Rattle.archive_lookup.specs.declared.stored.fault.ArchiveFault.TheVariants.{Ambiguous as AmbiguousOf, SegmentDamaged as DamagedOf, TooLong as LongOf}
+use Rattle.archive_lookup.specs.Stored.{StoresNone}
+use Rattle.archive_lookup.specs.Causes.{StoresBytes, GetCause as ArchiveCause}
 use Rattle.cmd_archive_get.specs.declared.fault.GetFault.{GetFault}
 use Rattle.cmd_archive_get.specs.declared.fault.GetFault.TheVariants.{SegmentName, PathOutside, StanzaMismatch, Ambiguous, SegmentDamaged, TooLong}
-use Rattle.cmd_terms.specs.Current.{id_kept}
+use Rattle.cmd_types.specs.Current.{id_kept}
 use Rattle.cmd_archive_get.specs.Getting.{IsSame, HasSame, NoneAbove, FoundIn, AbsentIn, RefusedIn}
 use Rattle.cmd_archive_get.specs.Serving.{UnderCause, SearchCause}
 

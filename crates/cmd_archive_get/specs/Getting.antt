@@ -16,14 +16,14 @@ use Rattle.base_model.specs.InfoFiles.{IsArchiveText}
 use Rattle.base_model.specs.Repository.{Stanza, identity_of, id_of}
 use Rattle.base_model.specs.Represents.{IsWalName}
 use Rattle.repo_stanza.specs.declared.control.Control.{Control}
-use Rattle.archive_index.specs.declared.stored.fault.ArchiveFault.{ArchiveFault}
-use Rattle.archive_index.specs.declared.stored.fault.ArchiveFault.TheVariants.{Ambiguous as AmbiguousOf, SegmentDamaged as DamagedOf, TooLong as LongOf}
-use Rattle.archive_index.specs.Causes.{StoresBytes, GetCause as ArchiveCause, IsUnarchived}
-use Rattle.archive_index.specs.Stored.{archived_file, StoresNone}
-use Rattle.cmd_terms.specs.Cluster.{FolderShows}
-use Rattle.cmd_terms.specs.Current.{id_kept}
-use Rattle.cmd_terms.specs.declared.stages.outcome.Outcome.{Outcome}
-use Rattle.cmd_terms.specs.declared.stages.outcome.Outcome.TheVariants.{Finished, Absent, FindingsFound}
+use Rattle.archive_lookup.specs.declared.stored.fault.ArchiveFault.{ArchiveFault}
+use Rattle.archive_lookup.specs.declared.stored.fault.ArchiveFault.TheVariants.{Ambiguous as AmbiguousOf, SegmentDamaged as DamagedOf, TooLong as LongOf}
+use Rattle.archive_lookup.specs.Causes.{StoresBytes, GetCause as ArchiveCause, IsUnarchived}
+use Rattle.archive_lookup.specs.Stored.{archived_file, StoresNone}
+use Rattle.cmd_types.specs.Cluster.{FolderShows}
+use Rattle.cmd_types.specs.Current.{id_kept}
+use Rattle.cmd_types.specs.declared.stages.outcome.Outcome.{Outcome}
+use Rattle.cmd_types.specs.declared.stages.outcome.Outcome.TheVariants.{Finished, Absent, FindingsFound}
 use Rattle.cmd_archive_get.specs.declared.fault.GetFault.{GetFault}
 use Rattle.cmd_archive_get.specs.declared.fault.GetFault.TheVariants.{SegmentName, PathOutside, StanzaMismatch, Ambiguous, SegmentDamaged, TooLong}
 use Rattle.repo_stanza.specs.Pairs.{identity_kept, identity_known}

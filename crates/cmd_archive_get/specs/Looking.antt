@@ -5,11 +5,11 @@ use Rattle.base_model.specs.declared.clusters.ClusterId.{ClusterId}
 use Rattle.base_model.specs.declared.wal.ArchiveName.{ArchiveName}
 use Rattle.base_model.specs.Text.{Text, In}
 use Rattle.repo_stanza.specs.declared.control.Control.{Control}
-use Rattle.archive_index.specs.declared.stored.files.Stored.{Stored}
-use Rattle.archive_index.specs.Stored.{Finds}
-use Rattle.cmd_terms.specs.Current.{id_kept}
-use Rattle.cmd_terms.specs.declared.stages.halt.Halt.{Halt}
-use Rattle.cmd_terms.specs.declared.stages.halt.Halt.TheVariants.{Refused}
+use Rattle.archive_lookup.specs.declared.stored.files.Stored.{Stored}
+use Rattle.archive_lookup.specs.Stored.{Finds}
+use Rattle.cmd_types.specs.Current.{id_kept}
+use Rattle.cmd_types.specs.declared.stages.halt.Halt.{Halt}
+use Rattle.cmd_types.specs.declared.stages.halt.Halt.TheVariants.{Refused}
 use Rattle.cmd_archive_get.specs.declared.fault.GetFault.{GetFault}
 use Rattle.cmd_archive_get.specs.declared.fault.GetFault.TheVariants.{SegmentDamaged}
 use Rattle.cmd_archive_get.specs.Getting.{IsSame, NoneAbove, AbsentIn, OnHistory, IsAbsent}

@@ -15,23 +15,23 @@ use Rattle.base_model.specs.declared.wal.ArchiveName.{ArchiveName}
 use Rattle.base_model.specs.Text.{Text}
 use Rattle.base_model.specs.Walks.{IsSynced}
 use Rattle.repo_stanza.specs.declared.control.Control.{Control}
-use Rattle.archive_index.specs.declared.stored.fault.ArchiveFault.{ArchiveFault}
-use Rattle.archive_index.specs.declared.stored.fault.ArchiveFault.TheVariants.{Ambiguous as AmbiguousOf, SegmentDamaged as DamagedOf, TooLong as LongOf, Disk as DiskOf}
-use Rattle.archive_index.specs.Causes.{StoresBytes, GetCause as ArchiveCause}
+use Rattle.archive_lookup.specs.declared.stored.fault.ArchiveFault.{ArchiveFault}
+use Rattle.archive_lookup.specs.declared.stored.fault.ArchiveFault.TheVariants.{Ambiguous as AmbiguousOf, SegmentDamaged as DamagedOf, TooLong as LongOf, Disk as DiskOf}
+use Rattle.archive_lookup.specs.Causes.{StoresBytes, GetCause as ArchiveCause}
 use Rattle.archive_store.specs.Pushes.{IsPathOf}
-use Rattle.archive_index.specs.Stored.{StoresNone}
-use Rattle.cmd_terms.specs.declared.stages.object.Object.{Object}
-use Rattle.cmd_terms.specs.declared.stages.object.Object.TheVariants.{Repo}
-use Rattle.cmd_terms.specs.declared.stages.halt.Halt.{Halt}
-use Rattle.cmd_terms.specs.declared.stages.halt.Halt.TheVariants.{Refused, Failed, NoMemory}
-use Rattle.cmd_terms.specs.Risen.{none, rose_in}
+use Rattle.archive_lookup.specs.Stored.{StoresNone}
+use Rattle.cmd_types.specs.declared.stages.object.Object.{Object}
+use Rattle.cmd_types.specs.declared.stages.object.Object.TheVariants.{Repo}
+use Rattle.cmd_types.specs.declared.stages.halt.Halt.{Halt}
+use Rattle.cmd_types.specs.declared.stages.halt.Halt.TheVariants.{Refused, Failed, NoMemory}
+use Rattle.cmd_types.specs.Risen.{none, rose_in}
 use Rattle.cmd_archive_get.specs.declared.fault.GetFault.{GetFault}
 use Rattle.cmd_archive_get.specs.declared.fault.GetFault.TheVariants.{Ambiguous, SegmentDamaged, TooLong}
 use Rattle.cmd_archive_get.specs.declared.served_file.Copied.{Copied}
 use Rattle.cmd_archive_get.specs.declared.served_file.Copied.TheVariants.{Whole, Long, Vanished}
 use Rattle.cmd_archive_get.specs.declared.served_file.Passed.{Passed}
 use Rattle.cmd_archive_get.specs.declared.served_file.Passed.TheVariants.{Served, Lost, Barred}
-use Rattle.cmd_terms.specs.Current.{id_kept}
+use Rattle.cmd_types.specs.Current.{id_kept}
 use Rattle.cmd_archive_get.specs.Getting.{IsSame, IsPut, FoundIn, AbsentIn, RefusedIn}
 
 -- ---- why a call stops

@@ -3,7 +3,7 @@ use Rattle.std.specs.Prelude.{ℕ, ◌++◌, codes, string_bytes}
 use Rattle.base_text.specs.declared.sum.Sum.{Sum}
 use Rattle.base_text.specs.Sum.{sum_text}
 use Rattle.base_model.specs.Text.{Text}
-use Rattle.cmd_terms.specs.StagesTexts.{shown, mismatch_text, long_text, twice_text}
+use Rattle.cmd_types.specs.StagesTexts.{shown, mismatch_text, long_text, twice_text}
 use Rattle.cmd_archive_get.specs.declared.fault.GetFault.{GetFault}
 use Rattle.cmd_archive_get.specs.declared.fault.GetFault.TheVariants.{SegmentName, PathOutside, StanzaMismatch, Ambiguous, SegmentDamaged, TooLong}
 

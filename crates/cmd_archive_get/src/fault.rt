@@ -2,9 +2,9 @@
 ghost use Rattle.std.specs.Prelude.{◌≡◌};
 ghost use Rattle.cmd_archive_get.specs.Serving.{of_archive};
 
-use archive_index::ArchiveFault;
+use archive_lookup::ArchiveFault;
 use base_text::Sum;
-use cmd_terms::{Halt, Object};
+use cmd_types::{Halt, Object};
 use repo_stanza::Identity;
 
 /// Why archive-get is refused, in the order in which refusals come.

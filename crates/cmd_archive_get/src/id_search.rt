@@ -4,9 +4,9 @@ ghost use Rattle.base_devices.specs.Content.{Content};
 ghost use Rattle.base_devices.specs.States.{Looks};
 ghost use Rattle.base_model.specs.declared.clusters.ClusterId.{ClusterId};
 ghost use Rattle.base_model.specs.InfoFiles.{AreFrom};
-ghost use Rattle.archive_index.specs.Paths.{has_sum};
-ghost use Rattle.archive_index.specs.Stored.{Finds};
-ghost use Rattle.cmd_terms.specs.Halts.{HaltCause};
+ghost use Rattle.archive_lookup.specs.Paths.{has_sum};
+ghost use Rattle.archive_lookup.specs.Stored.{Finds};
+ghost use Rattle.cmd_types.specs.Halts.{HaltCause};
 ghost use Rattle.cmd_archive_get.specs.Getting.{IsSame, HasSame, ChangesPath};
 ghost use Rattle.cmd_archive_get.specs.Serving.{EitherFailed, Puts, AreBytes, IsUnstored, FileCause, IsLeft, EndsAlike};
 ghost use Rattle.cmd_archive_get.specs.Serving.{AreBytesUnder, IsUnstoredUnder, UnderCause};
@@ -15,11 +15,11 @@ ghost use Rattle.cmd_archive_get.specs.Serving.{AreFoundIn, IsAbsentIn, SearchCa
 use crate::fault::{GetFault, of_archive};
 use crate::order::GetOrder;
 use crate::served_file::{Passed, pass_on, put_file};
-use archive_index::{ArchiveFault, Stored, has_sum};
+use archive_lookup::{ArchiveFault, Stored, has_sum};
 use archive_store::{get, present};
 use base_devices::{DataFolder, Disk};
 use base_model::{ArchiveId, ClusterId};
-use cmd_terms::Halt;
+use cmd_types::Halt;
 use repo_stanza::Control;
 use std::alloc::Global;
 

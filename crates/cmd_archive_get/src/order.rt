@@ -1,13 +1,13 @@
 // What archive-get is given.
 ghost use Rattle.std.specs.Prelude.{◌≡◌, ◌++◌, codes, string_bytes, IfOk, IfErr};
 ghost use Rattle.base_model.specs.Paths.{IsPath};
-ghost use Rattle.cmd_terms.specs.Halts.{HaltCause};
+ghost use Rattle.cmd_types.specs.Halts.{HaltCause};
 ghost use Rattle.cmd_archive_get.specs.Getting.{AreArguments, served_path, ArgumentsCause};
 ghost use Rattle.cmd_archive_get.specs.Words.{AreArguments-prop};
 
 use crate::fault::GetFault;
 use base_model::ArchiveName;
-use cmd_terms::Halt;
+use cmd_types::Halt;
 use repo_names::{check_name, read_archive_name};
 use std::alloc::{AllocError, Global};
 

@@ -5,13 +5,13 @@ ghost use Rattle.base_devices.specs.Content.{SameBut};
 ghost use Rattle.base_devices.specs.Moments.{Unchanged};
 ghost use Rattle.base_devices.specs.Cause.{HasCause, Rises};
 ghost use Rattle.cmd_archive_get.specs.Getting.{IsPut, ChangesPath, temporary_path};
-ghost use Rattle.cmd_terms.specs.Halts.{HaltCause, Never};
+ghost use Rattle.cmd_types.specs.Halts.{HaltCause, Never};
 ghost use Rattle.cmd_archive_get.specs.Serving.{RoseIn, EitherFailed, Copies, AreStoredAt, Passes, PassCause, refusal};
 
 use crate::fault::GetFault;
 use base_devices::{DataFolder, DeviceError, Disk};
 use base_text::Sum;
-use cmd_terms::{Halt, Object, halted};
+use cmd_types::{Halt, Object, halted};
 use sha1::Sha1;
 use std::alloc::{AllocError, Global};
 

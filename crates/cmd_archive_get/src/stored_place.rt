@@ -6,8 +6,8 @@ ghost use Rattle.base_devices.specs.States.{Looks};
 ghost use Rattle.base_model.specs.declared.clusters.ClusterId.{ClusterId};
 ghost use Rattle.base_model.specs.InfoFiles.{AreFrom, IsArchiveInfo};
 ghost use Rattle.base_model.specs.Values.{archive_info_of};
-ghost use Rattle.cmd_terms.specs.Current.{HasValue};
-ghost use Rattle.cmd_terms.specs.Halts.{HaltCause};
+ghost use Rattle.cmd_types.specs.Current.{HasValue};
+ghost use Rattle.cmd_types.specs.Halts.{HaltCause};
 ghost use Rattle.cmd_archive_get.specs.Getting.{FetchCause};
 ghost use Rattle.cmd_archive_get.specs.Looking.{FindsIn, FindsUnder, IsLookedUp, IsUndamaged};
 ghost use Rattle.cmd_archive_get.specs.Serving.{IsLeft, RoseIn, SearchCause, UnderCause};
@@ -15,11 +15,11 @@ ghost use Rattle.cmd_archive_get.specs.Serving.{IsLeft, RoseIn, SearchCause, Und
 use crate::archive_get::mismatch;
 use crate::fault::{GetFault, of_archive};
 use crate::id_search::{has_cluster, is_of};
-use archive_index::Stored;
+use archive_lookup::Stored;
 use archive_store::present;
 use base_devices::Disk;
 use base_model::{ArchiveId, ArchiveInfo, ArchiveName, ClusterId};
-use cmd_terms::Halt;
+use cmd_types::Halt;
 use repo_stanza::Control;
 use std::alloc::Global;
 

@@ -4,7 +4,7 @@ ghost use Rattle.cmd_archive_get.specs.Texts.{get_status, get_message, sums_text
 
 use crate::fault::GetFault;
 use base_text::{NoMemory, Sum};
-use cmd_terms::{bytes_of, long_text, mismatch_text, quoted, twice_text};
+use cmd_types::{bytes_of, long_text, mismatch_text, quoted, twice_text};
 use std::alloc::Global;
 
 /// The status of a refusal of archive-get.

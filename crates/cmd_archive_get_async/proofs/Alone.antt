@@ -23,13 +23,13 @@ use Rattle.base_model.specs.Values.{ArchiveInfo}
 use Rattle.repo_keys.proofs.Numbers.{map_in}
 use Rattle.repo_info.proofs.OneArchive.{one_archive_pair}
 use Rattle.repo_stanza.specs.declared.control.Control.{Control}
-use Rattle.archive_index.specs.declared.stored.files.Stored.{Stored}
-use Rattle.archive_index.specs.Looks.{file_prefix}
-use Rattle.archive_index.specs.Stored.{archive_path, Finds, StoresOnly}
-use Rattle.archive_index.proofs.Looked.{with_prefix}
+use Rattle.archive_lookup.specs.declared.stored.files.Stored.{Stored}
+use Rattle.archive_lookup.specs.Looks.{file_prefix}
+use Rattle.archive_lookup.specs.Stored.{archive_path, Finds, StoresOnly}
+use Rattle.archive_lookup.proofs.Looked.{with_prefix}
 use Rattle.archive_store.proofs.Got.{same_place}
-use Rattle.cmd_terms.specs.Current.{id_kept}
-use Rattle.cmd_terms.proofs.Places.{place_of}
+use Rattle.cmd_types.specs.Current.{id_kept}
+use Rattle.cmd_types.proofs.Places.{place_of}
 use Rattle.cmd_archive_get.specs.Getting.{IsFound, IsPut, IsWanted, Serves, ServesArchived, served_path}
 use Rattle.cmd_archive_get.specs.Looking.{IsKeptAs}
 use Rattle.cmd_archive_get.specs.Serving.{AreStoredAt}

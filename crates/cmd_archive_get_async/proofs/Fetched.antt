@@ -13,9 +13,9 @@ use Rattle.base_model.specs.declared.wal.ArchiveName.TheVariants.{Segment as Who
 use Rattle.base_model.specs.declared.wal.Segment.{Segment}
 use Rattle.base_model.specs.Text.{Text}
 use Rattle.repo_names.specs.Next.{IsNext}
-use Rattle.archive_index.specs.Causes.{StoresBytes}
-use Rattle.archive_index.specs.declared.stored.files.Stored.{Stored}
-use Rattle.archive_index.specs.Stored.{Finds, StoresOnly, archive_path, known_sum}
+use Rattle.archive_lookup.specs.Causes.{StoresBytes}
+use Rattle.archive_lookup.specs.declared.stored.files.Stored.{Stored}
+use Rattle.archive_lookup.specs.Stored.{Finds, StoresOnly, archive_path, known_sum}
 use Rattle.cmd_archive_get.specs.declared.fault.GetFault.{GetFault}
 use Rattle.cmd_archive_get_async.specs.Names.{ahead_folder, ahead_name}
 use Rattle.cmd_archive_get_async.specs.Fetching.{Fetch, newest, IsKept, AreFollowing, with_fetched, HoldsFetched, HasNoNext, IsFetched, FetchesOne, NextCause, AheadCause, PutsAhead}

@@ -5,7 +5,7 @@ use Rattle.base_model.specs.declared.wal.ArchiveName.TheVariants.{Segment as Who
 use Rattle.base_model.specs.declared.wal.Segment.{Segment}
 use Rattle.base_model.specs.Text.{Text}
 use Rattle.repo_stanza.specs.declared.control.Control.{Control}
-use Rattle.archive_index.specs.declared.stored.files.Stored.{Stored}
+use Rattle.archive_lookup.specs.declared.stored.files.Stored.{Stored}
 use Rattle.cmd_archive_get.specs.declared.fault.GetFault.{GetFault}
 use Rattle.cmd_archive_get.specs.Looking.{IsKeptAs}
 use Rattle.cmd_archive_get_async.specs.Fetching.{AheadCause, most_ahead}

@@ -14,13 +14,13 @@ use Rattle.base_model.specs.Repository.{Stanza}
 use Rattle.base_model.specs.Text.{Text}
 use Rattle.base_model.specs.Walks.{IsSynced}
 use Rattle.repo_stanza.specs.declared.control.Control.{Control}
-use Rattle.cmd_terms.specs.declared.stages.halt.Halt.{Halt}
-use Rattle.cmd_terms.specs.declared.stages.outcome.Outcome.{Outcome}
-use Rattle.cmd_terms.specs.declared.stages.outcome.Outcome.TheVariants.{Finished, Absent, FindingsFound}
-use Rattle.cmd_terms.specs.Halts.{HaltCause}
-use Rattle.cmd_terms.specs.Risen.{none, rose_in}
-use Rattle.cmd_terms.specs.DisksEffect.{PairAlike}
-use Rattle.archive_index.specs.Turns.{ProcessesState}
+use Rattle.cmd_types.specs.declared.stages.halt.Halt.{Halt}
+use Rattle.cmd_types.specs.declared.stages.outcome.Outcome.{Outcome}
+use Rattle.cmd_types.specs.declared.stages.outcome.Outcome.TheVariants.{Finished, Absent, FindingsFound}
+use Rattle.cmd_types.specs.Halts.{HaltCause}
+use Rattle.cmd_types.specs.Risen.{none, rose_in}
+use Rattle.cmd_types.specs.DisksEffect.{PairAlike}
+use Rattle.archive_lookup.specs.Turns.{ProcessesState}
 use Rattle.cmd_archive_get.specs.declared.fault.GetFault.{GetFault}
 use Rattle.cmd_archive_get.specs.Getting.{GetCause, GivenBy, GotBy}
 use Rattle.cmd_archive_get_async.proofs.Halted.{halts_as}

@@ -1,11 +1,11 @@
 -- A cause of a call's failure is one of its caller's.
 use Rattle.std.proofs.Common.{sym, subst}
-use Rattle.cmd_terms.specs.declared.stages.object.Object.{Object}
-use Rattle.cmd_terms.specs.declared.stages.object.Object.TheVariants.{Repo, Spool, TheDataFolder, Server, Others, Clock, Locks, Config, Output}
-use Rattle.cmd_terms.specs.declared.stages.halt.Halt.{Halt}
-use Rattle.cmd_terms.specs.declared.stages.halt.Halt.TheVariants.{Refused, Failed, NoMemory}
-use Rattle.cmd_terms.specs.Halts.{HaltCause, Only}
-use Rattle.cmd_terms.specs.Risen.{none, rose_in}
+use Rattle.cmd_types.specs.declared.stages.object.Object.{Object}
+use Rattle.cmd_types.specs.declared.stages.object.Object.TheVariants.{Repo, Spool, TheDataFolder, Server, Others, Clock, Locks, Config, Output}
+use Rattle.cmd_types.specs.declared.stages.halt.Halt.{Halt}
+use Rattle.cmd_types.specs.declared.stages.halt.Halt.TheVariants.{Refused, Failed, NoMemory}
+use Rattle.cmd_types.specs.Halts.{HaltCause, Only}
+use Rattle.cmd_types.specs.Risen.{none, rose_in}
 use Rattle.cmd_archive_get.specs.declared.fault.GetFault.{GetFault}
 
 -- a count that rose in the call rose in its caller

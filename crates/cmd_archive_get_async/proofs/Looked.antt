@@ -8,8 +8,8 @@ use Rattle.base_devices.specs.declared.disk.Found.{Found}
 use Rattle.base_disk.proofs.Dropped.{entry}
 use Rattle.base_model.specs.declared.wal.Segment.{Segment}
 use Rattle.base_model.specs.Text.{Text}
-use Rattle.archive_index.specs.Listing.{sum_after}
-use Rattle.archive_index.proofs.Looked.{sum_at, sum_is}
+use Rattle.archive_lookup.specs.Listing.{sum_after}
+use Rattle.archive_lookup.proofs.Looked.{sum_at, sum_is}
 use Rattle.cmd_archive_get_async.specs.Names.{ahead_folder, ahead_prefix, ahead_name}
 use Rattle.cmd_archive_get_async.specs.Taking.{IsAhead}
 use Rattle.cmd_archive_get_async.proofs.Within.{name_below}

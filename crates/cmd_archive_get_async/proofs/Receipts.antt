@@ -13,12 +13,12 @@ use Rattle.base_model.specs.Represents.{IsWalName}
 use Rattle.base_model.specs.Steps.{Named, Reading, steps_of}
 use Rattle.base_model.specs.Text.{Text, In}
 use Rattle.base_model.proofs.Done.{part_none}
-use Rattle.archive_index.specs.Turns.{HadReceipt}
+use Rattle.archive_lookup.specs.Turns.{HadReceipt}
 use Rattle.archive_spool.specs.Marks.{GivesMarks}
 use Rattle.archive_spool.proofs.Receipts.{marks_receipts, marks_synced}
-use Rattle.cmd_terms.specs.declared.stages.plan.SyncScope.{SyncScope}
-use Rattle.cmd_terms.specs.DisksEffect.{SpoolEffect}
-use Rattle.cmd_terms.proofs.Lifted.{reading_spool}
+use Rattle.cmd_types.specs.declared.stages.plan.SyncScope.{SyncScope}
+use Rattle.cmd_types.specs.DisksEffect.{SpoolEffect}
+use Rattle.cmd_types.proofs.Lifted.{reading_spool}
 
 module _ (stanza : Text) (s t : View) (law : Law s) (new_law : Law t) (marks : GivesMarks stanza [] s t) (known : IsSome s.now → IsSome t.now) where
   -- each receipt was there before

@@ -16,11 +16,11 @@ use Rattle.base_model.specs.Walks.{IsSynced}
 use Rattle.base_model.proofs.Begun.{old_leaves}
 use Rattle.base_model.proofs.Walking.{rests_synced}
 use Rattle.repo_stanza.specs.declared.control.Control.{Control}
-use Rattle.archive_index.specs.declared.stored.files.Stored.{Stored}
-use Rattle.cmd_terms.specs.declared.stages.halt.Halt.{Halt}
-use Rattle.cmd_terms.specs.Halts.{HaltCause}
-use Rattle.cmd_terms.specs.Risen.{none, rose_in}
-use Rattle.cmd_terms.specs.DisksEffect.{PairAlike}
+use Rattle.archive_lookup.specs.declared.stored.files.Stored.{Stored}
+use Rattle.cmd_types.specs.declared.stages.halt.Halt.{Halt}
+use Rattle.cmd_types.specs.Halts.{HaltCause}
+use Rattle.cmd_types.specs.Risen.{none, rose_in}
+use Rattle.cmd_types.specs.DisksEffect.{PairAlike}
 use Rattle.cmd_archive_get.specs.declared.fault.GetFault.{GetFault}
 use Rattle.cmd_archive_get.specs.Getting.{GetCause}
 use Rattle.cmd_archive_get.specs.Looking.{IsKeptAs, IsLookedUp}

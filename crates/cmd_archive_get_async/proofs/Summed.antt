@@ -10,10 +10,10 @@ use Rattle.base_model.specs.declared.wal.ArchiveName.TheVariants.{Segment as Who
 use Rattle.base_model.specs.declared.wal.Segment.{Segment}
 use Rattle.base_model.specs.Text.{Text}
 use Rattle.repo_stanza.specs.declared.control.Control.{Control}
-use Rattle.archive_index.specs.declared.stored.files.Stored.{Stored}
-use Rattle.archive_index.specs.Stored.{StoresOnly}
-use Rattle.cmd_terms.specs.Cluster.{FolderShows}
-use Rattle.cmd_terms.specs.Current.{id_kept}
+use Rattle.archive_lookup.specs.declared.stored.files.Stored.{Stored}
+use Rattle.archive_lookup.specs.Stored.{StoresOnly}
+use Rattle.cmd_types.specs.Cluster.{FolderShows}
+use Rattle.cmd_types.specs.Current.{id_kept}
 use Rattle.cmd_archive_get.specs.Getting.{AreArguments, ChangesPath, IsAbsent, IsFound, IsMissing, IsPut, IsServed, IsWanted, Serves, served_path}
 use Rattle.cmd_archive_get.specs.Looking.{IsKeptAs}
 use Rattle.cmd_archive_get.specs.Serving.{AreStoredAt}

@@ -13,8 +13,8 @@ use Rattle.base_model.specs.declared.wal.Segment.{Segment}
 use Rattle.base_model.specs.Names.{archive_folder, segment_text, wal_text, is_of_stanza}
 use Rattle.base_model.specs.Text.{Text}
 use Rattle.base_text.specs.Sum.{sum_text}
-use Rattle.base_traces.specs.Beside.{StaysBeside}
-use Rattle.base_traces.proofs.Named.{in_archive}
+use Rattle.base_crash_lists.specs.Beside.{StaysBeside}
+use Rattle.base_crash_lists.proofs.Named.{in_archive}
 use Rattle.archive_spool.specs.Marks.{AddsMarks, GivesMarks, IsNoReceipt}
 use Rattle.cmd_archive_get_async.specs.Names.{ahead_folder, ahead_prefix, ahead_name, ChangesWithin, ChangesAhead}
 

@@ -11,11 +11,11 @@ use Rattle.base_model.specs.declared.wal.ArchiveName.TheVariants.{Segment as Who
 use Rattle.base_model.specs.declared.wal.Segment.{Segment}
 use Rattle.base_model.specs.Text.{Text}
 use Rattle.repo_names.specs.Next.{IsNext, IsLast}
-use Rattle.archive_index.specs.Causes.{StoresBytes}
-use Rattle.archive_index.specs.Stored.{StoresNone}
-use Rattle.cmd_terms.specs.declared.stages.halt.Halt.{Halt}
-use Rattle.cmd_terms.specs.declared.stages.halt.Halt.TheVariants.{Failed, NoMemory}
-use Rattle.cmd_terms.specs.declared.stages.object.Object.TheVariants.{Spool}
+use Rattle.archive_lookup.specs.Causes.{StoresBytes}
+use Rattle.archive_lookup.specs.Stored.{StoresNone}
+use Rattle.cmd_types.specs.declared.stages.halt.Halt.{Halt}
+use Rattle.cmd_types.specs.declared.stages.halt.Halt.TheVariants.{Failed, NoMemory}
+use Rattle.cmd_types.specs.declared.stages.object.Object.TheVariants.{Spool}
 use Rattle.cmd_archive_get.specs.declared.fault.GetFault.{GetFault}
 use Rattle.cmd_archive_get.specs.Serving.{FileCause}
 use Rattle.cmd_archive_get_async.specs.declared.ahead.spool_copy.Copied.{Copied}

@@ -7,9 +7,9 @@ use Rattle.base_model.specs.InfoFiles.{IsSegment}
 use Rattle.base_model.specs.Names.{segment_text}
 use Rattle.base_model.specs.Text.{Text}
 use Rattle.repo_stanza.specs.declared.control.Control.{Control}
-use Rattle.archive_index.specs.declared.stored.files.Stored.{Stored}
-use Rattle.cmd_terms.specs.declared.stages.outcome.Outcome.{Outcome}
-use Rattle.cmd_terms.specs.declared.stages.outcome.Outcome.TheVariants.{Finished, Absent, FindingsFound}
+use Rattle.archive_lookup.specs.declared.stored.files.Stored.{Stored}
+use Rattle.cmd_types.specs.declared.stages.outcome.Outcome.{Outcome}
+use Rattle.cmd_types.specs.declared.stages.outcome.Outcome.TheVariants.{Finished, Absent, FindingsFound}
 use Rattle.cmd_archive_get.specs.declared.fault.GetFault.{GetFault}
 use Rattle.cmd_archive_get.specs.declared.fault.GetFault.TheVariants.{SegmentName}
 use Rattle.cmd_archive_get.specs.Getting.{IsAbsent, FetchCause}

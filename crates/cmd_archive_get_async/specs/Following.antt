@@ -6,7 +6,7 @@ use Rattle.base_model.specs.declared.wal.Segment.{Segment}
 use Rattle.base_model.specs.ManifestText.{IsSegSize}
 use Rattle.base_model.specs.Text.{Text}
 use Rattle.repo_names.specs.Next.{IsOfLog, IsNext, IsLast}
-use Rattle.archive_index.specs.Turns.{ProcessesState}
+use Rattle.archive_lookup.specs.Turns.{ProcessesState}
 use Rattle.cmd_archive_get_async.specs.Taking.{IsAhead}
 
 -- a segment of this length is one of those that a log has

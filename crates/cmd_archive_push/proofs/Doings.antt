@@ -5,21 +5,21 @@ use Rattle.base_devices.specs.Moments.{View}
 use Rattle.base_devices.specs.DataFolder.{Nodes}
 use Rattle.base_model.specs.Text.{Text}
 use Rattle.base_model.specs.Steps.{Command}
-use Rattle.archive_index.specs.declared.stored.fault.ArchiveFault.{ArchiveFault}
-use Rattle.archive_index.specs.declared.stored.fault.ArchiveFault.TheVariants.{HeaderForm, SegmentSize, HeaderMismatch, Ambiguous, Duplicate, NotFound, SegmentDamaged, TooLong, TooMany, Disk, NoMemory}
+use Rattle.archive_lookup.specs.declared.stored.fault.ArchiveFault.{ArchiveFault}
+use Rattle.archive_lookup.specs.declared.stored.fault.ArchiveFault.TheVariants.{HeaderForm, SegmentSize, HeaderMismatch, Ambiguous, Duplicate, NotFound, SegmentDamaged, TooLong, TooMany, Disk, NoMemory}
 use Rattle.archive_store.specs.declared.fault.PushFault.{PushFault as StoreFault}
 use Rattle.archive_store.specs.declared.fault.PushFault.TheVariants.{Archive, Source}
-use Rattle.archive_index.specs.Causes.{OnFinding}
+use Rattle.archive_lookup.specs.Causes.{OnFinding}
 use Rattle.archive_store.specs.Pushing.{OnPushFinding}
 use Rattle.archive_store.specs.Still.{IsStill, rests_none}
-use Rattle.cmd_terms.specs.declared.stages.plan.SyncScope.TheVariants.{Looked}
-use Rattle.cmd_terms.specs.declared.stages.object.Object.TheVariants as objects
-use Rattle.cmd_terms.specs.declared.stages.halt.Halt.{Halt}
-use Rattle.cmd_terms.specs.declared.stages.halt.Halt.TheVariants.{Refused, Failed, NoMemory as OutOfMemory}
-use Rattle.cmd_terms.specs.declared.stages.outcome.Outcome.{Outcome}
-use Rattle.cmd_terms.specs.Reached.{reached_by}
-use Rattle.cmd_terms.specs.DisksEffect.{to_end, turned_back, stopped, DoesPart, DoesWhole, RepoEffect}
-use Rattle.cmd_terms.proofs.Doing.{rests_does}
+use Rattle.cmd_types.specs.declared.stages.plan.SyncScope.TheVariants.{Looked}
+use Rattle.cmd_types.specs.declared.stages.object.Object.TheVariants as objects
+use Rattle.cmd_types.specs.declared.stages.halt.Halt.{Halt}
+use Rattle.cmd_types.specs.declared.stages.halt.Halt.TheVariants.{Refused, Failed, NoMemory as OutOfMemory}
+use Rattle.cmd_types.specs.declared.stages.outcome.Outcome.{Outcome}
+use Rattle.cmd_types.specs.Reached.{reached_by}
+use Rattle.cmd_types.specs.DisksEffect.{to_end, turned_back, stopped, DoesPart, DoesWhole, RepoEffect}
+use Rattle.cmd_types.proofs.Doing.{rests_does}
 use Rattle.cmd_archive_push.specs.declared.fault.PushFault.{PushFault}
 use Rattle.cmd_archive_push.specs.Commands.{IsPushOf}
 use Rattle.cmd_archive_push.specs.Faults.{of_archive, of_store, push_early}

@@ -19,21 +19,21 @@ use Rattle.base_model.specs.Walks.{IsSynced}
 use Rattle.repo_pair.specs.Member.{IsMember}
 use Rattle.repo_stanza.specs.declared.control.Control.{Control}
 use Rattle.repo_stanza.specs.Pairs.{identity_kept, identity_known}
-use Rattle.archive_index.specs.Causes.{limit_of}
+use Rattle.archive_lookup.specs.Causes.{limit_of}
 use Rattle.archive_store.specs.declared.fault.PushFault.{PushFault as StoreFault}
 use Rattle.archive_store.specs.declared.pushing.Pushed.{Pushed}
-use Rattle.archive_index.specs.Stored.{archive_path}
+use Rattle.archive_lookup.specs.Stored.{archive_path}
 use Rattle.archive_store.specs.Pushes.{IsPathOf, LeavesPart, LeavesAll, Writes, Leaves, LeavesFile}
 use Rattle.base_text.specs.declared.sum.Sum.{Sum}
 use Rattle.archive_store.specs.Pushing.{IsPushedAs, PushFromCause}
-use Rattle.cmd_terms.specs.declared.stages.plan.SyncScope.TheVariants.{Looked}
-use Rattle.cmd_terms.specs.declared.stages.object.Object.TheVariants.{TheDataFolder}
-use Rattle.cmd_terms.specs.declared.stages.halt.Halt.{Halt}
-use Rattle.cmd_terms.specs.Cluster.{FolderShows}
-use Rattle.cmd_terms.specs.Current.{HasValue, AgreesAtPair, id_kept}
-use Rattle.cmd_terms.specs.Halts.{HaltCause, Only}
-use Rattle.cmd_terms.specs.Risen.{none, rose_in}
-use Rattle.cmd_terms.specs.DisksEffect.{DoesPart, DoesWhole}
+use Rattle.cmd_types.specs.declared.stages.plan.SyncScope.TheVariants.{Looked}
+use Rattle.cmd_types.specs.declared.stages.object.Object.TheVariants.{TheDataFolder}
+use Rattle.cmd_types.specs.declared.stages.halt.Halt.{Halt}
+use Rattle.cmd_types.specs.Cluster.{FolderShows}
+use Rattle.cmd_types.specs.Current.{HasValue, AgreesAtPair, id_kept}
+use Rattle.cmd_types.specs.Halts.{HaltCause, Only}
+use Rattle.cmd_types.specs.Risen.{none, rose_in}
+use Rattle.cmd_types.specs.DisksEffect.{DoesPart, DoesWhole}
 use Rattle.cmd_archive_push.specs.declared.fault.PushFault.{PushFault}
 use Rattle.cmd_archive_push.specs.declared.log_file.LogFile.{LogFile}
 use Rattle.cmd_archive_push.specs.declared.order.PushOrder.{PushOrder}

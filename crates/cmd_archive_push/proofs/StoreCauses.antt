@@ -14,23 +14,23 @@ use Rattle.base_model.specs.Represents.{IsArchiveFile, IsWalName}
 use Rattle.base_model.specs.Values.{ArchiveInfo}
 use Rattle.repo_stanza.specs.declared.control.Control.{Control}
 use Rattle.repo_stanza.specs.Pairs.{identity_kept, identity_known}
-use Rattle.archive_index.specs.declared.stored.fault.ArchiveFault.{ArchiveFault}
-use Rattle.archive_index.specs.declared.stored.fault.ArchiveFault.TheVariants as archive
+use Rattle.archive_lookup.specs.declared.stored.fault.ArchiveFault.{ArchiveFault}
+use Rattle.archive_lookup.specs.declared.stored.fault.ArchiveFault.TheVariants as archive
 use Rattle.archive_store.specs.declared.fault.PushFault.{PushFault as StoreFault}
 use Rattle.archive_store.specs.declared.fault.PushFault.TheVariants.{Archive, Source}
 use Rattle.archive_store.specs.declared.pushing.Pushed.{Pushed}
 use Rattle.archive_store.specs.declared.pushing.Pushed.TheVariants.{New, Same}
-use Rattle.archive_index.specs.Stored.{archive_path}
+use Rattle.archive_lookup.specs.Stored.{archive_path}
 use Rattle.base_text.specs.declared.sum.Sum.{Sum}
 use Rattle.archive_store.specs.Pushing.{IsPushedAs, PushFromCause}
-use Rattle.archive_index.specs.Causes.{IsFileOf, limit_of, PushCause as StoringCause}
-use Rattle.cmd_terms.specs.declared.stages.object.Object.TheVariants.{TheDataFolder}
-use Rattle.cmd_terms.specs.declared.stages.halt.Halt.{Halt}
-use Rattle.cmd_terms.specs.declared.stages.halt.Halt.TheVariants.{Refused, Failed, NoMemory}
-use Rattle.cmd_terms.specs.Cluster.{FolderShows}
-use Rattle.cmd_terms.specs.Current.{HasCurrent, HasValue, id_kept}
-use Rattle.cmd_terms.specs.Halts.{HaltCause, Only}
-use Rattle.cmd_terms.specs.Risen.{none, rose_in}
+use Rattle.archive_lookup.specs.Causes.{IsFileOf, limit_of, PushCause as StoringCause}
+use Rattle.cmd_types.specs.declared.stages.object.Object.TheVariants.{TheDataFolder}
+use Rattle.cmd_types.specs.declared.stages.halt.Halt.{Halt}
+use Rattle.cmd_types.specs.declared.stages.halt.Halt.TheVariants.{Refused, Failed, NoMemory}
+use Rattle.cmd_types.specs.Cluster.{FolderShows}
+use Rattle.cmd_types.specs.Current.{HasCurrent, HasValue, id_kept}
+use Rattle.cmd_types.specs.Halts.{HaltCause, Only}
+use Rattle.cmd_types.specs.Risen.{none, rose_in}
 use Rattle.cmd_archive_push.specs.declared.fault.PushFault.{PushFault}
 use Rattle.cmd_archive_push.specs.declared.fault.PushFault.TheVariants.{SegmentName, PathOutside, StanzaMismatch, SegmentMissing, TooLong, HeaderForm, SegmentSize, HeaderMismatch, Ambiguous, Duplicate}
 use Rattle.cmd_archive_push.specs.Causes.{IsCurrent, IsReady, IsRefusedPush, IsRefusedFile, PushCause, IsPut, IsKept, IsStored}

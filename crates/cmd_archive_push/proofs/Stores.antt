@@ -32,10 +32,10 @@ use Rattle.repo_info.proofs.OneArchive.{one_archive_pair}
 use Rattle.repo_pair.specs.Member.{IsMember}
 use Rattle.repo_pair.proofs.Lasts.{ends_alike}
 use Rattle.archive_store.specs.Pushes.{PushesPart, PushesAll, LeavesPart, LeavesAll}
-use Rattle.cmd_terms.specs.declared.stages.plan.SyncScope.TheVariants.{Looked}
-use Rattle.cmd_terms.specs.Current.{HasCurrent, id_kept, AgreesAtPair}
-use Rattle.cmd_terms.specs.DisksEffect.{IsLookedAt, PartEach, WholeEach, DoesPart, DoesWhole}
-use Rattle.cmd_terms.proofs.Doing.{now_known}
+use Rattle.cmd_types.specs.declared.stages.plan.SyncScope.TheVariants.{Looked}
+use Rattle.cmd_types.specs.Current.{HasCurrent, id_kept, AgreesAtPair}
+use Rattle.cmd_types.specs.DisksEffect.{IsLookedAt, PartEach, WholeEach, DoesPart, DoesWhole}
+use Rattle.cmd_types.proofs.Doing.{now_known}
 use Rattle.cmd_archive_push.specs.Commands.{IsPushOf}
 use Rattle.cmd_archive_push.specs.WalPath.{HasWal, wal_path}
 use Rattle.cmd_archive_push.proofs.WalNames.{one_name}

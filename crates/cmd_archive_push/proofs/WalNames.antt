@@ -4,7 +4,7 @@ use Rattle.std.specs.List.{AllByRecursion}
 use Rattle.base_model.specs.declared.wal.ArchiveName.{ArchiveName}
 use Rattle.base_model.specs.Text.{Text}
 use Rattle.base_model.specs.Names.{wal_text}
-use Rattle.archive_index.proofs.OnePath.{wal_injective}
+use Rattle.archive_lookup.proofs.OnePath.{wal_injective}
 use Rattle.cmd_archive_push.specs.WalPath.{IsLastElement, IsPathOf, IsWalPath}
 
 -- ---- the last element

@@ -13,13 +13,13 @@ use Rattle.base_model.specs.Names.{wal_text}
 use Rattle.repo_stanza.specs.declared.control.Control.{Control}
 use Rattle.repo_stanza.specs.declared.fault.Identity.{Identity}
 use Rattle.repo_stanza.specs.Pairs.{identity_kept, identity_known}
-use Rattle.archive_index.specs.declared.stored.fault.ArchiveFault.{ArchiveFault}
-use Rattle.archive_index.specs.declared.stored.fault.ArchiveFault.TheVariants.{HeaderForm as FormOf, SegmentSize as SizeOf, HeaderMismatch as MismatchOf, Ambiguous as AmbiguousOf, Duplicate as DuplicateOf, TooLong as LongOf}
-use Rattle.archive_index.specs.Causes.{IsFileOf, limit_of, PushCause as StoringCause}
+use Rattle.archive_lookup.specs.declared.stored.fault.ArchiveFault.{ArchiveFault}
+use Rattle.archive_lookup.specs.declared.stored.fault.ArchiveFault.TheVariants.{HeaderForm as FormOf, SegmentSize as SizeOf, HeaderMismatch as MismatchOf, Ambiguous as AmbiguousOf, Duplicate as DuplicateOf, TooLong as LongOf}
+use Rattle.archive_lookup.specs.Causes.{IsFileOf, limit_of, PushCause as StoringCause}
 use Rattle.archive_store.specs.Pushes.{IsPathOf}
-use Rattle.archive_index.specs.Stored.{archive_path, StoresNone, StoresOnly}
-use Rattle.cmd_terms.specs.Cluster.{FolderShows}
-use Rattle.cmd_terms.specs.Current.{HasCurrent, id_kept}
+use Rattle.archive_lookup.specs.Stored.{archive_path, StoresNone, StoresOnly}
+use Rattle.cmd_types.specs.Cluster.{FolderShows}
+use Rattle.cmd_types.specs.Current.{HasCurrent, id_kept}
 use Rattle.cmd_archive_push.specs.declared.fault.PushFault.{PushFault}
 use Rattle.cmd_archive_push.specs.declared.fault.PushFault.TheVariants.{SegmentName, PathOutside, StanzaMismatch, SegmentMissing, TooLong, HeaderForm, SegmentSize, HeaderMismatch, Ambiguous, Duplicate}
 use Rattle.cmd_archive_push.specs.WalPath.{IsWalPath, HasWal}

@@ -2,7 +2,7 @@
 use Rattle.std.specs.Prelude.{ℕ, ◌++◌, codes, decimal, Option, Some, None, string_bytes}
 use Rattle.base_text.specs.Sum.{sum_text}
 use Rattle.base_model.specs.Text.{Text}
-use Rattle.cmd_terms.specs.StagesTexts.{shown, long_text, mismatch_text, twice_text}
+use Rattle.cmd_types.specs.StagesTexts.{shown, long_text, mismatch_text, twice_text}
 use Rattle.cmd_archive_push.specs.declared.fault.PushFault.{PushFault}
 use Rattle.cmd_archive_push.specs.declared.fault.PushFault.TheVariants.{SegmentName, PathOutside, StanzaMismatch, SegmentMissing, TooLong, HeaderForm, SegmentSize, HeaderMismatch, Ambiguous, Duplicate}
 

@@ -5,13 +5,13 @@ ghost use Rattle.base_model.specs.Fields.{at_number};
 ghost use Rattle.base_model.specs.InfoFiles.{IsArchiveInfo};
 ghost use Rattle.base_model.specs.Values.{archive_info_of};
 ghost use Rattle.repo_stanza.specs.Pairs.{identity_kept, identity_known};
-ghost use Rattle.cmd_terms.specs.declared.stages.halt.Halt.TheVariants.{Refused as IsRefused};
-ghost use Rattle.cmd_terms.specs.Current.{id_kept};
+ghost use Rattle.cmd_types.specs.declared.stages.halt.Halt.TheVariants.{Refused as IsRefused};
+ghost use Rattle.cmd_types.specs.Current.{id_kept};
 ghost use Rattle.cmd_archive_push.specs.declared.fault.PushFault.TheVariants.{StanzaMismatch as Mismatch};
 
 use crate::fault::PushFault;
 use base_model::{ArchiveId, ArchiveInfo};
-use cmd_terms::Halt;
+use cmd_types::Halt;
 use repo_stanza::{Control, Identity};
 
 /// The archive id of the stanza's current cluster, where that is the data folder's.

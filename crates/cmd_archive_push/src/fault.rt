@@ -2,10 +2,10 @@
 ghost use Rattle.std.specs.Prelude.{◌≡◌};
 ghost use Rattle.cmd_archive_push.specs.Faults.{of_archive, of_store};
 
-use archive_index::ArchiveFault;
+use archive_lookup::ArchiveFault;
 use archive_store::PushFault as StoreFault;
 use base_text::Sum;
-use cmd_terms::{Halt, Object};
+use cmd_types::{Halt, Object};
 use repo_stanza::Identity;
 
 /// Why archive-push is refused, in the order in which refusals come.

@@ -4,8 +4,8 @@ ghost use Rattle.std.proofs.Common.{refl, ap, ◌∙◌};
 ghost use Rattle.base_devices.specs.States.{Looks, LooksAt};
 ghost use Rattle.base_devices.specs.DataFolder.{known_path};
 ghost use Rattle.base_devices.specs.Cause.{HasCause, Rises};
-ghost use Rattle.cmd_terms.specs.declared.stages.object.Object.TheVariants.{TheDataFolder as TheFolder};
-ghost use Rattle.cmd_terms.specs.Halts.{HaltCause, Only};
+ghost use Rattle.cmd_types.specs.declared.stages.object.Object.TheVariants.{TheDataFolder as TheFolder};
+ghost use Rattle.cmd_types.specs.Halts.{HaltCause, Only};
 ghost use Rattle.cmd_archive_push.specs.LogFile.{known_file, IsOpened, IsMeasured};
 ghost use Rattle.cmd_archive_push.specs.WalPath.{wal_path};
 ghost use Rattle.cmd_archive_push.specs.WalCause.{FileCause};
@@ -13,7 +13,7 @@ ghost use Rattle.cmd_archive_push.specs.WalCause.{FileCause};
 use crate::fault::PushFault;
 use archive_store::{ByteSource, Prefix};
 use base_devices::{DataFolder, DeviceError, ReadableFile};
-use cmd_terms::{Halt, Object, halted, read_prefix};
+use cmd_types::{Halt, Object, halted, read_prefix};
 use std::alloc::Global;
 
 // This many bytes are read at first.

@@ -1,14 +1,14 @@
 // The file of the data folder's log that archive-push is given.
 ghost use Rattle.std.specs.Prelude.{◌≡◌, IfOk, IfErr, Decides, string_bytes};
 ghost use Rattle.base_model.specs.Names.{wal_text};
-ghost use Rattle.cmd_terms.specs.Halts.{HaltCause};
+ghost use Rattle.cmd_types.specs.Halts.{HaltCause};
 ghost use Rattle.cmd_archive_push.specs.WalPath.{IsLastElement, IsPathOf, IsWalPath};
 ghost use Rattle.cmd_archive_push.specs.WalProps.{IsWalPath-prop};
 ghost use Rattle.cmd_archive_push.specs.WalCause.{WordCause};
 
 use crate::fault::PushFault;
 use base_model::ArchiveName;
-use cmd_terms::Halt;
+use cmd_types::Halt;
 use repo_names::{archive_name_text, read_archive_name};
 use std::alloc::{AllocError, Global};
 

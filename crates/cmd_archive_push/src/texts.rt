@@ -5,7 +5,7 @@ ghost use Rattle.cmd_archive_push.specs.Texts.{push_status, push_message, conten
 
 use crate::fault::PushFault;
 use base_text::{NoMemory, Sum};
-use cmd_terms::{long_text, mismatch_text, quoted, twice_text};
+use cmd_types::{long_text, mismatch_text, quoted, twice_text};
 use std::alloc::Global;
 
 /// The status of a refusal.

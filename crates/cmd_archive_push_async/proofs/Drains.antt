@@ -19,19 +19,19 @@ use Rattle.base_model.specs.Values.{ArchiveInfo}
 use Rattle.repo_stanza.specs.declared.control.Control.{Control}
 use Rattle.repo_stanza.specs.Pairs.{identity_kept, identity_known}
 use Rattle.archive_store.specs.Still.{rests_none}
-use Rattle.cmd_terms.specs.declared.stages.halt.Halt.{Halt}
-use Rattle.cmd_terms.specs.declared.stages.halt.Halt.TheVariants.{Refused, Failed, NoMemory}
-use Rattle.cmd_terms.specs.declared.stages.object.Object.TheVariants as objects
-use Rattle.cmd_terms.specs.declared.stages.outcome.Outcome.{Outcome}
-use Rattle.cmd_terms.specs.declared.stages.plan.SyncScope.TheVariants.{Whole}
-use Rattle.cmd_terms.specs.Cluster.{FolderShows}
-use Rattle.cmd_terms.specs.Current.{HasCurrent, HasValue, id_kept}
-use Rattle.cmd_terms.specs.Halts.{HaltCause}
-use Rattle.cmd_terms.specs.Reached.{back_if, reached_by}
-use Rattle.cmd_terms.specs.Risen.{rose_in}
-use Rattle.cmd_terms.specs.DisksEffect.{Reached, On, one, DisksEffect, to_end, turned_back, stopped}
-use Rattle.cmd_terms.proofs.Doing.{rests_does}
-use Rattle.cmd_terms.proofs.Lifted.{does_runs}
+use Rattle.cmd_types.specs.declared.stages.halt.Halt.{Halt}
+use Rattle.cmd_types.specs.declared.stages.halt.Halt.TheVariants.{Refused, Failed, NoMemory}
+use Rattle.cmd_types.specs.declared.stages.object.Object.TheVariants as objects
+use Rattle.cmd_types.specs.declared.stages.outcome.Outcome.{Outcome}
+use Rattle.cmd_types.specs.declared.stages.plan.SyncScope.TheVariants.{Whole}
+use Rattle.cmd_types.specs.Cluster.{FolderShows}
+use Rattle.cmd_types.specs.Current.{HasCurrent, HasValue, id_kept}
+use Rattle.cmd_types.specs.Halts.{HaltCause}
+use Rattle.cmd_types.specs.Reached.{back_if, reached_by}
+use Rattle.cmd_types.specs.Risen.{rose_in}
+use Rattle.cmd_types.specs.DisksEffect.{Reached, On, one, DisksEffect, to_end, turned_back, stopped}
+use Rattle.cmd_types.proofs.Doing.{rests_does}
+use Rattle.cmd_types.proofs.Lifted.{does_runs}
 use Rattle.cmd_archive_push.specs.declared.fault.PushFault.{PushFault}
 use Rattle.cmd_archive_push.specs.declared.fault.PushFault.TheVariants.{SegmentName, PathOutside, StanzaMismatch, SegmentMissing, TooLong, HeaderForm, SegmentSize, HeaderMismatch, Ambiguous, Duplicate}
 use Rattle.cmd_archive_push.specs.Causes.{IsCurrent}

@@ -15,14 +15,14 @@ use Rattle.base_model.specs.Now.{NowRepresents}
 use Rattle.base_model.specs.Repository.{Stanza}
 use Rattle.base_model.specs.Steps.{Named}
 use Rattle.base_model.specs.Text.{Text, In}
-use Rattle.archive_index.specs.Causes.{limit_of}
-use Rattle.cmd_terms.specs.declared.stages.halt.Halt.{Halt}
-use Rattle.cmd_terms.specs.declared.stages.halt.Halt.TheVariants.{Refused as Refused_, Failed, NoMemory}
-use Rattle.cmd_terms.specs.declared.stages.object.Object.{Object}
-use Rattle.cmd_terms.specs.declared.stages.object.Object.TheVariants.{Repo, Spool, TheDataFolder, Server, Others, Clock, Locks, Config, Output}
-use Rattle.cmd_terms.specs.Halts.{HaltCause, Never, Only}
-use Rattle.cmd_terms.specs.Risen.{rose_in}
-use Rattle.cmd_terms.proofs.Counts.{rises_from}
+use Rattle.archive_lookup.specs.Causes.{limit_of}
+use Rattle.cmd_types.specs.declared.stages.halt.Halt.{Halt}
+use Rattle.cmd_types.specs.declared.stages.halt.Halt.TheVariants.{Refused as Refused_, Failed, NoMemory}
+use Rattle.cmd_types.specs.declared.stages.object.Object.{Object}
+use Rattle.cmd_types.specs.declared.stages.object.Object.TheVariants.{Repo, Spool, TheDataFolder, Server, Others, Clock, Locks, Config, Output}
+use Rattle.cmd_types.specs.Halts.{HaltCause, Never, Only}
+use Rattle.cmd_types.specs.Risen.{rose_in}
+use Rattle.cmd_types.proofs.Counts.{rises_from}
 use Rattle.cmd_archive_push.specs.declared.fault.PushFault.{PushFault}
 use Rattle.cmd_archive_push.specs.declared.fault.PushFault.TheVariants.{SegmentName, PathOutside, StanzaMismatch, SegmentMissing, TooLong, HeaderForm, SegmentSize, HeaderMismatch, Ambiguous, Duplicate}
 use Rattle.cmd_archive_push.specs.WalCause.{FileCause}

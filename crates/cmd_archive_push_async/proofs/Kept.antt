@@ -26,11 +26,11 @@ use Rattle.base_model.proofs.PushDone.{after_some}
 use Rattle.base_model.proofs.Pushed.{file_of}
 use Rattle.base_model.proofs.Turned.{note_represents, turn_sound}
 use Rattle.base_model.proofs.Waited.{all_after}
-use Rattle.archive_index.specs.Stored.{archive_path}
-use Rattle.archive_index.specs.Turns.{HadReceipt, IsStoredBy}
-use Rattle.base_traces.specs.Trace.{HasReceiptsOf}
-use Rattle.cmd_terms.specs.declared.stages.plan.SyncScope.TheVariants.{Whole}
-use Rattle.cmd_terms.specs.DisksEffect.{IsPart, DoesPart, DoesWhole, SpoolEffect, DisksEffect}
+use Rattle.archive_lookup.specs.Stored.{archive_path}
+use Rattle.archive_lookup.specs.Turns.{HadReceipt, IsStoredBy}
+use Rattle.base_crash_lists.specs.Trace.{HasReceiptsOf}
+use Rattle.cmd_types.specs.declared.stages.plan.SyncScope.TheVariants.{Whole}
+use Rattle.cmd_types.specs.DisksEffect.{IsPart, DoesPart, DoesWhole, SpoolEffect, DisksEffect}
 use Rattle.archive_spool.specs.Marks.{GivesMarks}
 use Rattle.archive_spool.proofs.Receipts.{marks_receipts, marks_synced}
 use Rattle.cmd_archive_push_async.specs.declared.files.push_marks.Drained.{Drained as Counted}

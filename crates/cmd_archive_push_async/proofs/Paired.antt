@@ -13,7 +13,7 @@ use Rattle.base_model.specs.Text.{Text}
 use Rattle.base_model.proofs.Frame.{AgreesPast, past_alike, past_past}
 use Rattle.base_model.proofs.Healed.{put_past}
 use Rattle.base_model.proofs.Walking.{crash_walks}
-use Rattle.archive_index.specs.Stored.{archive_path}
+use Rattle.archive_lookup.specs.Stored.{archive_path}
 use Rattle.archive_store.specs.Pushes.{Writes}
 use Rattle.cmd_archive_push.proofs.Stores.{agrees_on, members_on}
 use Rattle.cmd_archive_push_async.specs.Paired.{KeepsPair}

@@ -37,15 +37,15 @@ use Rattle.archive_store.specs.Still.{IsStill}
 use Rattle.archive_store.proofs.Got.{same_place}
 use Rattle.archive_store.proofs.Piecewise.{read_is}
 use Rattle.archive_store.proofs.PushedEach.{part_now, part_moves, all_now, all_steady}
-use Rattle.archive_index.specs.Stored.{archived_file, archive_path, HasSum, StoresOnly, StoresTwo}
-use Rattle.archive_index.specs.Causes.{OnFinding, PushCause, IsFileOf, StoresLong}
-use Rattle.archive_index.specs.declared.stored.fault.ArchiveFault.{ArchiveFault}
-use Rattle.archive_index.specs.declared.stored.fault.ArchiveFault.TheVariants.{HeaderForm, SegmentSize, HeaderMismatch, Ambiguous, Duplicate, NotFound, SegmentDamaged, TooLong, TooMany, Disk, NoMemory}
-use Rattle.archive_index.proofs.Owns.{has_own, stored_has}
-use Rattle.cmd_terms.specs.declared.stages.halt.Halt.{Halt}
-use Rattle.cmd_terms.specs.declared.stages.halt.Halt.TheVariants.{Refused as IsRefused}
-use Rattle.cmd_terms.specs.Halts.{HaltCause}
-use Rattle.cmd_terms.specs.Risen.{rose_in}
+use Rattle.archive_lookup.specs.Stored.{archived_file, archive_path, HasSum, StoresOnly, StoresTwo}
+use Rattle.archive_lookup.specs.Causes.{OnFinding, PushCause, IsFileOf, StoresLong}
+use Rattle.archive_lookup.specs.declared.stored.fault.ArchiveFault.{ArchiveFault}
+use Rattle.archive_lookup.specs.declared.stored.fault.ArchiveFault.TheVariants.{HeaderForm, SegmentSize, HeaderMismatch, Ambiguous, Duplicate, NotFound, SegmentDamaged, TooLong, TooMany, Disk, NoMemory}
+use Rattle.archive_lookup.proofs.Owns.{has_own, stored_has}
+use Rattle.cmd_types.specs.declared.stages.halt.Halt.{Halt}
+use Rattle.cmd_types.specs.declared.stages.halt.Halt.TheVariants.{Refused as IsRefused}
+use Rattle.cmd_types.specs.Halts.{HaltCause}
+use Rattle.cmd_types.specs.Risen.{rose_in}
 use Rattle.cmd_archive_push.specs.declared.fault.PushFault.{PushFault}
 use Rattle.cmd_archive_push.specs.declared.fault.PushFault.TheVariants.{HeaderForm as FormFault, SegmentSize as SizeFault, HeaderMismatch as MismatchFault, Ambiguous as AmbiguousFault, Duplicate as DuplicateFault, TooLong as LongFault}
 use Rattle.cmd_archive_push.specs.Faults.{of_archive, of_store}

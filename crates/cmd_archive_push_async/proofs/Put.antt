@@ -16,11 +16,11 @@ use Rattle.base_model.specs.declared.wal.ArchiveName.{ArchiveName}
 use Rattle.base_model.specs.Names.{archive_folder, receipt_name, wal_text}
 use Rattle.base_model.specs.Represents.{IsWalName}
 use Rattle.base_model.specs.Text.{Text, ◌⫽◌}
-use Rattle.archive_index.specs.Stored.{ChangesArchive}
-use Rattle.archive_index.specs.Turns.{refusal_name}
-use Rattle.cmd_terms.specs.declared.stages.object.Object.TheVariants.{Spool}
-use Rattle.cmd_terms.specs.declared.stages.halt.Halt.{Halt}
-use Rattle.cmd_terms.specs.Halts.{HaltCause, Never, Only}
+use Rattle.archive_lookup.specs.Stored.{ChangesArchive}
+use Rattle.archive_lookup.specs.Turns.{refusal_name}
+use Rattle.cmd_types.specs.declared.stages.object.Object.TheVariants.{Spool}
+use Rattle.cmd_types.specs.declared.stages.halt.Halt.{Halt}
+use Rattle.cmd_types.specs.Halts.{HaltCause, Never, Only}
 use Rattle.cmd_archive_push.specs.declared.fault.PushFault.{PushFault}
 use Rattle.cmd_archive_push.specs.Texts.{push_status}
 use Rattle.archive_spool.specs.Marks.{named, receipt_text, refusal_text, mark_temporary, GivesMarks}

@@ -11,7 +11,7 @@ use Rattle.base_model.specs.declared.wal.ArchiveId.{ArchiveId}
 use Rattle.base_model.specs.declared.wal.ArchiveName.{ArchiveName}
 use Rattle.base_model.specs.Steps.{ArchivePushAsync, ArchivePushDrain}
 use Rattle.base_model.specs.Text.{Text}
-use Rattle.cmd_terms.specs.Current.{HasCurrent, id_kept}
+use Rattle.cmd_types.specs.Current.{HasCurrent, id_kept}
 use Rattle.cmd_archive_push.proofs.Stores.{current_at}
 use Rattle.cmd_archive_push_async.specs.declared.files.push_marks.Drained.{Drained}
 use Rattle.cmd_archive_push_async.specs.Draining.{DrainsFrom}

@@ -11,10 +11,10 @@ use Rattle.base_model.specs.declared.wal.ArchiveName.{ArchiveName}
 use Rattle.base_model.specs.Names.{wal_text}
 use Rattle.base_model.specs.Represents.{IsWalName}
 use Rattle.base_model.specs.Text.{In}
-use Rattle.archive_index.specs.Listing.{Picks}
-use Rattle.archive_index.proofs.OnePath.{wal_injective}
-use Rattle.archive_index.proofs.Orders.{from_map, in_of, contains_of, in_map}
-use Rattle.archive_index.proofs.Picked.{picked, met, picked_order}
+use Rattle.archive_lookup.specs.Listing.{Picks}
+use Rattle.archive_lookup.proofs.OnePath.{wal_injective}
+use Rattle.archive_lookup.proofs.Orders.{from_map, in_of, contains_of, in_map}
+use Rattle.archive_lookup.proofs.Picked.{picked, met, picked_order}
 use Rattle.cmd_archive_push_async.specs.Ready.{ready_path, IsReady, AreReady, is_file, ShowsReady, PassesReady}
 
 abbrev pub pair_of : FolderEntry → Name × Node

@@ -13,14 +13,14 @@ use Rattle.base_model.specs.declared.wal.ArchiveName.{ArchiveName}
 use Rattle.base_model.specs.Names.{archive_folder}
 use Rattle.base_model.specs.Steps.{Named}
 use Rattle.base_model.specs.Text.{Text, In}
-use Rattle.archive_index.specs.Stored.{ChangesArchive}
-use Rattle.cmd_terms.specs.declared.stages.halt.Halt.{Halt}
-use Rattle.cmd_terms.specs.declared.stages.halt.Halt.TheVariants.{Refused, Failed, NoMemory}
-use Rattle.cmd_terms.specs.declared.stages.object.Object.{Object}
-use Rattle.cmd_terms.specs.declared.stages.object.Object.TheVariants.{TheDataFolder, Spool}
-use Rattle.cmd_terms.specs.Halts.{HaltCause, Never, Only}
-use Rattle.cmd_terms.specs.Risen.{rose_in}
-use Rattle.cmd_terms.proofs.Counts.{rises_from}
+use Rattle.archive_lookup.specs.Stored.{ChangesArchive}
+use Rattle.cmd_types.specs.declared.stages.halt.Halt.{Halt}
+use Rattle.cmd_types.specs.declared.stages.halt.Halt.TheVariants.{Refused, Failed, NoMemory}
+use Rattle.cmd_types.specs.declared.stages.object.Object.{Object}
+use Rattle.cmd_types.specs.declared.stages.object.Object.TheVariants.{TheDataFolder, Spool}
+use Rattle.cmd_types.specs.Halts.{HaltCause, Never, Only}
+use Rattle.cmd_types.specs.Risen.{rose_in}
+use Rattle.cmd_types.proofs.Counts.{rises_from}
 use Rattle.cmd_archive_push.specs.declared.fault.PushFault.{PushFault}
 use Rattle.archive_spool.specs.Clearing.{IsStale, Clears, IsCleared}
 use Rattle.archive_spool.specs.Marks.{GivesMarks}

@@ -11,7 +11,7 @@ use Rattle.base_model.specs.Steps.{Command, Named, ArchivePushDrain}
 use Rattle.base_model.specs.Text.{Text}
 use Rattle.repo_stanza.specs.declared.control.Control.{Control}
 use Rattle.repo_stanza.specs.declared.fault.Identity.{Identity}
-use Rattle.cmd_terms.specs.Current.{id_kept}
+use Rattle.cmd_types.specs.Current.{id_kept}
 use Rattle.cmd_archive_push.specs.declared.fault.PushFault.{PushFault}
 use Rattle.cmd_archive_push.specs.declared.fault.PushFault.TheVariants.{StanzaMismatch, TooLong}
 use Rattle.cmd_archive_push.specs.Causes.{IsCurrent, MismatchCause}

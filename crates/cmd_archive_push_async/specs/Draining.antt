@@ -11,7 +11,7 @@ use Rattle.base_model.specs.Now.{NowRepresents}
 use Rattle.base_model.specs.Repository.{Stanza}
 use Rattle.base_model.specs.Steps.{Named}
 use Rattle.base_model.specs.Text.{Text}
-use Rattle.cmd_terms.specs.declared.stages.halt.Halt.{Halt}
+use Rattle.cmd_types.specs.declared.stages.halt.Halt.{Halt}
 use Rattle.cmd_archive_push.specs.declared.fault.PushFault.{PushFault}
 use Rattle.cmd_archive_push.specs.WalPath.{wal_path}
 use Rattle.archive_spool.specs.Marks.{named, GivesMarks}

@@ -6,14 +6,14 @@ use Rattle.base_model.specs.declared.wal.ArchiveId.{ArchiveId}
 use Rattle.base_model.specs.declared.wal.ArchiveName.{ArchiveName}
 use Rattle.base_model.specs.Names.{wal_text}
 use Rattle.base_model.specs.Text.{Text, In}
-use Rattle.archive_index.specs.Causes.{limit_of, StoresLong}
-use Rattle.archive_index.specs.Stored.{StoresTwo}
+use Rattle.archive_lookup.specs.Causes.{limit_of, StoresLong}
+use Rattle.archive_lookup.specs.Stored.{StoresTwo}
 use Rattle.base_disk.specs.declared.fault.StoreFault.{StoreFault}
 use Rattle.base_disk.specs.declared.fault.StoreFault.TheVariants.{Disk as StoreDisk, TooLong as StoreLong, NoMemory as StoreMemory}
-use Rattle.cmd_terms.specs.declared.stages.halt.Halt.{Halt}
-use Rattle.cmd_terms.specs.declared.stages.halt.Halt.TheVariants.{Refused, Failed, NoMemory}
-use Rattle.cmd_terms.specs.declared.stages.object.Object.TheVariants.{Spool}
-use Rattle.cmd_terms.specs.Risen.{Rose, none}
+use Rattle.cmd_types.specs.declared.stages.halt.Halt.{Halt}
+use Rattle.cmd_types.specs.declared.stages.halt.Halt.TheVariants.{Refused, Failed, NoMemory}
+use Rattle.cmd_types.specs.declared.stages.object.Object.TheVariants.{Spool}
+use Rattle.cmd_types.specs.Risen.{Rose, none}
 use Rattle.cmd_archive_push.specs.declared.fault.PushFault.{PushFault}
 use Rattle.cmd_archive_push.specs.declared.fault.PushFault.TheVariants.{SegmentName, PathOutside, StanzaMismatch, SegmentMissing, TooLong, HeaderForm, SegmentSize, HeaderMismatch, Ambiguous, Duplicate}
 use Rattle.cmd_archive_push.specs.WalPath.{wal_path}

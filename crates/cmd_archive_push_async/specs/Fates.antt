@@ -9,9 +9,9 @@ use Rattle.base_model.specs.Names.{receipt_name, wal_text}
 use Rattle.base_model.specs.Repository.{Archived, Stanza}
 use Rattle.base_model.specs.Steps.{Named}
 use Rattle.base_model.specs.Text.{Text, In}
-use Rattle.archive_index.specs.Causes.{HeaderCause, IsFileOf}
-use Rattle.archive_index.specs.declared.stored.fault.ArchiveFault.TheVariants.{HeaderForm as FormOf, SegmentSize as SizeOf, HeaderMismatch as MismatchOf}
-use Rattle.archive_index.specs.Turns.{refusal_name}
+use Rattle.archive_lookup.specs.Causes.{HeaderCause, IsFileOf}
+use Rattle.archive_lookup.specs.declared.stored.fault.ArchiveFault.TheVariants.{HeaderForm as FormOf, SegmentSize as SizeOf, HeaderMismatch as MismatchOf}
+use Rattle.archive_lookup.specs.Turns.{refusal_name}
 use Rattle.cmd_archive_push.specs.declared.fault.PushFault.{PushFault}
 use Rattle.cmd_archive_push.specs.declared.fault.PushFault.TheVariants.{SegmentName, PathOutside, StanzaMismatch, SegmentMissing, TooLong, HeaderForm, SegmentSize, HeaderMismatch, Ambiguous, Duplicate}
 use Rattle.cmd_archive_push.specs.Texts.{push_status, content_text}

@@ -16,9 +16,9 @@ use Rattle.base_model.specs.Represents.{IsWalName}
 use Rattle.base_model.specs.Steady.{IsSteady}
 use Rattle.base_model.specs.Steps.{Named, Turn, ArchivePushAsync, ArchivePushDrain}
 use Rattle.base_model.specs.Text.{Text}
-use Rattle.cmd_terms.specs.declared.stages.plan.SyncScope.TheVariants.{Whole}
-use Rattle.cmd_terms.specs.DisksEffect.{Reached, to_end, stopped, DisksEffect}
-use Rattle.archive_index.specs.Turns.{HadReceipt, IsStoredBy}
+use Rattle.cmd_types.specs.declared.stages.plan.SyncScope.TheVariants.{Whole}
+use Rattle.cmd_types.specs.DisksEffect.{Reached, to_end, stopped, DisksEffect}
+use Rattle.archive_lookup.specs.Turns.{HadReceipt, IsStoredBy}
 use Rattle.cmd_archive_push_async.specs.declared.files.push_marks.Drained.{Drained}
 use Rattle.cmd_archive_push_async.specs.Draining.{DrainsFrom}
 use Rattle.cmd_archive_push_async.specs.Fates.{kept_files}

@@ -6,7 +6,7 @@ use Rattle.base_model.specs.Names.{archive_info}
 use Rattle.base_model.specs.Text.{Text}
 use Rattle.base_model.specs.Walks.{IsSynced}
 use Rattle.repo_pair.specs.Member.{IsMember}
-use Rattle.cmd_terms.specs.Current.{AgreesAtPair}
+use Rattle.cmd_types.specs.Current.{AgreesAtPair}
 
 -- Where the pair's members have the same bytes they still do. Where no name that is looked at is unsynced none becomes
 -- so, and all that a crash leaves still has both members as the disk has them.

@@ -3,8 +3,8 @@ use Rattle.std.specs.Prelude.{◌≡◌, ◌⊎◌, List, [], ◌∷◌, Some, N
 use Rattle.sha1.specs.Sha1.{sha1}
 use Rattle.base_model.specs.Steps.{Named}
 use Rattle.base_model.specs.Text.{Text}
-use Rattle.cmd_terms.specs.declared.stages.halt.Halt.{Halt}
-use Rattle.cmd_terms.specs.declared.stages.halt.Halt.TheVariants.{Refused as IsRefused, Failed, NoMemory}
+use Rattle.cmd_types.specs.declared.stages.halt.Halt.{Halt}
+use Rattle.cmd_types.specs.declared.stages.halt.Halt.TheVariants.{Refused as IsRefused, Failed, NoMemory}
 use Rattle.cmd_archive_push.specs.declared.fault.PushFault.{PushFault}
 use Rattle.cmd_archive_push.specs.Texts.{push_status, content_text}
 use Rattle.cmd_archive_push_async.specs.declared.files.pushing.Tried.{Tried}

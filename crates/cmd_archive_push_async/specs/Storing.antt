@@ -13,7 +13,7 @@ use Rattle.base_model.specs.Represents.{Represents, stored_name}
 use Rattle.base_model.specs.Steps.{Step, One, Named, IsPartOf, after, after_all, stores_of}
 use Rattle.base_model.specs.Now.{NowRepresents}
 use Rattle.base_model.specs.Steady.{IsSteady, EachImage}
-use Rattle.archive_index.specs.Stored.{archive_path}
+use Rattle.archive_lookup.specs.Stored.{archive_path}
 
 -- the steps of the stores of files, one file after the other
 abbrev pub store_steps : Stanza → ArchiveId → List Named → List Step

@@ -15,9 +15,9 @@ use Rattle.base_model.specs.Represents.{IsWalName}
 use Rattle.base_model.specs.Steps.{Turn, Named}
 use Rattle.base_model.specs.Log.{Done, Keeps, KeepsSpool, Reaches, HasReceipt, IsDrained}
 use Rattle.sha1.specs.Sha1.{sha1}
-use Rattle.archive_index.specs.Stored.{ChangesArchive}
+use Rattle.archive_lookup.specs.Stored.{ChangesArchive}
 use Rattle.archive_store.specs.Still.{rests_none}
-use Rattle.archive_index.specs.Turns.{Turned, Account, GoesOnBy, HadReceipt}
+use Rattle.archive_lookup.specs.Turns.{Turned, Account, GoesOnBy, HadReceipt}
 use Rattle.archive_spool.specs.Marks.{GivesMarks}
 use Rattle.archive_spool.proofs.Receipts.{marks_receipts, marks_synced}
 use Rattle.archive_wait.specs.TurnsDone.{all_ended, turns_of, GoesByTurns, MarksByTurns, TurnsDone}

@@ -11,23 +11,23 @@ use Rattle.base_model.specs.declared.wal.ArchiveName.{ArchiveName}
 use Rattle.base_model.specs.Names.{wal_text}
 use Rattle.base_model.specs.Steps.{ArchivePushAsync}
 use Rattle.base_model.specs.Text.{Text}
-use Rattle.base_traces.specs.Beside.{StaysBeside}
-use Rattle.cmd_terms.specs.declared.stages.halt.Halt.{Halt}
-use Rattle.cmd_terms.specs.declared.stages.halt.Halt.TheVariants.{Refused, Failed, NoMemory}
-use Rattle.cmd_terms.specs.declared.stages.object.Object.TheVariants.{Repo, Spool, TheDataFolder, Server, Others, Clock, Locks, Config, Output}
-use Rattle.cmd_terms.specs.declared.stages.plan.SyncScope.TheVariants.{Looked}
-use Rattle.cmd_terms.specs.Halts.{HaltCause, Only}
-use Rattle.cmd_terms.specs.Reached.{back_if, reached_by}
-use Rattle.cmd_terms.specs.Risen.{none, rose_in}
-use Rattle.cmd_terms.specs.DisksEffect.{Reached, On, one, Takes, to_end}
-use Rattle.cmd_terms.proofs.Besides.{archive_beside}
-use Rattle.archive_index.specs.Causes.{limit_of}
+use Rattle.base_crash_lists.specs.Beside.{StaysBeside}
+use Rattle.cmd_types.specs.declared.stages.halt.Halt.{Halt}
+use Rattle.cmd_types.specs.declared.stages.halt.Halt.TheVariants.{Refused, Failed, NoMemory}
+use Rattle.cmd_types.specs.declared.stages.object.Object.TheVariants.{Repo, Spool, TheDataFolder, Server, Others, Clock, Locks, Config, Output}
+use Rattle.cmd_types.specs.declared.stages.plan.SyncScope.TheVariants.{Looked}
+use Rattle.cmd_types.specs.Halts.{HaltCause, Only}
+use Rattle.cmd_types.specs.Reached.{back_if, reached_by}
+use Rattle.cmd_types.specs.Risen.{none, rose_in}
+use Rattle.cmd_types.specs.DisksEffect.{Reached, On, one, Takes, to_end}
+use Rattle.cmd_types.proofs.Besides.{archive_beside}
+use Rattle.archive_lookup.specs.Causes.{limit_of}
 use Rattle.cmd_archive_push.specs.declared.fault.PushFault.{PushFault}
 use Rattle.cmd_archive_push.specs.declared.fault.PushFault.TheVariants as files
 use Rattle.cmd_archive_push.specs.LogFile.{known_file}
 use Rattle.cmd_archive_push.specs.WalCause.{FileCause}
 use Rattle.cmd_archive_push.specs.WalPath.{wal_path}
-use Rattle.archive_index.specs.Turns.{Account}
+use Rattle.archive_lookup.specs.Turns.{Account}
 use Rattle.archive_wait.specs.TurnsDone.{TurnsDone, turns_of}
 use Rattle.cmd_archive_push_wait.specs.declared.fault.QueueFault.{QueueFault}
 use Rattle.cmd_archive_push_wait.specs.Causes.{Call, QueueCause}

@@ -13,13 +13,13 @@ use Rattle.base_model.specs.declared.wal.ArchiveName.{ArchiveName}
 use Rattle.base_model.specs.Text.{Text}
 use Rattle.base_model.specs.Represents.{IsWalName}
 use Rattle.base_model.specs.Log.{HasReceipt}
-use Rattle.cmd_terms.specs.declared.stages.halt.Halt.{Halt}
-use Rattle.cmd_terms.specs.declared.stages.halt.Halt.TheVariants.{Refused, Failed, NoMemory}
-use Rattle.cmd_terms.specs.declared.stages.object.Object.{Object}
-use Rattle.cmd_terms.specs.declared.stages.object.Object.TheVariants.{Repo, Spool, TheDataFolder, Server, Others, Clock, Locks, Config, Output}
-use Rattle.cmd_terms.specs.Halts.{HaltCause, Never, Only, halt_of}
-use Rattle.cmd_terms.specs.Risen.{Rose, none, rose_in}
-use Rattle.archive_index.specs.Turns.{Turned, Account, ProcessesState}
+use Rattle.cmd_types.specs.declared.stages.halt.Halt.{Halt}
+use Rattle.cmd_types.specs.declared.stages.halt.Halt.TheVariants.{Refused, Failed, NoMemory}
+use Rattle.cmd_types.specs.declared.stages.object.Object.{Object}
+use Rattle.cmd_types.specs.declared.stages.object.Object.TheVariants.{Repo, Spool, TheDataFolder, Server, Others, Clock, Locks, Config, Output}
+use Rattle.cmd_types.specs.Halts.{HaltCause, Never, Only, halt_of}
+use Rattle.cmd_types.specs.Risen.{Rose, none, rose_in}
+use Rattle.archive_lookup.specs.Turns.{Turned, Account, ProcessesState}
 use Rattle.archive_spool.specs.declared.spool_query.Asked.{Asked}
 use Rattle.archive_spool.specs.declared.spool_query.Asked.TheVariants.{Done, NotYet as Nothing, Reported as Refusal}
 use Rattle.archive_spool.specs.Asking.{Answers, IsLong, IsMarkName}

@@ -18,15 +18,15 @@ use Rattle.base_model.specs.Text.{Text, ◌⫽◌}
 use Rattle.base_model.specs.Represents.{IsWalName}
 use Rattle.base_model.proofs.Below.{below_prefix}
 use Rattle.base_model.proofs.Pushed.{at_known}
-use Rattle.cmd_terms.specs.declared.stages.object.Object.TheVariants.{Spool}
-use Rattle.cmd_terms.specs.declared.stages.halt.Halt.{Halt}
-use Rattle.cmd_terms.specs.declared.stages.halt.Halt.TheVariants.{Refused, Failed, NoMemory}
-use Rattle.cmd_terms.specs.Halts.{HaltCause, Never, Only}
-use Rattle.archive_index.specs.Stored.{ChangesArchive}
-use Rattle.archive_index.proofs.Cuts.{lacks_append}
-use Rattle.archive_index.specs.Paths.{Lacks}
+use Rattle.cmd_types.specs.declared.stages.object.Object.TheVariants.{Spool}
+use Rattle.cmd_types.specs.declared.stages.halt.Halt.{Halt}
+use Rattle.cmd_types.specs.declared.stages.halt.Halt.TheVariants.{Refused, Failed, NoMemory}
+use Rattle.cmd_types.specs.Halts.{HaltCause, Never, Only}
+use Rattle.archive_lookup.specs.Stored.{ChangesArchive}
+use Rattle.archive_lookup.proofs.Cuts.{lacks_append}
+use Rattle.archive_lookup.specs.Paths.{Lacks}
 use Rattle.archive_store.proofs.PathLies.{lacks_not, wal_slash}
-use Rattle.archive_index.specs.Turns.{refusal_name}
+use Rattle.archive_lookup.specs.Turns.{refusal_name}
 use Rattle.archive_spool.specs.Asking.{IsLong, IsMarkName}
 use Rattle.archive_spool.specs.Marks.{GivesMarks}
 use Rattle.archive_spool.proofs.Marked.{receipt_refusal_apart}

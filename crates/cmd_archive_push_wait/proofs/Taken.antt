@@ -10,9 +10,9 @@ use Rattle.base_model.specs.Steps.{Step, Move, One, Any, Command, ArchivePushAsy
 use Rattle.base_model.specs.Log.{Done, IsDone, Keeps, KeepsRepository, KeepsSpool, Reaches, RepresentsAfter}
 use Rattle.base_model.specs.Now.{NowEffect}
 use Rattle.base_model.specs.Steady.{KeepsOn}
-use Rattle.cmd_terms.specs.declared.stages.plan.SyncScope.TheVariants.{Looked}
-use Rattle.cmd_terms.specs.DisksEffect.{Reached, to_end, turned_back, stopped, Leads, Passes, PassesReceipts, Takes}
-use Rattle.archive_index.specs.Turns.{Account}
+use Rattle.cmd_types.specs.declared.stages.plan.SyncScope.TheVariants.{Looked}
+use Rattle.cmd_types.specs.DisksEffect.{Reached, to_end, turned_back, stopped, Leads, Passes, PassesReceipts, Takes}
+use Rattle.archive_lookup.specs.Turns.{Account}
 use Rattle.archive_wait.specs.TurnsDone.{TurnsDone, all_ended, turns_of}
 
 -- ---- all of a command is a part of it

@@ -15,8 +15,8 @@ use Rattle.base_model.specs.Repository.{Repository}
 use Rattle.base_model.specs.Represents.{IsWalName}
 use Rattle.base_model.specs.Log.{Done as Entry, Keeps, Reaches, HasReceipt, IsDrained}
 use Rattle.base_model.proofs.Pushed.{in_either, at_known}
-use Rattle.archive_index.specs.Stored.{ChangesArchive}
-use Rattle.archive_index.specs.Turns.{Turned, Account, GoesOnBy, HadReceipt, IsStoredBy, refusal_name}
+use Rattle.archive_lookup.specs.Stored.{ChangesArchive}
+use Rattle.archive_lookup.specs.Turns.{Turned, Account, GoesOnBy, HadReceipt, IsStoredBy, refusal_name}
 use Rattle.archive_spool.specs.declared.spool_query.Asked.TheVariants.{Done, NotYet, Reported}
 use Rattle.archive_spool.specs.Asking.{Answers, IsLong, IsMarkName}
 use Rattle.archive_spool.specs.Marks.{GivesMarks, receipt_text, refusal_text}

@@ -4,7 +4,7 @@ use Rattle.base_devices.specs.Content.{Content}
 use Rattle.base_devices.specs.Moments.{View}
 use Rattle.base_model.specs.declared.wal.ArchiveName.{ArchiveName}
 use Rattle.base_model.specs.Text.{Text, In}
-use Rattle.archive_index.specs.Turns.{Turned, Account, ProcessesState}
+use Rattle.archive_lookup.specs.Turns.{Turned, Account, ProcessesState}
 use Rattle.archive_spool.specs.declared.spool_query.Asked.{Asked}
 use Rattle.archive_spool.specs.declared.spool_query.Asked.TheVariants.{NotYet as Nothing, Reported as Refusal}
 use Rattle.archive_spool.specs.Asking.{Answers, IsLong, IsMarkName}

@@ -1,11 +1,11 @@
 -- What the faults of steps of others and of marks are.
 use Rattle.base_disk.specs.declared.fault.StoreFault.{StoreFault}
 use Rattle.base_disk.specs.declared.fault.StoreFault.TheVariants as marks
-use Rattle.cmd_terms.specs.declared.stages.object.Object.TheVariants.{Repo, Spool}
-use Rattle.cmd_terms.specs.declared.stages.halt.Halt.{Halt}
-use Rattle.cmd_terms.specs.declared.stages.halt.Halt.TheVariants.{Refused, Failed, NoMemory}
-use Rattle.archive_index.specs.declared.pushes.processes.TurnError.{TurnError}
-use Rattle.archive_index.specs.declared.pushes.processes.TurnError.TheVariants as stops
+use Rattle.cmd_types.specs.declared.stages.object.Object.TheVariants.{Repo, Spool}
+use Rattle.cmd_types.specs.declared.stages.halt.Halt.{Halt}
+use Rattle.cmd_types.specs.declared.stages.halt.Halt.TheVariants.{Refused, Failed, NoMemory}
+use Rattle.archive_lookup.specs.declared.pushes.processes.TurnError.{TurnError}
+use Rattle.archive_lookup.specs.declared.pushes.processes.TurnError.TheVariants as stops
 use Rattle.cmd_archive_push_wait.specs.declared.fault.QueueFault.{QueueFault}
 use Rattle.cmd_archive_push.specs.declared.fault.PushFault.{PushFault}
 use Rattle.cmd_archive_push.specs.declared.fault.PushFault.TheVariants.{SegmentMissing as FileMissing, TooLong as FileLong}

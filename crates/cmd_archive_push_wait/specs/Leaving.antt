@@ -10,8 +10,8 @@ use Rattle.base_model.specs.Names.{archive_folder, receipt_name}
 use Rattle.base_model.specs.Repository.{Repository}
 use Rattle.base_model.specs.Steps.{Turn, ArchivePushAsync}
 use Rattle.base_model.specs.Log.{Done as Entry, Keeps, Reaches, HasReceipt, IsDrained}
-use Rattle.archive_index.specs.Stored.{ChangesArchive}
-use Rattle.archive_index.specs.Turns.{Turned, Account, GoesOn, OnTurn, GoesByTurn, GivesReceipts, IsStoredBy, LeavesMarks, refusal_name}
+use Rattle.archive_lookup.specs.Stored.{ChangesArchive}
+use Rattle.archive_lookup.specs.Turns.{Turned, Account, GoesOn, OnTurn, GoesByTurn, GivesReceipts, IsStoredBy, LeavesMarks, refusal_name}
 use Rattle.archive_spool.specs.declared.spool_query.Asked.{Asked}
 use Rattle.archive_spool.specs.declared.spool_query.Asked.TheVariants.{Done, NotYet, Reported}
 use Rattle.archive_spool.specs.Marks.{receipt_text, refusal_text}

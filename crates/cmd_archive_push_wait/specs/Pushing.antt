@@ -6,12 +6,12 @@ use Rattle.base_model.specs.declared.wal.ArchiveName.{ArchiveName}
 use Rattle.base_model.specs.Names.{wal_text}
 use Rattle.base_model.specs.Steps.{Command, ArchivePushAsync}
 use Rattle.base_model.specs.Text.{Text}
-use Rattle.archive_index.specs.Causes.{limit_of}
+use Rattle.archive_lookup.specs.Causes.{limit_of}
 use Rattle.cmd_archive_push.specs.declared.fault.PushFault.TheVariants.{SegmentMissing as FileMissing, TooLong as FileLong}
 use Rattle.cmd_archive_push.specs.LogFile.{known_file}
 use Rattle.cmd_archive_push.specs.WalCause.{FileCause}
 use Rattle.cmd_archive_push.specs.WalPath.{wal_path}
-use Rattle.archive_index.specs.Turns.{Turned, Account}
+use Rattle.archive_lookup.specs.Turns.{Turned, Account}
 use Rattle.archive_wait.specs.TurnsDone.{turns_of}
 use Rattle.cmd_archive_push_wait.specs.declared.fault.QueueFault.{QueueFault}
 use Rattle.cmd_archive_push_wait.specs.declared.fault.QueueFault.TheVariants.{SegmentMissing, TooLong}

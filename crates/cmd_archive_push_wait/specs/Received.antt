@@ -5,7 +5,7 @@ use Rattle.base_model.specs.declared.wal.ArchiveName.{ArchiveName}
 use Rattle.base_model.specs.Text.{Text, In}
 use Rattle.archive_spool.specs.declared.spool_query.Asked.TheVariants.{NotYet as Nothing, Reported as Refusal}
 use Rattle.archive_spool.specs.Asking.{Answers, IsLong, IsMarkName}
-use Rattle.archive_index.specs.Turns.{Turned, Account, ProcessesState}
+use Rattle.archive_lookup.specs.Turns.{Turned, Account, ProcessesState}
 use Rattle.archive_wait.specs.TurnsDone.{Counts}
 use Rattle.cmd_archive_push_wait.specs.declared.fault.QueueFault.{QueueFault}
 use Rattle.cmd_archive_push_wait.specs.declared.fault.QueueFault.TheVariants.{SegmentMissing, TooLong, Reported, NotYet}

@@ -1,7 +1,7 @@
 -- The status and the message of each refusal of archive-push in the background (own).
 use Rattle.std.specs.Prelude.{ℕ, ◌++◌, codes, decimal, string_bytes}
 use Rattle.base_model.specs.Text.{Text}
-use Rattle.cmd_terms.specs.StagesTexts.{shown, long_text}
+use Rattle.cmd_types.specs.StagesTexts.{shown, long_text}
 use Rattle.cmd_archive_push_wait.specs.declared.fault.QueueFault.{QueueFault}
 use Rattle.cmd_archive_push_wait.specs.declared.fault.QueueFault.TheVariants.{SegmentMissing, TooLong, Reported, NotYet}
 

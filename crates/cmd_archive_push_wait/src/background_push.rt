@@ -4,12 +4,12 @@ ghost use Rattle.sha1.specs.Sha1.{sha1};
 ghost use Rattle.base_devices.specs.Cause.{Rises};
 ghost use Rattle.base_devices.specs.States.{Frame, LooksAt};
 ghost use Rattle.base_model.specs.Names.{wal_text};
-ghost use Rattle.base_traces.specs.Beside.{StaysBeside};
-ghost use Rattle.cmd_terms.specs.declared.stages.plan.SyncScope.TheVariants.{Looked};
-ghost use Rattle.cmd_terms.specs.Halts.{HaltCause};
-ghost use Rattle.cmd_terms.specs.Reached.{OnFinished, reached_by};
-ghost use Rattle.cmd_terms.specs.Risen.{none, rose_in};
-ghost use Rattle.cmd_terms.specs.DisksEffect.{On, one, Takes};
+ghost use Rattle.base_crash_lists.specs.Beside.{StaysBeside};
+ghost use Rattle.cmd_types.specs.declared.stages.plan.SyncScope.TheVariants.{Looked};
+ghost use Rattle.cmd_types.specs.Halts.{HaltCause};
+ghost use Rattle.cmd_types.specs.Reached.{OnFinished, reached_by};
+ghost use Rattle.cmd_types.specs.Risen.{none, rose_in};
+ghost use Rattle.cmd_types.specs.DisksEffect.{On, one, Takes};
 ghost use Rattle.cmd_archive_push.specs.LogFile.{known_file};
 ghost use Rattle.cmd_archive_push.specs.WalPath.{wal_path};
 ghost use Rattle.archive_wait.specs.TurnsDone.{Counts};
@@ -20,10 +20,10 @@ ghost use Rattle.cmd_archive_push_wait.specs.Pushing.{IsWaitOf, QueuePushCause, 
 use crate::fault::QueueFault;
 use crate::log_file_sum::sum_file;
 use crate::queued_file::queue_file;
-use archive_index::OtherProcesses;
+use archive_lookup::OtherProcesses;
 use base_devices::{DataFolder, Disk};
 use cmd_archive_push::PushOrder;
-use cmd_terms::{Halt, Outcome};
+use cmd_types::{Halt, Outcome};
 use std::alloc::Global;
 
 /// Queues the file that the order names for a drain that is started with these arguments, and waits for it, for this

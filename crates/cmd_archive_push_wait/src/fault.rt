@@ -2,9 +2,9 @@
 ghost use Rattle.std.specs.Prelude.{◌≡◌};
 ghost use Rattle.cmd_archive_push_wait.specs.Faults.{halt_of_turn, halt_of_mark};
 
-use archive_index::TurnError;
+use archive_lookup::TurnError;
 use base_disk::StoreFault;
-use cmd_terms::{Halt, Object};
+use cmd_types::{Halt, Object};
 
 /// Why a file that is queued for other processes isn't acknowledged, in the order in which refusals come.
 #[derive(Debug, PartialEq, Eq, Drop)]

@@ -5,9 +5,9 @@ ghost use Rattle.base_devices.specs.Cause.{Rises};
 ghost use Rattle.base_devices.specs.States.{LooksAt};
 ghost use Rattle.base_text.specs.Sum.{IsSum};
 ghost use Rattle.base_model.specs.Names.{wal_text};
-ghost use Rattle.archive_index.specs.Causes.{limit_of};
-ghost use Rattle.cmd_terms.specs.declared.stages.object.Object.TheVariants.{TheDataFolder as TheFolder};
-ghost use Rattle.cmd_terms.specs.Halts.{HaltCause, Only};
+ghost use Rattle.archive_lookup.specs.Causes.{limit_of};
+ghost use Rattle.cmd_types.specs.declared.stages.object.Object.TheVariants.{TheDataFolder as TheFolder};
+ghost use Rattle.cmd_types.specs.Halts.{HaltCause, Only};
 ghost use Rattle.cmd_archive_push.specs.LogFile.{known_file};
 ghost use Rattle.cmd_archive_push.specs.WalPath.{wal_path};
 ghost use Rattle.cmd_archive_push_wait.specs.Faults.{halt_of_file};
@@ -18,7 +18,7 @@ use archive_store::sum_of;
 use base_devices::DataFolder;
 use base_text::Sum;
 use cmd_archive_push::{PushFault, PushOrder, limit_of, open_log_file};
-use cmd_terms::{Halt, Object, halted};
+use cmd_types::{Halt, Object, halted};
 use std::alloc::Global;
 
 // Which fault a halt of opening a file is: of its refusals only these two come.

@@ -6,9 +6,9 @@ ghost use Rattle.base_devices.specs.Content.{LiesDirectlyIn};
 ghost use Rattle.base_devices.specs.Moments.{SyncsFolders, is_unsynced};
 ghost use Rattle.base_devices.specs.States.{Frame, Looks};
 ghost use Rattle.base_model.specs.Names.{receipt_name};
-ghost use Rattle.cmd_terms.specs.declared.stages.object.Object.TheVariants.{Spool as TheSpool};
-ghost use Rattle.cmd_terms.specs.Halts.{HaltCause, Never, Only};
-ghost use Rattle.archive_index.specs.Stored.{ChangesArchive};
+ghost use Rattle.cmd_types.specs.declared.stages.object.Object.TheVariants.{Spool as TheSpool};
+ghost use Rattle.cmd_types.specs.Halts.{HaltCause, Never, Only};
+ghost use Rattle.archive_lookup.specs.Stored.{ChangesArchive};
 ghost use Rattle.archive_spool.specs.declared.spool_query.Asked.TheVariants.{NotYet as Nothing};
 ghost use Rattle.archive_spool.specs.Asking.{Answers};
 ghost use Rattle.archive_spool.specs.Marks.{GivesMarks};
@@ -20,7 +20,7 @@ use archive_spool::{Asked, ask};
 use base_devices::Disk;
 use base_model::ArchiveName;
 use base_text::Sum;
-use cmd_terms::{Halt, Object, halted};
+use cmd_types::{Halt, Object, halted};
 use std::alloc::Global;
 
 // Syncs the names of marks.

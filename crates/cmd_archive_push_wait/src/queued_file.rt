@@ -4,8 +4,8 @@ ghost use Rattle.base_text.specs.Sum.{IsSum};
 ghost use Rattle.base_devices.specs.Cause.{Rises};
 ghost use Rattle.base_devices.specs.States.{Frame};
 ghost use Rattle.base_model.specs.Log.{HasReceipt};
-ghost use Rattle.cmd_terms.specs.Halts.{HaltCause};
-ghost use Rattle.cmd_terms.specs.Risen.{none, rose_in};
+ghost use Rattle.cmd_types.specs.Halts.{HaltCause};
+ghost use Rattle.cmd_types.specs.Risen.{none, rose_in};
 ghost use Rattle.archive_wait.specs.TurnsDone.{Counts, TurnsDone};
 ghost use Rattle.cmd_archive_push_wait.specs.Causes.{IsStarted, QueueCause};
 ghost use Rattle.cmd_archive_push_wait.specs.Leaving.{IsAcknowledged};
@@ -13,12 +13,12 @@ ghost use Rattle.cmd_archive_push_wait.specs.Leaving.{IsAcknowledged};
 use crate::fault::QueueFault;
 use crate::mark_lookup::look;
 use crate::turn_wait::wait_turn;
-use archive_index::OtherProcesses;
+use archive_lookup::OtherProcesses;
 use archive_spool::Asked;
 use base_devices::Disk;
 use base_model::ArchiveName;
 use base_text::Sum;
-use cmd_terms::{Halt, Object, halted};
+use cmd_types::{Halt, Object, halted};
 use std::alloc::Global;
 
 /// Queues a file with this sum for a drain that is started with these arguments, where the spool says nothing of it,

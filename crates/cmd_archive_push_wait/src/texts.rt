@@ -1,11 +1,11 @@
 // The status and the message of each refusal.
 ghost use Rattle.std.specs.Prelude.{◌≡◌, ◌++◌, codes, decimal, IfOk};
-ghost use Rattle.cmd_terms.specs.StagesTexts.{shown};
+ghost use Rattle.cmd_types.specs.StagesTexts.{shown};
 ghost use Rattle.cmd_archive_push_wait.specs.Texts.{queue_status, queue_message};
 
 use crate::fault::QueueFault;
 use base_text::NoMemory;
-use cmd_terms::{long_text, quoted};
+use cmd_types::{long_text, quoted};
 use std::alloc::Global;
 
 /// The status of a refusal.

@@ -2,14 +2,14 @@
 ghost use Rattle.std.specs.Prelude.{◌≡◌, ◌≤◌, ◌+◌, ◌-◌, ◌^◌, min, is_ok, IfErr, OnOk, OnErr};
 ghost use Rattle.base_devices.specs.Cause.{Rises};
 ghost use Rattle.base_devices.specs.States.{Frame};
-ghost use Rattle.cmd_terms.specs.Halts.{HaltCause, Never};
-ghost use Rattle.cmd_terms.specs.Risen.{none, rose_in};
+ghost use Rattle.cmd_types.specs.Halts.{HaltCause, Never};
+ghost use Rattle.cmd_types.specs.Risen.{none, rose_in};
 ghost use Rattle.cmd_archive_push_wait.specs.Leaving.{HadTurn};
 
 use crate::fault::{QueueFault, of_turn};
-use archive_index::OtherProcesses;
+use archive_lookup::OtherProcesses;
 use base_devices::Disk;
-use cmd_terms::Halt;
+use cmd_types::Halt;
 
 /// Waits for one step of others.
 pub(crate) fn wait_turn<D: Disk, S: Disk, A: OtherProcesses<D, S>>(

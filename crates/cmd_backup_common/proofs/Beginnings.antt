@@ -17,11 +17,11 @@ use Rattle.backup_plan.specs.Views.{seen_of}
 use Rattle.repo_stanza.specs.declared.control.Control.{Control}
 use Rattle.repo_stanza.specs.declared.fault.StanzaFault.{StanzaFault}
 use Rattle.repo_stanza.specs.Judging.{Validates, As, Without, Unfit, Differing, Other}
-use Rattle.cmd_terms.specs.declared.stages.object.Object.{Object}
-use Rattle.cmd_terms.specs.declared.stages.object.Object.TheVariants.{TheDataFolder}
-use Rattle.cmd_terms.specs.declared.stages.halt.Halt.{Halt}
-use Rattle.cmd_terms.specs.declared.stages.halt.Halt.TheVariants.{Refused, Failed, NoMemory}
-use Rattle.cmd_terms.specs.Halts.{HaltCause, Only, halt_of}
+use Rattle.cmd_types.specs.declared.stages.object.Object.{Object}
+use Rattle.cmd_types.specs.declared.stages.object.Object.TheVariants.{TheDataFolder}
+use Rattle.cmd_types.specs.declared.stages.halt.Halt.{Halt}
+use Rattle.cmd_types.specs.declared.stages.halt.Halt.TheVariants.{Refused, Failed, NoMemory}
+use Rattle.cmd_types.specs.Halts.{HaltCause, Only, halt_of}
 use Rattle.cmd_backup_common.specs.declared.parts.fault.BackupFault.{BackupFault}
 use Rattle.cmd_backup_common.specs.PartsFaults.{of_stanza}
 use Rattle.cmd_backup_common.specs.Beginning.{server_path, IsStopped, FitCause, RunningCause}

@@ -14,14 +14,14 @@ use Rattle.worker_pool.specs.declared.dispatch.fault.Lost.{Lost}
 use Rattle.worker_pool.specs.Run.{Left}
 use Rattle.backup_plan.specs.Filter.{ListedNode}
 use Rattle.backup_record.specs.Faults.{IsMissing}
-use Rattle.cmd_terms.specs.Current.{HasValue}
+use Rattle.cmd_types.specs.Current.{HasValue}
 use Rattle.backup_make.specs.declared.draft.Draft.{Draft}
 use Rattle.backup_make.specs.Draft.{jobs_in, files_with}
 use Rattle.backup_make.specs.Faults.{IsManifestTooLong, IsListTooLong}
-use Rattle.cmd_terms.specs.declared.stages.object.Object.{Object}
-use Rattle.cmd_terms.specs.declared.stages.object.Object.TheVariants as objects
-use Rattle.cmd_terms.specs.Risen.{none, rose_in}
-use Rattle.cmd_stages.specs.Readies.{IsArchiveOf, IsBackupOf}
+use Rattle.cmd_types.specs.declared.stages.object.Object.{Object}
+use Rattle.cmd_types.specs.declared.stages.object.Object.TheVariants as objects
+use Rattle.cmd_types.specs.Risen.{none, rose_in}
+use Rattle.cmd_setup.specs.Readies.{IsArchiveOf, IsBackupOf}
 use Rattle.cmd_backup_common.specs.declared.parts.fault.BackupFault.{BackupFault}
 use Rattle.cmd_backup_common.specs.declared.parts.fault.BackupFault.TheVariants as faults
 use Rattle.cmd_backup_common.specs.Causes.{Before, CauseBy}

@@ -25,7 +25,7 @@ use Rattle.worker_pool.specs.Payloads.{AllRead}
 use Rattle.worker_pool.specs.Run.{EndedBy, AllDone, IsLoss, IsReady, Left, AllLost, begun, somes}
 use Rattle.worker_pool.proofs.Going.{some_of, is_some_at, get_some}
 use Rattle.worker_pool.proofs.Reading.{all_at}
-use Rattle.backup_files.specs.declared.keeper.EndedItem.{EndedItem}
+use Rattle.backup_sink.specs.declared.keeper.EndedItem.{EndedItem}
 use Rattle.backup_make.specs.declared.draft.Draft.{Draft}
 use Rattle.backup_make.specs.Draft.{jobs_in}
 use Rattle.backup_make.specs.Faults.{WhereDone}

@@ -16,13 +16,13 @@ use Rattle.backup_make.specs.declared.fault.MakeFault.{MakeFault}
 use Rattle.backup_make.specs.Draft.{stanza_of, jobs_in, files_with}
 use Rattle.backup_make.specs.Faults.{MakeFails, IsUnread}
 use Rattle.backup_make.specs.Made.{MayBeListed}
-use Rattle.cmd_terms.specs.declared.stages.object.Object.{Object}
-use Rattle.cmd_terms.specs.declared.stages.halt.Halt.{Halt}
-use Rattle.cmd_terms.specs.declared.stages.outcome.Outcome.{Outcome}
-use Rattle.cmd_terms.specs.Halts.{HaltCause}
-use Rattle.cmd_terms.specs.Reached.{reached_by}
-use Rattle.cmd_terms.specs.Risen.{none, rose_in}
-use Rattle.cmd_terms.specs.DisksEffect.{to_end, turned_back, stopped}
+use Rattle.cmd_types.specs.declared.stages.object.Object.{Object}
+use Rattle.cmd_types.specs.declared.stages.halt.Halt.{Halt}
+use Rattle.cmd_types.specs.declared.stages.outcome.Outcome.{Outcome}
+use Rattle.cmd_types.specs.Halts.{HaltCause}
+use Rattle.cmd_types.specs.Reached.{reached_by}
+use Rattle.cmd_types.specs.Risen.{none, rose_in}
+use Rattle.cmd_types.specs.DisksEffect.{to_end, turned_back, stopped}
 use Rattle.cmd_backup_common.specs.declared.parts.fault.BackupFault.{BackupFault}
 use Rattle.cmd_backup_common.specs.Drafting.{ListingCause}
 use Rattle.cmd_backup_common.specs.PartsFaults.{backup_early, of_plan, IsHaltOf, NoneLeft, NotRead, Vanished, LongManifest, LongList, NoClock, NoDisk, Starved}

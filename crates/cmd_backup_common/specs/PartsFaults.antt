@@ -15,9 +15,9 @@ use Rattle.cmd_backup_common.specs.declared.drafts.fault.SecondFault.{SecondFaul
 use Rattle.cmd_backup_common.specs.declared.drafts.fault.SecondFault.TheVariants as seconds
 use Rattle.backup_make.specs.declared.fault.MakeFault.{MakeFault}
 use Rattle.backup_make.specs.declared.fault.MakeFault.TheVariants as makes
-use Rattle.cmd_terms.specs.declared.stages.object.Object.TheVariants.{Repo as TheRepo, Clock as TheClock}
-use Rattle.cmd_terms.specs.declared.stages.halt.Halt.{Halt}
-use Rattle.cmd_terms.specs.declared.stages.halt.Halt.TheVariants.{Refused, Failed, NoMemory}
+use Rattle.cmd_types.specs.declared.stages.object.Object.TheVariants.{Repo as TheRepo, Clock as TheClock}
+use Rattle.cmd_types.specs.declared.stages.halt.Halt.{Halt}
+use Rattle.cmd_types.specs.declared.stages.halt.Halt.TheVariants.{Refused, Failed, NoMemory}
 use Rattle.cmd_backup_common.specs.declared.parts.fault.BackupFault.{BackupFault}
 use Rattle.cmd_backup_common.specs.declared.parts.fault.BackupFault.TheVariants.{HistoryDiffers, StanzaMismatch, TooMany, WorkersLost, ClockBehind, LinkFound, NameRefused, ListingUnordered, ControlMissing, Unread, TooLong}
 

@@ -17,14 +17,14 @@ use Rattle.base_model.specs.Names.{backup_info, manifest_name}
 use Rattle.base_model.specs.Pair.{PairIs}
 use Rattle.base_model.specs.Text.{Text, In}
 use Rattle.base_model.specs.Values.{BackupInfo, Entry, FileEntry, Manifest}
-use Rattle.backup_files.proofs.Ways.{Law}
+use Rattle.backup_sink.proofs.Ways.{Law}
 use Rattle.backup_plan.specs.declared.values.Listing.{Listing}
 use Rattle.backup_plan.specs.Filter.{ListedNode, Takes}
 use Rattle.backup_plan.specs.Views.{taken_of}
 use Rattle.backup_record.proofs.Following.{label_of}
 use Rattle.backup_record.proofs.Made.{in_map}
 use Rattle.repo_stanza.specs.Judging.{Validates}
-use Rattle.cmd_terms.specs.Current.{HasValue}
+use Rattle.cmd_types.specs.Current.{HasValue}
 use Rattle.backup_make.specs.declared.draft.Draft.{Draft}
 use Rattle.backup_make.specs.Draft.{old_in, IsDraft}
 use Rattle.cmd_backup_common.specs.Priors.{latest_full, may_base as may_be_based, last_of, prior_for}

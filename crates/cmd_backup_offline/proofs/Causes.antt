@@ -17,17 +17,17 @@ use Rattle.worker_pool.specs.declared.dispatch.fault.Lost.{Lost}
 use Rattle.worker_pool.specs.Run.{Left}
 use Rattle.worker_pool.proofs.Links.{left_is}
 use Rattle.backup_plan.specs.Filter.{ListedNode, kept, files_of, Takes}
-use Rattle.cmd_terms.specs.Current.{HasValue}
+use Rattle.cmd_types.specs.Current.{HasValue}
 use Rattle.repo_stanza.specs.Causes.{HistoriesDiffer, HasOther}
 use Rattle.repo_stanza.specs.Judging.{Validates}
 use Rattle.backup_make.specs.declared.draft.Draft.{Draft}
 use Rattle.backup_make.specs.Draft.{taken_in, folders_in}
-use Rattle.cmd_terms.specs.declared.stages.object.Object.{Object}
-use Rattle.cmd_terms.specs.declared.stages.object.Object.TheVariants as objects
-use Rattle.cmd_terms.specs.declared.stages.halt.Halt.{Halt}
-use Rattle.cmd_terms.specs.declared.stages.halt.Halt.TheVariants.{Refused, Failed, NoMemory}
-use Rattle.cmd_terms.specs.Halts.{HaltCause, Only}
-use Rattle.cmd_stages.specs.Readies.{IsArchiveOf, IsBackupOf}
+use Rattle.cmd_types.specs.declared.stages.object.Object.{Object}
+use Rattle.cmd_types.specs.declared.stages.object.Object.TheVariants as objects
+use Rattle.cmd_types.specs.declared.stages.halt.Halt.{Halt}
+use Rattle.cmd_types.specs.declared.stages.halt.Halt.TheVariants.{Refused, Failed, NoMemory}
+use Rattle.cmd_types.specs.Halts.{HaltCause, Only}
+use Rattle.cmd_setup.specs.Readies.{IsArchiveOf, IsBackupOf}
 use Rattle.cmd_backup_common.specs.declared.parts.fault.BackupFault.{BackupFault}
 use Rattle.cmd_backup_common.specs.declared.parts.fault.BackupFault.TheVariants as takes
 use Rattle.cmd_backup_common.specs.Beginning.{BeginCause}

@@ -18,9 +18,9 @@ use Rattle.base_model.specs.Repository.{Backup}
 use Rattle.base_model.specs.Steps.{Command}
 use Rattle.base_model.specs.Text.{Text, In}
 use Rattle.base_model.specs.Values.{BackupInfo, FileEntry, Manifest, archive_info_of, backup_info_of}
-use Rattle.repo_unique.proofs.Lists.{one_list}
-use Rattle.repo_unique.proofs.Manifests.{one_manifest}
-use Rattle.backup_files.proofs.Ways.{Law}
+use Rattle.repo_text_lemmas.proofs.Lists.{one_list}
+use Rattle.repo_text_lemmas.proofs.Manifests.{one_manifest}
+use Rattle.backup_sink.proofs.Ways.{Law}
 use Rattle.backup_plan.specs.Filter.{ListedNode, kept, files_of}
 use Rattle.repo_stanza.specs.declared.control.Control.{Control}
 use Rattle.repo_stanza.specs.Judging.{Validates, IsOf}
@@ -30,16 +30,16 @@ use Rattle.backup_make.specs.declared.fault.MakeFault.{MakeFault}
 use Rattle.backup_make.specs.Draft.{stanza_of, main_of, IsDraft, pair_of, taken_in, old_in, files_with, went_with}
 use Rattle.backup_make.specs.Made.{Outcome as Makes, MakesOf}
 use Rattle.archive_store.specs.Still.{IsStill}
-use Rattle.cmd_terms.specs.declared.stages.halt.Halt.{Halt}
-use Rattle.cmd_terms.specs.declared.stages.halt.Halt.TheVariants.{Refused, Failed, NoMemory}
-use Rattle.cmd_terms.specs.declared.stages.outcome.Outcome.{Outcome}
-use Rattle.cmd_terms.specs.declared.stages.outcome.Outcome.TheVariants.{Finished, Absent, FindingsFound}
-use Rattle.cmd_terms.specs.declared.stages.plan.SyncScope.TheVariants.{Whole}
-use Rattle.cmd_terms.specs.Current.{HasValue}
-use Rattle.cmd_terms.specs.Reached.{OnFinished, reached_by, back_if, fails_early}
-use Rattle.cmd_terms.specs.DisksEffect.{Reached, to_end, turned_back, stopped, RepoEffect, On, one}
-use Rattle.cmd_terms.proofs.After.{does_after}
-use Rattle.cmd_stages.specs.Readies.{IsArchiveOf, IsBackupOf}
+use Rattle.cmd_types.specs.declared.stages.halt.Halt.{Halt}
+use Rattle.cmd_types.specs.declared.stages.halt.Halt.TheVariants.{Refused, Failed, NoMemory}
+use Rattle.cmd_types.specs.declared.stages.outcome.Outcome.{Outcome}
+use Rattle.cmd_types.specs.declared.stages.outcome.Outcome.TheVariants.{Finished, Absent, FindingsFound}
+use Rattle.cmd_types.specs.declared.stages.plan.SyncScope.TheVariants.{Whole}
+use Rattle.cmd_types.specs.Current.{HasValue}
+use Rattle.cmd_types.specs.Reached.{OnFinished, reached_by, back_if, fails_early}
+use Rattle.cmd_types.specs.DisksEffect.{Reached, to_end, turned_back, stopped, RepoEffect, On, one}
+use Rattle.cmd_types.proofs.After.{does_after}
+use Rattle.cmd_setup.specs.Readies.{IsArchiveOf, IsBackupOf}
 use Rattle.backup_lemmas.specs.Backups.{IsOfLink, IsLeftOf, IsReadOrLeft, IsFullBackup, IsAnyBackup, AddsBackup, bytes_in, IsOfFolder}
 use Rattle.backup_lemmas.proofs.Added.{IsMade as IsAdded, is_made}
 use Rattle.backup_lemmas.proofs.Begun.{BeginsFull, BeginsBackup}

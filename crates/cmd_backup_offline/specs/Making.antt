@@ -18,7 +18,7 @@ use Rattle.worker_pool.specs.Payloads.{AllRead}
 use Rattle.worker_pool.specs.Left.{IsLeft}
 use Rattle.backup_plan.specs.Filter.{ListedNode, kept, files_of}
 use Rattle.backup_record.specs.Making.{labels_of}
-use Rattle.cmd_terms.specs.Current.{HasValue}
+use Rattle.cmd_types.specs.Current.{HasValue}
 use Rattle.repo_stanza.specs.Judging.{Validates}
 use Rattle.repo_stanza.specs.Pairs.{AgreeAt}
 use Rattle.backup_make.specs.declared.draft.Draft.{Draft}

@@ -4,7 +4,7 @@ use Rattle.base_model.specs.declared.labels.BackupKind.{BackupKind}
 use Rattle.base_model.specs.declared.labels.Label.{Label}
 use Rattle.base_model.specs.Text.{Text}
 use Rattle.base_model.specs.Values.{Entry}
-use Rattle.cmd_terms.specs.StagesTexts.{shown, damage_text}
+use Rattle.cmd_types.specs.StagesTexts.{shown, damage_text}
 use Rattle.cmd_backup_common.specs.Priors.{kind_line}
 use Rattle.cmd_backup_common.specs.Texts.{label_line, backup_status, backup_message}
 use Rattle.cmd_backup_offline.specs.declared.fault.OfflineFault.{OfflineFault}

@@ -4,15 +4,15 @@ ghost use Rattle.base_devices.specs.Cause.{Rises};
 ghost use Rattle.base_devices.specs.States.{Looks};
 ghost use Rattle.base_model.specs.InfoFiles.{IsBackupInfo, IsLabel};
 ghost use Rattle.base_model.specs.Values.{backup_info_of, manifest_of};
-ghost use Rattle.cmd_terms.specs.declared.stages.object.Object.TheVariants.{Repo as TheRepo};
-ghost use Rattle.cmd_terms.specs.Halts.{HaltCause, Only};
+ghost use Rattle.cmd_types.specs.declared.stages.object.Object.TheVariants.{Repo as TheRepo};
+ghost use Rattle.cmd_types.specs.Halts.{HaltCause, Only};
 ghost use Rattle.cmd_backup_offline.specs.Basing.{base_label, ReadsBase, BaseCause};
 
 use crate::fault::{OfflineFault, of_pair};
 use base_devices::Disk;
 use base_model::{BackupInfo, BackupKind, Label, Manifest};
 use cmd_backup_common::{current_cluster, prior_of};
-use cmd_terms::Halt;
+use cmd_types::Halt;
 use repo_manifest::load_manifest;
 use std::alloc::Global;
 

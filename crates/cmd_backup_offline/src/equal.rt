@@ -9,14 +9,14 @@ ghost use Rattle.worker_pool.specs.Left.{IsLeft};
 ghost use Rattle.backup_plan.specs.Digests.{digest_jobs};
 ghost use Rattle.backup_plan.specs.Filter.{IsListing, paths_of, most_files};
 ghost use Rattle.backup_plan.specs.Views.{taken_of};
-ghost use Rattle.cmd_terms.specs.Halts.{HaltCause};
+ghost use Rattle.cmd_types.specs.Halts.{HaltCause};
 ghost use Rattle.cmd_backup_offline.specs.Equal.{begins_with, first_equal, next_mark, marks_of, AreMarked, EqualCause};
 
 use backup_plan::{Listing, Taken, digests, find_entry};
 use base_devices::{Link, Scheduler};
 use base_model::FileEntry;
 use cmd_backup_common::{BackupFault, count_of, none_equal};
-use cmd_terms::Halt;
+use cmd_types::Halt;
 use std::alloc::{AllocError, Global};
 use worker_pool::{DispatchFault, Lost, is_equal, run_digests};
 use worker_protocol::{ItemEnd, Job};

@@ -1,12 +1,12 @@
 // Why a backup of any kind is refused.
 ghost use Rattle.std.specs.Prelude.{◌≡◌};
 ghost use Rattle.base_model.specs.InfoFiles.{IsLabel};
-ghost use Rattle.cmd_terms.specs.Halts.{HaltCause};
+ghost use Rattle.cmd_types.specs.Halts.{HaltCause};
 ghost use Rattle.cmd_backup_offline.specs.Faults.{of_backup, ShowsDamage, ShowsPair, FailsPair};
 
 use base_model::Label;
 use cmd_backup_common::BackupFault;
-use cmd_terms::{Halt, Object};
+use cmd_types::{Halt, Object};
 use repo_info::MemberFault;
 use repo_names::label_text;
 use repo_pair::InfoFault;

@@ -10,8 +10,8 @@ ghost use Rattle.backup_plan.specs.Filter.{IsListing, HasFile, most_files};
 ghost use Rattle.backup_plan.specs.Listed.{control_path};
 ghost use Rattle.backup_plan.specs.Views.{seen_of, taken_of};
 ghost use Rattle.backup_make.specs.Draft.{IsDraft};
-ghost use Rattle.cmd_terms.specs.Halts.{HaltCause};
-ghost use Rattle.cmd_terms.specs.Risen.{none, rose_in};
+ghost use Rattle.cmd_types.specs.Halts.{HaltCause};
+ghost use Rattle.cmd_types.specs.Risen.{none, rose_in};
 ghost use Rattle.cmd_backup_common.specs.Seconds.{IsNext};
 ghost use Rattle.cmd_backup_offline.specs.Basing.{base_in};
 ghost use Rattle.cmd_backup_offline.specs.Drafting.{MayBase, IsOfflineBy, IsOfflineWith, IsDraftedBy, StopCause};
@@ -28,7 +28,7 @@ use base_text::NoMemory;
 use cmd_backup_common::{
     BackupFault, DraftOrder, current_cluster, draft_ordered, next_second, of_plan, of_second,
 };
-use cmd_terms::Halt;
+use cmd_types::Halt;
 use std::alloc::Global;
 use worker_pool::Lost;
 

@@ -5,7 +5,7 @@ ghost use Rattle.cmd_backup_offline.specs.Texts.{offline_status, offline_message
 use crate::fault::OfflineFault;
 use base_text::NoMemory;
 use cmd_backup_common::{backup_message, backup_status};
-use cmd_terms::{damage_text, quoted};
+use cmd_types::{damage_text, quoted};
 use std::alloc::Global;
 
 /// The status of a refusal.

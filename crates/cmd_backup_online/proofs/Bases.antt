@@ -19,9 +19,9 @@ use Rattle.base_model.specs.Values.{BackupInfo, Entry, FileEntry, Manifest}
 use Rattle.base_model.proofs.Frame.{pair_same}
 use Rattle.base_model.proofs.Temporary.{fixed_lasts}
 use Rattle.repo_ini.proofs.Orders.{not_itself}
-use Rattle.base_traces.specs.Beside.{StaysBeside}
-use Rattle.archive_index.specs.Stored.{ChangesArchive}
-use Rattle.backup_files.proofs.Ways.{Law}
+use Rattle.base_crash_lists.specs.Beside.{StaysBeside}
+use Rattle.archive_lookup.specs.Stored.{ChangesArchive}
+use Rattle.backup_sink.proofs.Ways.{Law}
 use Rattle.backup_record.proofs.Made.{in_map}
 use Rattle.backup_make.specs.declared.draft.Draft.{Draft}
 use Rattle.backup_make.specs.Draft.{stanza_of, folder_of, pair_of, is_own_of, list_in, IsDraft}

@@ -3,14 +3,14 @@ use Rattle.std.proofs.Common.{◌≡◌, Bool, Option, ◌∙◌, ap, subst}
 use Rattle.std.specs.Prelude.{IfSome}
 use Rattle.base_devices.specs.Moments.{View, Unchanged}
 use Rattle.base_model.specs.Text.{Text}
-use Rattle.base_traces.specs.Beside.{StaysBeside}
-use Rattle.base_traces.proofs.Stays.{rests_beside, beside_on}
-use Rattle.archive_index.specs.Stored.{ChangesArchive}
+use Rattle.base_crash_lists.specs.Beside.{StaysBeside}
+use Rattle.base_crash_lists.proofs.Stays.{rests_beside, beside_on}
+use Rattle.archive_lookup.specs.Stored.{ChangesArchive}
 use Rattle.backup_make.specs.declared.draft.Draft.{Draft}
 use Rattle.backup_make.specs.Draft.{stanza_of}
-use Rattle.archive_index.specs.Turns.{Account}
+use Rattle.archive_lookup.specs.Turns.{Account}
 use Rattle.archive_wait.specs.TurnsDone.{TurnsDone}
-use Rattle.cmd_terms.proofs.Besides.{archive_beside}
+use Rattle.cmd_types.proofs.Besides.{archive_beside}
 use Rattle.cmd_backup_online.proofs.Doings.{with_account}
 
 -- the draft was staged while the server was in its backup

@@ -16,12 +16,12 @@ use Rattle.base_model.specs.Names.{backup_info}
 use Rattle.base_model.specs.Pair.{PairIs}
 use Rattle.base_model.specs.Repository.{id_of}
 use Rattle.base_model.specs.Values.{BackupInfo, FileEntry, archive_info_of, backup_info_of}
-use Rattle.backup_files.specs.declared.keeper.EndedItem.{EndedItem}
+use Rattle.backup_sink.specs.declared.keeper.EndedItem.{EndedItem}
 use Rattle.worker_pool.specs.declared.dispatch.fault.Lost.{Lost}
 use Rattle.worker_pool.specs.Run.{Left}
 use Rattle.worker_pool.specs.Left.{IsLeft}
 use Rattle.backup_plan.specs.Filter.{ListedNode, kept, files_of, Takes}
-use Rattle.cmd_terms.specs.Current.{HasValue}
+use Rattle.cmd_types.specs.Current.{HasValue}
 use Rattle.repo_stanza.specs.Causes.{HistoriesDiffer, HasOther}
 use Rattle.repo_stanza.specs.Judging.{Validates}
 use Rattle.backup_make.specs.declared.draft.Draft.{Draft}
@@ -29,13 +29,13 @@ use Rattle.backup_make.specs.Draft.{taken_in, folders_in, jobs_in, list_in}
 use Rattle.backup_make.specs.Faults.{WhereDone}
 use Rattle.backup_make.specs.Online.{Online}
 use Rattle.backup_make.specs.Staged.{IsStaged}
-use Rattle.cmd_terms.specs.declared.stages.object.Object.{Object}
-use Rattle.cmd_terms.specs.declared.stages.object.Object.TheVariants as objects
-use Rattle.cmd_terms.specs.declared.stages.halt.Halt.{Halt}
-use Rattle.cmd_terms.specs.declared.stages.halt.Halt.TheVariants.{Refused, Failed, NoMemory}
-use Rattle.cmd_terms.specs.Halts.{HaltCause}
-use Rattle.cmd_terms.specs.Risen.{none, rose_in}
-use Rattle.cmd_stages.specs.Readies.{IsArchiveOf, IsBackupOf}
+use Rattle.cmd_types.specs.declared.stages.object.Object.{Object}
+use Rattle.cmd_types.specs.declared.stages.object.Object.TheVariants as objects
+use Rattle.cmd_types.specs.declared.stages.halt.Halt.{Halt}
+use Rattle.cmd_types.specs.declared.stages.halt.Halt.TheVariants.{Refused, Failed, NoMemory}
+use Rattle.cmd_types.specs.Halts.{HaltCause}
+use Rattle.cmd_types.specs.Risen.{none, rose_in}
+use Rattle.cmd_setup.specs.Readies.{IsArchiveOf, IsBackupOf}
 use Rattle.cmd_backup_common.specs.declared.parts.fault.BackupFault.{BackupFault}
 use Rattle.cmd_backup_common.specs.declared.parts.fault.BackupFault.TheVariants as takes
 use Rattle.cmd_backup_common.specs.Causes.{SettlesTo, IsFull}

@@ -14,8 +14,8 @@ use Rattle.base_model.specs.Repository.{Backup, id_of}
 use Rattle.base_model.specs.Steps.{Command, MakeBackup, Turn}
 use Rattle.base_model.specs.Text.{Text}
 use Rattle.base_model.specs.Values.{BackupInfo, FileEntry}
-use Rattle.repo_unique.proofs.Lists.{one_list}
-use Rattle.repo_unique.proofs.Manifests.{one_manifest}
+use Rattle.repo_text_lemmas.proofs.Lists.{one_list}
+use Rattle.repo_text_lemmas.proofs.Manifests.{one_manifest}
 use Rattle.backup_make.specs.declared.draft.Draft.{Draft}
 use Rattle.backup_make.specs.declared.fault.MakeFault.{MakeFault}
 use Rattle.backup_make.specs.Draft.{stanza_of, IsFree}
@@ -23,20 +23,20 @@ use Rattle.backup_make.specs.Made.{LeavesList, OutcomeOf}
 use Rattle.backup_make.specs.Online.{Online}
 use Rattle.backup_make.specs.Staged.{IsStaged}
 use Rattle.backup_make.proofs.Stages.{staged_still}
-use Rattle.backup_files.specs.declared.keeper.EndedItem.{EndedItem}
-use Rattle.backup_files.proofs.Ways.{Law}
-use Rattle.archive_index.specs.Stored.{ChangesArchive}
-use Rattle.archive_index.specs.Turns.{Account}
+use Rattle.backup_sink.specs.declared.keeper.EndedItem.{EndedItem}
+use Rattle.backup_sink.proofs.Ways.{Law}
+use Rattle.archive_lookup.specs.Stored.{ChangesArchive}
+use Rattle.archive_lookup.specs.Turns.{Account}
 use Rattle.archive_wait.specs.Stored.{HoldsPart}
 use Rattle.archive_wait.specs.TurnsDone.{TurnsDone, turns_of, all_ended}
-use Rattle.cmd_terms.specs.declared.stages.halt.Halt.{Halt}
-use Rattle.cmd_terms.specs.declared.stages.halt.Halt.TheVariants.{Refused, Failed, NoMemory}
-use Rattle.cmd_terms.specs.declared.stages.outcome.Outcome.{Outcome}
-use Rattle.cmd_terms.specs.declared.stages.outcome.Outcome.TheVariants.{Finished, Absent, FindingsFound}
-use Rattle.cmd_terms.specs.declared.stages.plan.SyncScope.TheVariants.{Whole}
-use Rattle.cmd_terms.specs.Reached.{reached_by, back_if, fails_early}
-use Rattle.cmd_terms.specs.DisksEffect.{Reached, to_end, turned_back, stopped, RepoEffect}
-use Rattle.cmd_terms.proofs.Doing.{rests_does}
+use Rattle.cmd_types.specs.declared.stages.halt.Halt.{Halt}
+use Rattle.cmd_types.specs.declared.stages.halt.Halt.TheVariants.{Refused, Failed, NoMemory}
+use Rattle.cmd_types.specs.declared.stages.outcome.Outcome.{Outcome}
+use Rattle.cmd_types.specs.declared.stages.outcome.Outcome.TheVariants.{Finished, Absent, FindingsFound}
+use Rattle.cmd_types.specs.declared.stages.plan.SyncScope.TheVariants.{Whole}
+use Rattle.cmd_types.specs.Reached.{reached_by, back_if, fails_early}
+use Rattle.cmd_types.specs.DisksEffect.{Reached, to_end, turned_back, stopped, RepoEffect}
+use Rattle.cmd_types.proofs.Doing.{rests_does}
 use Rattle.backup_lemmas.specs.Backups.{IsOfLink, IsLeftOf, IsReadOrLeftBeside, IsOnlineBackup, IsAnyOnlineBackup, Waits, HasPart}
 use Rattle.backup_lemmas.proofs.Based.{BasedOn}
 use Rattle.backup_lemmas.proofs.Begun.{BeginsBackup}
@@ -47,7 +47,7 @@ use Rattle.cmd_backup_common.specs.PartsFaults.{backup_early}
 use Rattle.cmd_backup_common.specs.Making.{IsEndWith}
 use Rattle.cmd_backup_common.proofs.Links.{Comes, link_by_used}
 use Rattle.cmd_backup_common.proofs.Makings.{end_ok, end_early}
-use Rattle.cmd_terms.proofs.After.{does_after}
+use Rattle.cmd_types.proofs.After.{does_after}
 use Rattle.cmd_backup_offline.specs.declared.order.OfflineOrder.{OfflineOrder}
 use Rattle.cmd_backup_offline.specs.Making.{BeginsFrom}
 use Rattle.cmd_backup_online.specs.declared.fault.OnlineBackupFault.{OnlineBackupFault}

@@ -5,8 +5,8 @@ use Rattle.base_devices.specs.DataFolder.{Nodes, IsTreeListing}
 use Rattle.backup_plan.specs.declared.fault.PlanFault.{PlanFault}
 use Rattle.backup_plan.specs.declared.fault.PlanFault.TheVariants as plans
 use Rattle.backup_plan.specs.Filter.{ListedNode, kept, IsRefused}
-use Rattle.cmd_terms.specs.declared.stages.halt.Halt.{Halt}
-use Rattle.cmd_terms.specs.Halts.{HaltCause}
+use Rattle.cmd_types.specs.declared.stages.halt.Halt.{Halt}
+use Rattle.cmd_types.specs.Halts.{HaltCause}
 use Rattle.cmd_backup_common.specs.declared.parts.fault.BackupFault.{BackupFault}
 use Rattle.cmd_backup_common.specs.PartsFaults.{of_plan}
 use Rattle.cmd_backup_online.specs.Drafting.{ListingCause}

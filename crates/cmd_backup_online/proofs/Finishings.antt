@@ -5,7 +5,7 @@ use Rattle.base_devices.specs.Content.{Content}
 use Rattle.base_model.specs.declared.wal.ArchiveId.{ArchiveId}
 use Rattle.base_model.specs.declared.wal.WalPart.{WalPart}
 use Rattle.base_model.specs.Text.{Text}
-use Rattle.backup_files.specs.declared.keeper.EndedItem.{EndedItem}
+use Rattle.backup_sink.specs.declared.keeper.EndedItem.{EndedItem}
 use Rattle.backup_record.specs.Faults.{IsMissing}
 use Rattle.backup_make.specs.declared.draft.Draft.{Draft}
 use Rattle.backup_make.specs.declared.fault.MakeFault.{MakeFault}
@@ -15,10 +15,10 @@ use Rattle.backup_make.specs.Online.{Online}
 use Rattle.archive_wait.specs.declared.fault.AwaitFault.{AwaitFault}
 use Rattle.archive_wait.specs.declared.fault.AwaitFault.TheVariants as waits
 use Rattle.archive_wait.specs.Causes.{WaitCause}
-use Rattle.cmd_terms.specs.declared.stages.object.Object.{Object}
-use Rattle.cmd_terms.specs.declared.stages.halt.Halt.{Halt}
-use Rattle.cmd_terms.specs.Halts.{HaltCause, Never}
-use Rattle.cmd_terms.specs.Risen.{none, rose_in}
+use Rattle.cmd_types.specs.declared.stages.object.Object.{Object}
+use Rattle.cmd_types.specs.declared.stages.halt.Halt.{Halt}
+use Rattle.cmd_types.specs.Halts.{HaltCause, Never}
+use Rattle.cmd_types.specs.Risen.{none, rose_in}
 use Rattle.cmd_backup_common.specs.declared.parts.fault.BackupFault.{BackupFault}
 use Rattle.cmd_backup_common.specs.PartsFaults.{IsHaltOf, NoneLeft, NotRead, Vanished, LongManifest, LongList, NoClock, NoDisk, Starved}
 use Rattle.cmd_backup_common.proofs.Makings.{Either}

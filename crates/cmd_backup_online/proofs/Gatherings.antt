@@ -20,12 +20,12 @@ use Rattle.backup_make.specs.Draft.{stanza_of, jobs_in, IsFree}
 use Rattle.backup_make.specs.Made.{LeavesList}
 use Rattle.backup_make.specs.Staged.{IsFetched, IsStaged, fetched_draft, fetched_ends}
 use Rattle.backup_make.specs.Faults.{StoreFails, IsUnread}
-use Rattle.cmd_terms.specs.declared.stages.object.Object.{Object}
-use Rattle.cmd_terms.specs.declared.stages.object.Object.TheVariants as objects
-use Rattle.cmd_terms.specs.declared.stages.halt.Halt.{Halt}
-use Rattle.cmd_terms.specs.declared.stages.halt.Halt.TheVariants.{Refused, Failed, NoMemory}
-use Rattle.cmd_terms.specs.Halts.{HaltCause, Never, halt_of}
-use Rattle.cmd_terms.specs.Risen.{none, rose_in}
+use Rattle.cmd_types.specs.declared.stages.object.Object.{Object}
+use Rattle.cmd_types.specs.declared.stages.object.Object.TheVariants as objects
+use Rattle.cmd_types.specs.declared.stages.halt.Halt.{Halt}
+use Rattle.cmd_types.specs.declared.stages.halt.Halt.TheVariants.{Refused, Failed, NoMemory}
+use Rattle.cmd_types.specs.Halts.{HaltCause, Never, halt_of}
+use Rattle.cmd_types.specs.Risen.{none, rose_in}
 use Rattle.cmd_backup_common.specs.declared.parts.fault.BackupFault.{BackupFault}
 use Rattle.cmd_backup_common.specs.PartsFaults.{IsHaltOf, NoneLeft, NotRead, Vanished, LongManifest, LongList, NoClock, NoDisk, Starved}
 use Rattle.cmd_backup_common.specs.Making.{CannotRead}

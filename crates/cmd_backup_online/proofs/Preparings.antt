@@ -12,10 +12,10 @@ use Rattle.repo_stanza.specs.Judging.{Validates}
 use Rattle.cmd_backup_common.specs.declared.drafts.fault.SecondFault.{SecondFault}
 use Rattle.cmd_backup_common.specs.declared.drafts.fault.SecondFault.TheVariants as seconds
 use Rattle.cmd_backup_common.specs.Seconds.{SecondCause as NoSecond}
-use Rattle.cmd_terms.specs.declared.stages.object.Object.TheVariants as objects
-use Rattle.cmd_terms.specs.declared.stages.halt.Halt.{Halt}
-use Rattle.cmd_terms.specs.declared.stages.halt.Halt.TheVariants.{Refused, Failed, NoMemory}
-use Rattle.cmd_terms.specs.Halts.{HaltCause, Only}
+use Rattle.cmd_types.specs.declared.stages.object.Object.TheVariants as objects
+use Rattle.cmd_types.specs.declared.stages.halt.Halt.{Halt}
+use Rattle.cmd_types.specs.declared.stages.halt.Halt.TheVariants.{Refused, Failed, NoMemory}
+use Rattle.cmd_types.specs.Halts.{HaltCause, Only}
 use Rattle.cmd_backup_common.specs.PartsFaults.{of_second}
 use Rattle.cmd_backup_common.proofs.Makings.{Either}
 use Rattle.cmd_backup_offline.specs.declared.fault.OfflineFault.{OfflineFault}

@@ -14,19 +14,19 @@ use Rattle.base_model.specs.Steps.{Command, Turn, ArchivePushAsync, MakeBackup, 
 use Rattle.base_model.specs.Log.{Done, IsDrained, KeepsRepository, KeepsSpool}
 use Rattle.base_model.specs.Steady.{IsBegun, IsSteady}
 use Rattle.base_model.proofs.Steady.{steady_rests}
-use Rattle.base_traces.specs.Beside.{StaysBeside}
-use Rattle.archive_index.specs.Stored.{ChangesArchive}
-use Rattle.archive_index.specs.Turns.{Turned, Account}
+use Rattle.base_crash_lists.specs.Beside.{StaysBeside}
+use Rattle.archive_lookup.specs.Stored.{ChangesArchive}
+use Rattle.archive_lookup.specs.Turns.{Turned, Account}
 use Rattle.archive_wait.specs.TurnsDone.{TurnsDone, MarksByTurns, all_ended, turns_of}
 use Rattle.archive_wait.proofs.Backups.{leads_made, leads_waited}
 use Rattle.archive_wait.proofs.Marks.{none_more}
-use Rattle.cmd_terms.specs.declared.stages.plan.SyncScope.TheVariants.{Whole}
-use Rattle.cmd_terms.specs.DisksEffect.{Reached, to_end, turned_back, stopped, OnAll, SpoolEffect, RepoEffect, DisksEffect}
+use Rattle.cmd_types.specs.declared.stages.plan.SyncScope.TheVariants.{Whole}
+use Rattle.cmd_types.specs.DisksEffect.{Reached, to_end, turned_back, stopped, OnAll, SpoolEffect, RepoEffect, DisksEffect}
 use Rattle.archive_store.specs.Still.{still_self}
-use Rattle.cmd_terms.proofs.Besides.{archive_beside, still_beside}
-use Rattle.cmd_terms.proofs.Lifted.{none_as, spool_stays}
-use Rattle.repo_unique.proofs.Lists.{one_list}
-use Rattle.repo_unique.proofs.Manifests.{one_manifest}
+use Rattle.cmd_types.proofs.Besides.{archive_beside, still_beside}
+use Rattle.cmd_types.proofs.Lifted.{none_as, spool_stays}
+use Rattle.repo_text_lemmas.proofs.Lists.{one_list}
+use Rattle.repo_text_lemmas.proofs.Manifests.{one_manifest}
 use Rattle.backup_make.specs.declared.draft.Draft.{Draft}
 use Rattle.backup_make.specs.Draft.{stanza_of}
 use Rattle.backup_make.specs.Made.{LeavesList}

@@ -1,6 +1,6 @@
 -- What the status of a refusal says about it.
 use Rattle.std.proofs.Common.{◌≤◌, arith}
-use Rattle.cmd_terms.proofs.Statuses.{server_over}
+use Rattle.cmd_types.proofs.Statuses.{server_over}
 use Rattle.cmd_backup_offline.proofs.Statuses.{offline_within}
 use Rattle.cmd_backup_online.specs.declared.fault.OnlineBackupFault.{OnlineBackupFault}
 use Rattle.cmd_backup_online.specs.declared.fault.OnlineBackupFault.TheVariants as faults

@@ -20,9 +20,9 @@ use Rattle.backup_plan.specs.Filter.{kept, files_of}
 use Rattle.backup_plan.specs.Listed.{Taken}
 use Rattle.backup_record.specs.Further.{with_further}
 use Rattle.backup_record.proofs.Putting.{in_put}
-use Rattle.repo_unique.proofs.Lists.{one_list}
-use Rattle.repo_unique.proofs.Manifests.{one_manifest}
-use Rattle.backup_files.proofs.Ways.{Law}
+use Rattle.repo_text_lemmas.proofs.Lists.{one_list}
+use Rattle.repo_text_lemmas.proofs.Manifests.{one_manifest}
+use Rattle.backup_sink.proofs.Ways.{Law}
 use Rattle.repo_stanza.specs.declared.control.Control.{Control}
 use Rattle.repo_stanza.specs.Pairs.{AgreeAt}
 use Rattle.backup_make.specs.declared.draft.Draft.{Draft}
@@ -30,11 +30,11 @@ use Rattle.backup_make.specs.declared.fault.MakeFault.{MakeFault}
 use Rattle.backup_make.specs.Draft.{stanza_of, main_of, pair_of, taken_in, old_in, went_with, files_with, IsFree}
 use Rattle.backup_make.specs.Made.{LeavesList, MakesOf, OutcomeOf}
 use Rattle.backup_make.specs.Online.{Online, label_entry}
-use Rattle.archive_index.specs.Turns.{Account}
+use Rattle.archive_lookup.specs.Turns.{Account}
 use Rattle.archive_wait.specs.TurnsDone.{TurnsDone, turns_of, all_ended}
-use Rattle.cmd_terms.specs.declared.stages.halt.Halt.{Halt}
-use Rattle.cmd_terms.specs.declared.stages.outcome.Outcome.{Outcome}
-use Rattle.cmd_terms.specs.Reached.{OnFinished}
+use Rattle.cmd_types.specs.declared.stages.halt.Halt.{Halt}
+use Rattle.cmd_types.specs.declared.stages.outcome.Outcome.{Outcome}
+use Rattle.cmd_types.specs.Reached.{OnFinished}
 use Rattle.backup_lemmas.specs.Backups.{IsReadOrLeftBeside, HasPart}
 use Rattle.backup_lemmas.proofs.Begun.{BeginsBackup}
 use Rattle.backup_lemmas.proofs.Reading.{backup_made}

@@ -12,7 +12,7 @@ use Rattle.backup_make.specs.Online.{online_of}
 use Rattle.server_talk.specs.declared.backups.begun.Begun.{Begun}
 use Rattle.server_talk.specs.declared.backups.begun.Finished.{Finished}
 use Rattle.server_talk.specs.Ending.{StartsAt}
-use Rattle.cmd_terms.proofs.Counts.{rises_from}
+use Rattle.cmd_types.proofs.Counts.{rises_from}
 use Rattle.server_talk.specs.declared.backups.fault.OnlineFault.{OnlineFault}
 use Rattle.server_talk.specs.declared.backups.fault.OnlineFault.TheVariants as talks
 use Rattle.server_talk.specs.Causes.{TalkCause, ShowsFault, StartCause, StopCause, Closes}
@@ -25,12 +25,12 @@ use Rattle.server_talk.specs.Rows.{stop_query}
 use Rattle.server_talk.specs.Sends.{Ended, closing, query_of}
 use Rattle.server_talk.proofs.Ends.{ended_or}
 use Rattle.worker_pool.specs.declared.dispatch.fault.Lost.{Lost}
-use Rattle.cmd_terms.specs.declared.stages.object.Object.{Object}
-use Rattle.cmd_terms.specs.declared.stages.object.Object.TheVariants as objects
-use Rattle.cmd_terms.specs.declared.stages.halt.Halt.{Halt}
-use Rattle.cmd_terms.specs.declared.stages.halt.Halt.TheVariants.{Refused, Failed, NoMemory}
-use Rattle.cmd_terms.specs.Halts.{HaltCause, Only}
-use Rattle.cmd_terms.specs.Risen.{none, rose_in}
+use Rattle.cmd_types.specs.declared.stages.object.Object.{Object}
+use Rattle.cmd_types.specs.declared.stages.object.Object.TheVariants as objects
+use Rattle.cmd_types.specs.declared.stages.halt.Halt.{Halt}
+use Rattle.cmd_types.specs.declared.stages.halt.Halt.TheVariants.{Refused, Failed, NoMemory}
+use Rattle.cmd_types.specs.Halts.{HaltCause, Only}
+use Rattle.cmd_types.specs.Risen.{none, rose_in}
 use Rattle.cmd_backup_common.specs.declared.parts.fault.BackupFault.{BackupFault}
 use Rattle.cmd_backup_offline.specs.declared.order.OfflineOrder.{OfflineOrder}
 use Rattle.cmd_backup_online.specs.declared.fault.OnlineBackupFault.{OnlineBackupFault}

@@ -6,7 +6,7 @@ use Rattle.base_model.specs.declared.labels.BackupKind.{BackupKind}
 use Rattle.base_model.specs.Fields.{at_number}
 use Rattle.base_model.specs.Repository.{id_of}
 use Rattle.base_model.specs.Values.{FileEntry}
-use Rattle.backup_files.specs.declared.keeper.EndedItem.{EndedItem}
+use Rattle.backup_sink.specs.declared.keeper.EndedItem.{EndedItem}
 use Rattle.repo_names.specs.declared.paths.names.NameFault.{NameFault}
 use Rattle.backup_plan.specs.declared.fault.PlanFault.{PlanFault}
 use Rattle.backup_plan.specs.declared.fault.PlanFault.TheVariants as plans

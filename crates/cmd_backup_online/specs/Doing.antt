@@ -7,10 +7,10 @@ use Rattle.base_model.specs.declared.labels.BackupKind.{BackupKind}
 use Rattle.base_model.specs.declared.labels.BackupKind.TheVariants.{Full}
 use Rattle.base_model.specs.Steps.{Command, Turn, ArchivePushAsync}
 use Rattle.base_model.specs.Text.{Text}
-use Rattle.archive_index.specs.Turns.{Turned, Account}
+use Rattle.archive_lookup.specs.Turns.{Turned, Account}
 use Rattle.archive_wait.specs.TurnsDone.{turns_of}
-use Rattle.cmd_terms.specs.declared.stages.plan.SyncScope.TheVariants.{Whole}
-use Rattle.cmd_terms.specs.DisksEffect.{Reached, On, OnAll, one, RepoEffect, DisksEffect, SpoolEffect}
+use Rattle.cmd_types.specs.declared.stages.plan.SyncScope.TheVariants.{Whole}
+use Rattle.cmd_types.specs.DisksEffect.{Reached, On, OnAll, one, RepoEffect, DisksEffect, SpoolEffect}
 use Rattle.backup_lemmas.specs.Backups.{IsOnlineBackup, IsAnyOnlineBackup}
 use Rattle.cmd_backup_online.specs.Modelled.{IsLabelKnown}
 

@@ -6,9 +6,9 @@ use Rattle.server_talk.specs.declared.backups.fault.OnlineFault.{OnlineFault}
 use Rattle.server_talk.specs.declared.backups.fault.OnlineFault.TheVariants as talks
 use Rattle.server_talk.specs.declared.session.fault.ServerFault.{ServerFault}
 use Rattle.server_talk.specs.declared.session.fault.ServerFault.TheVariants as server
-use Rattle.cmd_terms.specs.declared.stages.object.Object.TheVariants.{Repo as TheRepo, Spool as TheSpool, Server as TheServer}
-use Rattle.cmd_terms.specs.declared.stages.halt.Halt.{Halt}
-use Rattle.cmd_terms.specs.declared.stages.halt.Halt.TheVariants.{Refused, Failed, NoMemory}
+use Rattle.cmd_types.specs.declared.stages.object.Object.TheVariants.{Repo as TheRepo, Spool as TheSpool, Server as TheServer}
+use Rattle.cmd_types.specs.declared.stages.halt.Halt.{Halt}
+use Rattle.cmd_types.specs.declared.stages.halt.Halt.TheVariants.{Refused, Failed, NoMemory}
 use Rattle.cmd_backup_common.specs.declared.parts.fault.BackupFault.{BackupFault}
 use Rattle.cmd_backup_offline.specs.declared.fault.OfflineFault.{OfflineFault}
 use Rattle.cmd_backup_offline.specs.Faults.{of_backup as later_of}

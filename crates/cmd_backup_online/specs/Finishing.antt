@@ -9,7 +9,7 @@ use Rattle.base_model.specs.declared.wal.WalPart.{WalPart}
 use Rattle.base_model.specs.InfoFiles.{info_limit}
 use Rattle.base_model.specs.ManifestText.{manifest_limit}
 use Rattle.base_model.specs.Text.{Text}
-use Rattle.backup_files.specs.declared.keeper.EndedItem.{EndedItem}
+use Rattle.backup_sink.specs.declared.keeper.EndedItem.{EndedItem}
 use Rattle.backup_record.specs.Faults.{IsMissing}
 use Rattle.backup_make.specs.declared.draft.Draft.{Draft}
 use Rattle.backup_make.specs.declared.fault.MakeFault.{MakeFault}
@@ -20,8 +20,8 @@ use Rattle.backup_make.specs.Online.{Online}
 use Rattle.backup_make.specs.Staged.{IsStaged}
 use Rattle.archive_wait.specs.declared.fault.AwaitFault.TheVariants as waits
 use Rattle.archive_wait.specs.Causes.{WaitCause}
-use Rattle.cmd_terms.specs.declared.stages.halt.Halt.{Halt}
-use Rattle.cmd_terms.specs.declared.stages.outcome.Outcome.{Outcome}
+use Rattle.cmd_types.specs.declared.stages.halt.Halt.{Halt}
+use Rattle.cmd_types.specs.declared.stages.outcome.Outcome.{Outcome}
 use Rattle.cmd_backup_common.specs.declared.parts.fault.BackupFault.{BackupFault}
 use Rattle.cmd_backup_common.specs.declared.parts.fault.BackupFault.TheVariants.{ControlMissing, TooLong}
 use Rattle.cmd_backup_common.specs.Making.{IsEndWith}

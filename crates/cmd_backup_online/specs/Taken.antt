@@ -21,7 +21,7 @@ use Rattle.repo_stanza.specs.Pairs.{AgreeAt}
 use Rattle.cmd_backup_common.specs.Priors.{made_label}
 use Rattle.cmd_backup_common.specs.Seconds.{AreBefore}
 use Rattle.backup_lemmas.specs.Backups.{IsReadOrLeftBeside, Archives}
-use Rattle.archive_index.specs.Turns.{Turned, Account}
+use Rattle.archive_lookup.specs.Turns.{Turned, Account}
 use Rattle.archive_wait.specs.TurnsDone.{turns_of}
 use Rattle.cmd_backup_offline.specs.declared.order.OfflineOrder.{OfflineOrder}
 use Rattle.cmd_backup_offline.specs.Basing.{base_in, base_label, old_files, ReadsBase}

@@ -5,8 +5,8 @@ use Rattle.base_devices.specs.DataFolder.{Nodes}
 use Rattle.base_model.specs.Text.{Text}
 use Rattle.base_model.specs.Values.{BackupInfo, FileEntry}
 use Rattle.server_talk.specs.Sends.{Ended}
-use Rattle.cmd_terms.specs.declared.stages.halt.Halt.{Halt}
-use Rattle.cmd_terms.specs.declared.stages.halt.Halt.TheVariants.{NoMemory}
+use Rattle.cmd_types.specs.declared.stages.halt.Halt.{Halt}
+use Rattle.cmd_types.specs.declared.stages.halt.Halt.TheVariants.{NoMemory}
 use Rattle.worker_pool.specs.declared.dispatch.fault.Lost.{Lost}
 use Rattle.cmd_backup_offline.specs.declared.fault.OfflineFault.TheVariants as laters
 use Rattle.cmd_backup_offline.specs.declared.order.OfflineOrder.{OfflineOrder}

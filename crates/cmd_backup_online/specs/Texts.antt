@@ -3,8 +3,8 @@ use Rattle.std.specs.Prelude.{ℕ, ◌++◌, codes, decimal, string_bytes}
 use Rattle.base_model.specs.declared.wal.Segment.{Segment}
 use Rattle.base_model.specs.Names.{segment_text}
 use Rattle.base_model.specs.Text.{Text}
-use Rattle.cmd_terms.specs.StagesTexts.{twice_text}
-use Rattle.cmd_terms.specs.ServerTextsTexts.{server_status, server_message}
+use Rattle.cmd_types.specs.StagesTexts.{twice_text}
+use Rattle.cmd_types.specs.ServerTextsTexts.{server_status, server_message}
 use Rattle.cmd_backup_offline.specs.Texts.{offline_status, offline_message}
 use Rattle.cmd_backup_online.specs.declared.fault.OnlineBackupFault.{OnlineBackupFault}
 use Rattle.cmd_backup_online.specs.declared.fault.OnlineBackupFault.TheVariants.{Take, Server, TablespaceMap, SpanWrong, NotArrived, Ambiguous}

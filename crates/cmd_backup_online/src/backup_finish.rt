@@ -5,7 +5,7 @@ ghost use Rattle.base_devices.specs.Links.{LinkState};
 ghost use Rattle.base_devices.specs.States.{Frame};
 ghost use Rattle.base_model.specs.InfoFiles.{IsLabel};
 ghost use Rattle.base_model.specs.ManifestText.{IsWalPart};
-ghost use Rattle.base_traces.specs.Beside.{StaysBeside};
+ghost use Rattle.base_crash_lists.specs.Beside.{StaysBeside};
 ghost use Rattle.repo_stanza.specs.Pairs.{AgreeAt};
 ghost use Rattle.backup_make.specs.Draft.{IsFree, main_of};
 ghost use Rattle.backup_make.specs.Made.{LeavesList};
@@ -13,18 +13,18 @@ ghost use Rattle.backup_make.specs.Online.{IsOnline, online_of};
 ghost use Rattle.backup_make.specs.Staged.{IsClosed, IsClosedOf, IsFetched, IsStaged, closed_draft, closed_ends, closed_online, fetched_draft, fetched_ends};
 ghost use Rattle.archive_wait.specs.Stored.{HoldsPart};
 ghost use Rattle.archive_wait.specs.TurnsDone.{Counts, TurnsDone};
-ghost use Rattle.cmd_terms.specs.Halts.{HaltCause, Never};
-ghost use Rattle.cmd_terms.specs.Risen.{none, rose_in};
+ghost use Rattle.cmd_types.specs.Halts.{HaltCause, Never};
+ghost use Rattle.cmd_types.specs.Risen.{none, rose_in};
 ghost use Rattle.cmd_backup_online.specs.Finishing.{OfTake, PublishCause, Publishes, VainCause};
 
 use crate::fault::{OnlineBackupFault, of_backup, of_wait};
-use archive_index::OtherProcesses;
+use archive_lookup::OtherProcesses;
 use archive_wait::await_segments;
 use backup_make::{Closed, Fetched, Online, close_online, publish};
 use base_devices::{Clock, Disk};
 use base_model::{ArchiveId, Label, WalPart};
 use cmd_backup_common::of_make;
-use cmd_terms::{Halt, Outcome};
+use cmd_types::{Halt, Outcome};
 use std::alloc::Global;
 
 /// The backup of this label stops now, with what the server reported.

@@ -5,7 +5,7 @@ ghost use Rattle.cmd_backup_online.specs.Faults.{of_offline, of_backup, of_talk,
 use archive_wait::AwaitFault;
 use cmd_backup_common::BackupFault;
 use cmd_backup_offline::{OfflineFault, of_backup as later_of};
-use cmd_terms::{Halt, Object};
+use cmd_types::{Halt, Object};
 use repo_names::Segment;
 use server_talk::{OnlineFault, ServerFault};
 

@@ -4,12 +4,12 @@ ghost use Rattle.base_devices.specs.Cause.{HasCause, Rises};
 ghost use Rattle.base_devices.specs.States.{LooksAt};
 ghost use Rattle.base_devices.specs.DataFolder.{IsTreeListing};
 ghost use Rattle.backup_plan.specs.Views.{seen_of};
-ghost use Rattle.cmd_terms.specs.Halts.{HaltCause, Never};
-ghost use Rattle.cmd_terms.specs.Risen.{none, rose_in};
+ghost use Rattle.cmd_types.specs.Halts.{HaltCause, Never};
+ghost use Rattle.cmd_types.specs.Risen.{none, rose_in};
 
 use base_devices::{Clock, DataFolder, DeviceError, FolderEntry};
 use cmd_backup_common::BackupFault;
-use cmd_terms::{Halt, Object, halted};
+use cmd_types::{Halt, Object, halted};
 use std::alloc::Global;
 
 // Waits until the present second is over.

@@ -7,8 +7,8 @@ ghost use Rattle.base_model.specs.Values.{archive_info_of, backup_info_of, manif
 ghost use Rattle.repo_stanza.specs.Judging.{Validates, IsOf};
 ghost use Rattle.worker_pool.specs.Run.{AreReady, Left};
 ghost use Rattle.cmd_backup_common.specs.Seconds.{IsNext};
-ghost use Rattle.cmd_terms.specs.Halts.{HaltCause};
-ghost use Rattle.cmd_terms.specs.Risen.{none, rose_in};
+ghost use Rattle.cmd_types.specs.Halts.{HaltCause};
+ghost use Rattle.cmd_types.specs.Risen.{none, rose_in};
 ghost use Rattle.cmd_backup_common.specs.Beginning.{most_backups};
 ghost use Rattle.cmd_backup_offline.specs.Basing.{base_label, ReadsBase};
 ghost use Rattle.cmd_backup_online.specs.Preparing.{ReadyCause, PrepareCause};
@@ -19,7 +19,7 @@ use cmd_backup_common::{
     BackupFault, TakeOrder, check_room, fit, next_second, of_second, start_workers,
 };
 use cmd_backup_offline::{OfflineFault, OfflineOrder, load_base, of_backup};
-use cmd_terms::Halt;
+use cmd_types::Halt;
 use repo_stanza::Control;
 use std::alloc::Global;
 use worker_pool::Lost;

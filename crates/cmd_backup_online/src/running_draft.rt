@@ -6,7 +6,7 @@ ghost use Rattle.worker_pool.specs.Run.{AreReady};
 ghost use Rattle.worker_pool.specs.Left.{IsLeft};
 ghost use Rattle.backup_plan.specs.Views.{seen_of};
 ghost use Rattle.backup_make.specs.Draft.{IsDraft, IsFree};
-ghost use Rattle.cmd_terms.specs.Halts.{HaltCause};
+ghost use Rattle.cmd_types.specs.Halts.{HaltCause};
 ghost use Rattle.cmd_backup_common.specs.Seconds.{IsNext};
 ghost use Rattle.cmd_backup_offline.specs.Basing.{base_in};
 ghost use Rattle.cmd_backup_offline.specs.Drafting.{MayBase, IsOfflineOf, IsPlannedBy};
@@ -19,7 +19,7 @@ use base_devices::{FolderEntry, Link, Scheduler};
 use base_model::{BackupInfo, FileEntry};
 use cmd_backup_common::{BackupFault, of_plan};
 use cmd_backup_offline::{OfflineOrder, draft_listed, find_equal};
-use cmd_terms::Halt;
+use cmd_types::Halt;
 use std::alloc::Global;
 use worker_pool::Lost;
 

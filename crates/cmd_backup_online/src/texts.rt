@@ -5,7 +5,7 @@ ghost use Rattle.cmd_backup_online.specs.Texts.{online_backup_status, online_bac
 use crate::fault::OnlineBackupFault;
 use base_text::NoMemory;
 use cmd_backup_offline::{offline_message, offline_status};
-use cmd_terms::{bytes_of, server_message, server_status, twice_text};
+use cmd_types::{bytes_of, server_message, server_status, twice_text};
 use repo_names::{Segment, segment_text};
 use std::alloc::Global;
 

@@ -14,9 +14,9 @@ use Rattle.base_model.specs.Steady.{IsSteady}
 use Rattle.base_model.proofs.Done.{part_none}
 use Rattle.base_model.proofs.PushDone.{after_some}
 use Rattle.base_model.proofs.Waited.{all_following, part_prefix, part_following, after_following, all_after}
-use Rattle.cmd_terms.specs.declared.stages.plan.SyncScope.TheVariants.{Whole}
-use Rattle.cmd_terms.specs.DisksEffect.{Reached, to_end, turned_back, stopped, OnAll, IsPart, DoesPart, DoesWhole, RunsPart, RunsWhole, DisksEffect, SpoolEffect, turns_of}
-use Rattle.cmd_terms.proofs.Lifted.{none_as}
+use Rattle.cmd_types.specs.declared.stages.plan.SyncScope.TheVariants.{Whole}
+use Rattle.cmd_types.specs.DisksEffect.{Reached, to_end, turned_back, stopped, OnAll, IsPart, DoesPart, DoesWhole, RunsPart, RunsWhole, DisksEffect, SpoolEffect, turns_of}
+use Rattle.cmd_types.proofs.Lifted.{none_as}
 use Rattle.expire_make.proofs.Receipts.{expiry_spool}
 use Rattle.expire_make.proofs.Ways.{moves_on, moves_as}
 use Rattle.cmd_expire.specs.FollowUp.{StaysSound}

@@ -18,14 +18,14 @@ use Rattle.expire_rules.specs.declared.rules.Rules.{Rules}
 use Rattle.expire_make.specs.Expiry.{IsTouched, retention}
 use Rattle.expire_make.specs.Planning.{HasList}
 use Rattle.expire_make.proofs.Whole.{keeps_needed}
-use Rattle.cmd_terms.specs.declared.stages.halt.Halt.{Halt}
-use Rattle.cmd_terms.specs.declared.stages.halt.Halt.TheVariants.{Refused, Failed, NoMemory}
-use Rattle.cmd_terms.specs.declared.stages.outcome.Outcome.{Outcome}
-use Rattle.cmd_terms.specs.declared.stages.plan.SyncScope.TheVariants.{Whole}
-use Rattle.cmd_terms.specs.Reached.{OnFinished, reached_by, back_if, fails_early}
-use Rattle.cmd_terms.specs.DisksEffect.{to_end, turned_back, stopped, On, one, RepoEffect}
-use Rattle.cmd_terms.proofs.Doing.{rests_part, rests_does}
-use Rattle.cmd_stages.specs.Readies.{IsArchiveOf, IsBackupOf}
+use Rattle.cmd_types.specs.declared.stages.halt.Halt.{Halt}
+use Rattle.cmd_types.specs.declared.stages.halt.Halt.TheVariants.{Refused, Failed, NoMemory}
+use Rattle.cmd_types.specs.declared.stages.outcome.Outcome.{Outcome}
+use Rattle.cmd_types.specs.declared.stages.plan.SyncScope.TheVariants.{Whole}
+use Rattle.cmd_types.specs.Reached.{OnFinished, reached_by, back_if, fails_early}
+use Rattle.cmd_types.specs.DisksEffect.{to_end, turned_back, stopped, On, one, RepoEffect}
+use Rattle.cmd_types.proofs.Doing.{rests_part, rests_does}
+use Rattle.cmd_setup.specs.Readies.{IsArchiveOf, IsBackupOf}
 use Rattle.cmd_expire.specs.declared.fault.FollowUpFault.{FollowUpFault}
 use Rattle.cmd_expire.specs.declared.fault.ExpireCommandFault.{ExpireCommandFault}
 use Rattle.cmd_expire.specs.FollowUp.{Follows}

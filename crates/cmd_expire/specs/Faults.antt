@@ -7,9 +7,9 @@ use Rattle.repo_stanza.specs.declared.fault.StanzaFault.TheVariants as stanzas
 use Rattle.repo_stanza.specs.Causes.{HistoriesDiffer}
 use Rattle.expire_make.specs.declared.fault.ExpireFault.{ExpireFault}
 use Rattle.expire_make.specs.declared.fault.ExpireFault.TheVariants as expiries
-use Rattle.cmd_terms.specs.declared.stages.object.Object.TheVariants.{Repo}
-use Rattle.cmd_terms.specs.declared.stages.halt.Halt.{Halt}
-use Rattle.cmd_terms.specs.declared.stages.halt.Halt.TheVariants.{Refused, Failed, NoMemory}
+use Rattle.cmd_types.specs.declared.stages.object.Object.TheVariants.{Repo}
+use Rattle.cmd_types.specs.declared.stages.halt.Halt.{Halt}
+use Rattle.cmd_types.specs.declared.stages.halt.Halt.TheVariants.{Refused, Failed, NoMemory}
 use Rattle.cmd_expire.specs.declared.fault.ExpireCommandFault.{ExpireCommandFault}
 use Rattle.cmd_expire.specs.declared.fault.ExpireCommandFault.TheVariants.{HistoryDiffers}
 

@@ -15,8 +15,8 @@ use Rattle.expire_make.specs.declared.fault.ExpireFault.{ExpireFault}
 use Rattle.expire_make.specs.declared.fault.ExpireFault.TheVariants as expiries
 use Rattle.expire_make.specs.Expiry.{retention}
 use Rattle.expire_make.specs.Fault.{ExpireCause}
-use Rattle.cmd_terms.specs.declared.stages.plan.SyncScope.TheVariants.{Whole}
-use Rattle.cmd_terms.specs.DisksEffect.{DoesPart, DoesWhole}
+use Rattle.cmd_types.specs.declared.stages.plan.SyncScope.TheVariants.{Whole}
+use Rattle.cmd_types.specs.DisksEffect.{DoesPart, DoesWhole}
 use Rattle.cmd_expire.specs.declared.fault.FollowUpFault.{FollowUpFault}
 use Rattle.cmd_expire.specs.declared.fault.FollowUpFault.TheVariants.{PairLost, HistoryDiffers, Repo, Clock, NoMemory}
 use Rattle.cmd_expire.specs.Pruning.{IsMoment, ShowsMoment, IsExpired}

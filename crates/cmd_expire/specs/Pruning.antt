@@ -19,11 +19,11 @@ use Rattle.expire_rules.specs.declared.rules.Rules.{Rules}
 use Rattle.expire_rules.specs.Condemned.{condemned_labels}
 use Rattle.expire_make.specs.Expiry.{IsTouched, listed, retention, expired_of, HasNeeded}
 use Rattle.expire_make.specs.Removed.{CountsGone}
-use Rattle.cmd_terms.specs.declared.stages.halt.Halt.{Halt}
-use Rattle.cmd_terms.specs.declared.stages.outcome.Outcome.{Outcome}
-use Rattle.cmd_terms.specs.declared.stages.plan.SyncScope.TheVariants.{Whole}
-use Rattle.cmd_terms.specs.Reached.{OnFinished, reached_by}
-use Rattle.cmd_terms.specs.DisksEffect.{RepoEffect}
+use Rattle.cmd_types.specs.declared.stages.halt.Halt.{Halt}
+use Rattle.cmd_types.specs.declared.stages.outcome.Outcome.{Outcome}
+use Rattle.cmd_types.specs.declared.stages.plan.SyncScope.TheVariants.{Whole}
+use Rattle.cmd_types.specs.Reached.{OnFinished, reached_by}
+use Rattle.cmd_types.specs.DisksEffect.{RepoEffect}
 use Rattle.cmd_expire.specs.declared.fault.ExpireCommandFault.{ExpireCommandFault}
 use Rattle.cmd_expire.specs.declared.fault.ExpireCommandFault.TheVariants.{HistoryDiffers}
 use Rattle.cmd_expire.specs.Faults.{expire_early}

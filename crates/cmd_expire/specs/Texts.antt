@@ -4,7 +4,7 @@ use Rattle.std.specs.List.{flat_map}
 use Rattle.base_model.specs.declared.labels.Label.{Label}
 use Rattle.base_model.specs.Names.{label_text}
 use Rattle.base_model.specs.Text.{Text}
-use Rattle.cmd_terms.specs.StagesTexts.{history_text}
+use Rattle.cmd_types.specs.StagesTexts.{history_text}
 use Rattle.cmd_expire.specs.declared.fault.ExpireCommandFault.{ExpireCommandFault}
 use Rattle.cmd_expire.specs.declared.fault.ExpireCommandFault.TheVariants.{HistoryDiffers}
 use Rattle.cmd_expire.specs.declared.fault.FollowUpFault.{FollowUpFault}

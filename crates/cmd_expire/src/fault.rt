@@ -3,7 +3,7 @@ ghost use Rattle.std.specs.Prelude.{◌≡◌};
 ghost use Rattle.cmd_expire.specs.FollowUp.{of_after};
 ghost use Rattle.cmd_expire.specs.Faults.{of_stanza, of_expire};
 
-use cmd_terms::{Halt, Object};
+use cmd_types::{Halt, Object};
 use expire_make::ExpireFault;
 use repo_stanza::StanzaFault;
 

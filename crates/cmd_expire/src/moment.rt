@@ -1,13 +1,13 @@
 // The moment by which the rules are read.
 ghost use Rattle.std.specs.Prelude.{◌≡◌, ◌≤◌, false, IfOk, IfErr};
 ghost use Rattle.base_devices.specs.Cause.{Rises};
-ghost use Rattle.cmd_terms.specs.declared.stages.object.Object.TheVariants.{Clock as TheClock};
-ghost use Rattle.cmd_terms.specs.Halts.{HaltCause, Never, Only};
+ghost use Rattle.cmd_types.specs.declared.stages.object.Object.TheVariants.{Clock as TheClock};
+ghost use Rattle.cmd_types.specs.Halts.{HaltCause, Never, Only};
 ghost use Rattle.cmd_expire.specs.Pruning.{counts_days, ShowsMoment};
 
 use crate::fault::ExpireCommandFault;
 use base_devices::Clock;
-use cmd_terms::{Halt, Object, halted};
+use cmd_types::{Halt, Object, halted};
 use expire_rules::{FullRule, Rules};
 
 /// The present second where the rules count days; else 0, and the clock isn't asked.

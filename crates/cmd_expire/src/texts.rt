@@ -4,7 +4,7 @@ ghost use Rattle.cmd_expire.specs.Texts.{expire_status, expire_message, after_st
 
 use crate::fault::{ExpireCommandFault, FollowUpFault};
 use base_text::NoMemory;
-use cmd_terms::{bytes_of, history_text};
+use cmd_types::{bytes_of, history_text};
 use std::alloc::Global;
 
 /// The status of a refusal.

@@ -8,9 +8,9 @@ use Rattle.base_model.specs.declared.wal.ArchiveId.{ArchiveId}
 use Rattle.base_model.specs.declared.wal.Segment.{Segment}
 use Rattle.base_model.specs.Text.{Text, In}
 use Rattle.repo_keys.proofs.Numbers.{in_map, map_in}
-use Rattle.archive_index.specs.Ends.{StoresWhole, AreEnds}
+use Rattle.archive_lookup.specs.Ends.{StoresWhole, AreEnds}
 use Rattle.cmd_info.specs.declared.report.report.ArchivedName.{ArchivedName}
-use Rattle.cmd_terms.specs.Current.{id_kept}
+use Rattle.cmd_types.specs.Current.{id_kept}
 use Rattle.cmd_info.specs.Reporting.{named, AreRound, HaveEnds}
 use Rattle.cmd_info.proofs.ReportNames.{of_append}
 

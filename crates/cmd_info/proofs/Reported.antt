@@ -31,8 +31,8 @@ use Rattle.repo_info.proofs.OneArchive.{one_archive_pair}
 use Rattle.options_read.specs.declared.options.OutputWord.{OutputWord}
 use Rattle.options_read.specs.declared.options.OutputWord.TheVariants.{Text as AsText, Json as AsJson}
 use Rattle.repo_stanza.proofs.OneBackup.{Agree, pair_agrees}
-use Rattle.archive_index.specs.Stored.{archive_path}
-use Rattle.archive_index.specs.Ends.{StoresWhole}
+use Rattle.archive_lookup.specs.Stored.{archive_path}
+use Rattle.archive_lookup.specs.Ends.{StoresWhole}
 use Rattle.archive_store.proofs.Got.{same_place}
 use Rattle.cmd_info.specs.declared.report.report.ArchivedName.{ArchivedName}
 use Rattle.cmd_info.specs.Archived.{segments_under}
@@ -41,9 +41,9 @@ use Rattle.cmd_info.specs.ReportText.{cluster_lines, shown_clusters, report_text
 use Rattle.cmd_info.specs.ReportData.{archive_data, backup_data, cluster_data, status_data, report_json_of}
 use Rattle.cmd_info.specs.Labelled.{labelled_data}
 use Rattle.cmd_info.proofs.Sections.{labelled_entries}
-use Rattle.cmd_terms.specs.Current.{id_kept}
+use Rattle.cmd_types.specs.Current.{id_kept}
 use Rattle.cmd_info.specs.Reporting.{report_by, named, AreRound, HaveEnds, IsReported, archived_as, ReportsStanza}
-use Rattle.cmd_terms.proofs.Places.{place_of}
+use Rattle.cmd_types.proofs.Places.{place_of}
 use Rattle.cmd_info.proofs.EntryLines.{same_backup_lines, same_status_text, same_status_data}
 use Rattle.cmd_info.proofs.Ends.{Le, le_itself, AtOrBefore, AtOrAfter, same_least, same_greatest}
 use Rattle.cmd_info.proofs.ReportNames.{segment_in, in_segments, SameEnds, same_names}

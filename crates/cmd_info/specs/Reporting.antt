@@ -14,11 +14,11 @@ use Rattle.base_model.specs.Represents.{archive_value, backup_value}
 use Rattle.options_read.specs.declared.options.OutputWord.{OutputWord}
 use Rattle.options_read.specs.declared.options.OutputWord.TheVariants.{Text as AsText, Json as AsJson}
 use Rattle.repo_stanza.specs.Pairs.{HavePairs}
-use Rattle.archive_index.specs.Ends.{StoresWhole}
+use Rattle.archive_lookup.specs.Ends.{StoresWhole}
 use Rattle.cmd_info.specs.declared.report.report.ArchivedName.{ArchivedName}
 use Rattle.cmd_info.specs.ReportText.{report_text_of}
 use Rattle.cmd_info.specs.ReportData.{report_json_of}
-use Rattle.cmd_terms.specs.Current.{id_kept}
+use Rattle.cmd_types.specs.Current.{id_kept}
 
 -- ---- what is reported
 

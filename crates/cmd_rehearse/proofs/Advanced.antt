@@ -8,13 +8,13 @@ use Rattle.base_model.specs.Steps.{Command, Then, Reading, Move, One, Any, IsPar
 use Rattle.base_model.specs.Now.{NowRepresents}
 use Rattle.base_model.proofs.Steady.{rests_moves, steady_rests}
 use Rattle.expire_make.proofs.Ways.{moves_on}
-use Rattle.cmd_terms.specs.declared.stages.outcome.Outcome.{Outcome}
-use Rattle.cmd_terms.specs.declared.stages.outcome.Outcome.TheVariants.{Finished, Absent, FindingsFound}
-use Rattle.cmd_terms.specs.declared.stages.plan.SyncScope.{SyncScope}
-use Rattle.cmd_terms.specs.declared.stages.plan.SyncScope.TheVariants.{Whole}
-use Rattle.cmd_terms.specs.Reached.{OnFinished, reached_by}
-use Rattle.cmd_terms.specs.DisksEffect.{IsPart, DoesPart, DoesWhole, RepoEffect}
-use Rattle.cmd_terms.proofs.Doing.{rests_part, rests_whole}
+use Rattle.cmd_types.specs.declared.stages.outcome.Outcome.{Outcome}
+use Rattle.cmd_types.specs.declared.stages.outcome.Outcome.TheVariants.{Finished, Absent, FindingsFound}
+use Rattle.cmd_types.specs.declared.stages.plan.SyncScope.{SyncScope}
+use Rattle.cmd_types.specs.declared.stages.plan.SyncScope.TheVariants.{Whole}
+use Rattle.cmd_types.specs.Reached.{OnFinished, reached_by}
+use Rattle.cmd_types.specs.DisksEffect.{IsPart, DoesPart, DoesWhole, RepoEffect}
+use Rattle.cmd_types.proofs.Doing.{rests_part, rests_whole}
 use Rattle.cmd_rehearse.specs.Advancing.{Advances, Carries}
 use Rattle.cmd_rehearse.proofs.Thens.{prefix_does, back_does, back_whole, sound_both}
 

@@ -18,15 +18,15 @@ use Rattle.repo_info.specs.BackupForm.{IsBackupForm}
 use Rattle.repo_pair.specs.declared.fault.InfoFault.{InfoFault}
 use Rattle.repo_pair.specs.declared.fault.InfoFault.TheVariants as pairs
 use Rattle.repo_pair.specs.Causes.{PairCause}
-use Rattle.archive_index.specs.declared.stored.fault.ArchiveFault.{ArchiveFault}
-use Rattle.archive_index.specs.declared.stored.fault.ArchiveFault.TheVariants as archives
-use Rattle.archive_index.specs.Causes.{AllCause, PushCause as StoringCause}
-use Rattle.cmd_terms.specs.declared.stages.object.Object.{Object}
-use Rattle.cmd_terms.specs.declared.stages.object.Object.TheVariants as objects
-use Rattle.cmd_terms.specs.declared.stages.halt.Halt.{Halt}
-use Rattle.cmd_terms.specs.declared.stages.halt.Halt.TheVariants.{Refused, Failed, NoMemory}
-use Rattle.cmd_terms.specs.Halts.{HaltCause, Only}
-use Rattle.cmd_terms.specs.Risen.{none, rose_in}
+use Rattle.archive_lookup.specs.declared.stored.fault.ArchiveFault.{ArchiveFault}
+use Rattle.archive_lookup.specs.declared.stored.fault.ArchiveFault.TheVariants as archives
+use Rattle.archive_lookup.specs.Causes.{AllCause, PushCause as StoringCause}
+use Rattle.cmd_types.specs.declared.stages.object.Object.{Object}
+use Rattle.cmd_types.specs.declared.stages.object.Object.TheVariants as objects
+use Rattle.cmd_types.specs.declared.stages.halt.Halt.{Halt}
+use Rattle.cmd_types.specs.declared.stages.halt.Halt.TheVariants.{Refused, Failed, NoMemory}
+use Rattle.cmd_types.specs.Halts.{HaltCause, Only}
+use Rattle.cmd_types.specs.Risen.{none, rose_in}
 use Rattle.cmd_stanza_create.specs.declared.fault.CreateFault.{CreateFault}
 use Rattle.cmd_stanza_create.specs.declared.fault.CreateFault.TheVariants as creates
 use Rattle.cmd_stanza_create.specs.Creating.{CreateCause}

@@ -6,16 +6,16 @@ use Rattle.base_devices.specs.DataFolder.{Nodes}
 use Rattle.base_devices.specs.Moments.{View, Unchanged}
 use Rattle.base_model.specs.Steps.{Command}
 use Rattle.base_model.specs.Text.{Text}
-use Rattle.cmd_terms.specs.declared.stages.object.Object.TheVariants as objects
-use Rattle.cmd_terms.specs.declared.stages.halt.Halt.{Halt}
-use Rattle.cmd_terms.specs.declared.stages.halt.Halt.TheVariants.{Refused, Failed, NoMemory}
-use Rattle.cmd_terms.specs.declared.stages.outcome.Outcome.{Outcome}
-use Rattle.cmd_terms.specs.declared.stages.outcome.Outcome.TheVariants.{Finished, Absent, FindingsFound}
-use Rattle.cmd_terms.specs.declared.stages.plan.SyncScope.TheVariants.{Whole}
-use Rattle.cmd_terms.specs.Halts.{HaltCause}
-use Rattle.cmd_terms.specs.Reached.{OnFinished, reached_by}
-use Rattle.cmd_terms.specs.DisksEffect.{to_end, RepoEffect}
-use Rattle.cmd_terms.proofs.Doing.{rests_does}
+use Rattle.cmd_types.specs.declared.stages.object.Object.TheVariants as objects
+use Rattle.cmd_types.specs.declared.stages.halt.Halt.{Halt}
+use Rattle.cmd_types.specs.declared.stages.halt.Halt.TheVariants.{Refused, Failed, NoMemory}
+use Rattle.cmd_types.specs.declared.stages.outcome.Outcome.{Outcome}
+use Rattle.cmd_types.specs.declared.stages.outcome.Outcome.TheVariants.{Finished, Absent, FindingsFound}
+use Rattle.cmd_types.specs.declared.stages.plan.SyncScope.TheVariants.{Whole}
+use Rattle.cmd_types.specs.Halts.{HaltCause}
+use Rattle.cmd_types.specs.Reached.{OnFinished, reached_by}
+use Rattle.cmd_types.specs.DisksEffect.{to_end, RepoEffect}
+use Rattle.cmd_types.proofs.Doing.{rests_does}
 use Rattle.cmd_verify.specs.Verifying.{IsVerified}
 use Rattle.cmd_verify.specs.declared.findings.finding.Finding.{Finding}
 use Rattle.std.proofs.Common.{List, [], ◌∷◌, Option}

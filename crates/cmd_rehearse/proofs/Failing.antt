@@ -4,9 +4,9 @@ use Rattle.std.specs.Prelude.{IsErrOf}
 use Rattle.base_devices.specs.Cause.{Rises, HasCause}
 use Rattle.base_devices.specs.declared.stop.DeviceError.{DeviceError}
 use Rattle.base_devices.specs.declared.stop.DeviceError.TheVariants as stops
-use Rattle.cmd_terms.specs.declared.stages.object.Object.{Object}
-use Rattle.cmd_terms.specs.declared.stages.object.Object.TheVariants as objects
-use Rattle.cmd_terms.specs.Halts.{HaltCause, Only, halt_of}
+use Rattle.cmd_types.specs.declared.stages.object.Object.{Object}
+use Rattle.cmd_types.specs.declared.stages.object.Object.TheVariants as objects
+use Rattle.cmd_types.specs.Halts.{HaltCause, Only, halt_of}
 use Rattle.cmd_rehearse.specs.Causes.{Fails, FailsBoth}
 
 rises_in : (a b c d : ℕ) → a ≤ b → c ≤ d → Rises b c → Rises a d

@@ -9,14 +9,14 @@ use Rattle.base_model.specs.Repository.{Backup}
 use Rattle.base_model.specs.Now.{NowEffect}
 use Rattle.base_model.specs.Steps.{Command, Then, Reading}
 use Rattle.base_model.specs.Text.{Text}
-use Rattle.cmd_terms.specs.declared.stages.object.Object.{Object}
-use Rattle.cmd_terms.specs.declared.stages.halt.Halt.{Halt}
-use Rattle.cmd_terms.specs.declared.stages.halt.Halt.TheVariants.{Refused, Failed, NoMemory}
-use Rattle.cmd_terms.specs.Halts.{HaltCause}
+use Rattle.cmd_types.specs.declared.stages.object.Object.{Object}
+use Rattle.cmd_types.specs.declared.stages.halt.Halt.{Halt}
+use Rattle.cmd_types.specs.declared.stages.halt.Halt.TheVariants.{Refused, Failed, NoMemory}
+use Rattle.cmd_types.specs.Halts.{HaltCause}
 use Rattle.base_devices.specs.DataFolder.{Nodes}
-use Rattle.cmd_rehearse_sample.specs.declared.folder.fault.FolderFault.{FolderFault}
-use Rattle.cmd_rehearse_sample.specs.declared.folder.fault.FolderFault.TheVariants as folders
-use Rattle.cmd_rehearse_sample.specs.Having.{FolderCause, IfFull}
+use Rattle.base_sample.specs.declared.folder.fault.FolderFault.{FolderFault}
+use Rattle.base_sample.specs.declared.folder.fault.FolderFault.TheVariants as folders
+use Rattle.base_sample.specs.Having.{FolderCause, IfFull}
 use Rattle.cmd_rehearse.specs.declared.fault.StepFault.{StepFault}
 use Rattle.cmd_rehearse.specs.declared.fault.RehearseFault.{RehearseFault}
 use Rattle.cmd_rehearse.specs.declared.fault.RehearseFault.TheVariants.{StanzaExists, NotEmpty, Step}

@@ -14,15 +14,15 @@ use Rattle.base_model.specs.Steps.{Command, ArchivePush, Named, Then, Reading, a
 use Rattle.base_model.proofs.PushSound.{push_keeps_sound}
 use Rattle.archive_store.specs.Pushes.{Leaves, LeavesPart, LeavesAll, LeavesFile}
 use Rattle.archive_store.specs.Still.{rests_none}
-use Rattle.archive_index.specs.Stored.{archive_path}
+use Rattle.archive_lookup.specs.Stored.{archive_path}
 use Rattle.base_model.specs.Values.{ArchiveInfo}
 use Rattle.base_model.specs.Fields.{at_number}
-use Rattle.cmd_terms.specs.Current.{HasCurrent, HasValue, id_kept}
+use Rattle.cmd_types.specs.Current.{HasCurrent, HasValue, id_kept}
 use Rattle.cmd_archive_push.proofs.Stores.{part_done, whole_done, current_on}
 use Rattle.cmd_archive_push.proofs.StoreCauses.{file_of}
-use Rattle.cmd_terms.specs.declared.stages.plan.SyncScope.TheVariants.{Whole}
-use Rattle.cmd_terms.specs.DisksEffect.{DoesPart, DoesWhole}
-use Rattle.cmd_terms.proofs.Doing.{rests_part, rests_whole}
+use Rattle.cmd_types.specs.declared.stages.plan.SyncScope.TheVariants.{Whole}
+use Rattle.cmd_types.specs.DisksEffect.{DoesPart, DoesWhole}
+use Rattle.cmd_types.proofs.Doing.{rests_part, rests_whole}
 use Rattle.cmd_rehearse.specs.Advancing.{Advances, StaysSound}
 use Rattle.cmd_rehearse.specs.Commands.{pushed, segment_named}
 use Rattle.cmd_rehearse.proofs.Advanced.{part_known, whole_known}

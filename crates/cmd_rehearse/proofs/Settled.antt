@@ -13,9 +13,9 @@ use Rattle.base_model.specs.Steady.{IsSteady}
 use Rattle.base_model.specs.Values.{ArchiveInfo}
 use Rattle.base_model.proofs.PushDone.{stanza_of}
 use Rattle.repo_info.proofs.OneArchive.{one_archive_pair}
-use Rattle.cmd_terms.specs.Current.{HasValue}
-use Rattle.cmd_terms.specs.declared.stages.plan.SyncScope.TheVariants.{Whole, Looked}
-use Rattle.cmd_terms.specs.DisksEffect.{IsLookedAt, PairAlike, DoesPart, DoesWhole}
+use Rattle.cmd_types.specs.Current.{HasValue}
+use Rattle.cmd_types.specs.declared.stages.plan.SyncScope.TheVariants.{Whole, Looked}
+use Rattle.cmd_types.specs.DisksEffect.{IsLookedAt, PairAlike, DoesPart, DoesWhole}
 
 module _ (stanza : Text) (r : Repository) (a : View) (some : IsSome a.now) (steady : IsSteady stanza r a) where
   start : (f : Content) × (a.now ≡ Some f)

@@ -8,9 +8,9 @@ use Rattle.base_model.specs.Text.{Text, In}
 use Rattle.base_model.specs.Repository.{Repository, Drained}
 use Rattle.base_model.specs.Log.{Done, IsDrained, KeepsSpool}
 use Rattle.base_model.specs.Steps.{Step, Create, Upgrade, Push, Note, AddBackup, Condemn, Forget, Command, step, after, all_of, steps_of}
-use Rattle.cmd_terms.specs.declared.stages.plan.SyncScope.{SyncScope}
-use Rattle.cmd_terms.specs.DisksEffect.{Reached, RepoEffect, DisksEffect}
-use Rattle.cmd_terms.proofs.Lifted.{does_runs}
+use Rattle.cmd_types.specs.declared.stages.plan.SyncScope.{SyncScope}
+use Rattle.cmd_types.specs.DisksEffect.{Reached, RepoEffect, DisksEffect}
+use Rattle.cmd_types.proofs.Lifted.{does_runs}
 
 in_more : (x : Drained) (xs ys : List Drained) → In x xs → In x (xs ++ ys)
 in_more x [] ys h = absurd h

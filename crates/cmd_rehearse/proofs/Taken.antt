@@ -15,16 +15,16 @@ use Rattle.base_model.proofs.Done.{part_none}
 use Rattle.base_model.proofs.Steady.{rests_moves, steady_rests}
 use Rattle.backup_lemmas.specs.Backups.{AddsBackup}
 use Rattle.backup_lemmas.proofs.Again.{made_sound}
-use Rattle.repo_unique.proofs.Lists.{one_list}
-use Rattle.repo_unique.proofs.Manifests.{one_manifest}
+use Rattle.repo_text_lemmas.proofs.Lists.{one_list}
+use Rattle.repo_text_lemmas.proofs.Manifests.{one_manifest}
 use Rattle.expire_make.proofs.Ways.{moves_on}
 use Rattle.worker_pool.specs.Run.{AreReady, IsReady}
-use Rattle.cmd_terms.specs.declared.stages.halt.Halt.{Halt}
-use Rattle.cmd_terms.specs.declared.stages.outcome.Outcome.{Outcome}
-use Rattle.cmd_terms.specs.declared.stages.outcome.Outcome.TheVariants.{Finished, Absent, FindingsFound}
-use Rattle.cmd_terms.specs.declared.stages.plan.SyncScope.TheVariants.{Whole}
-use Rattle.cmd_terms.specs.Reached.{OnFinished, reached_by}
-use Rattle.cmd_terms.specs.DisksEffect.{IsPart, DoesPart, DoesWhole, RepoEffect, On, one}
+use Rattle.cmd_types.specs.declared.stages.halt.Halt.{Halt}
+use Rattle.cmd_types.specs.declared.stages.outcome.Outcome.{Outcome}
+use Rattle.cmd_types.specs.declared.stages.outcome.Outcome.TheVariants.{Finished, Absent, FindingsFound}
+use Rattle.cmd_types.specs.declared.stages.plan.SyncScope.TheVariants.{Whole}
+use Rattle.cmd_types.specs.Reached.{OnFinished, reached_by}
+use Rattle.cmd_types.specs.DisksEffect.{IsPart, DoesPart, DoesWhole, RepoEffect, On, one}
 use Rattle.base_devices.specs.DataFolder.{Nodes}
 use Rattle.repo_stanza.specs.declared.control.Control.{Control}
 use Rattle.cmd_backup_offline.specs.declared.order.OfflineOrder.{OfflineOrder}

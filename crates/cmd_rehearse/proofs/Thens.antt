@@ -11,8 +11,8 @@ use Rattle.base_model.specs.Log.{IsDone}
 use Rattle.base_model.specs.Now.{NowRepresents, NowEffect, BeginsFrom}
 use Rattle.base_model.specs.Steady.{IsSteady}
 use Rattle.base_model.proofs.Waited.{all_following, part_prefix, part_following, after_following}
-use Rattle.cmd_terms.specs.declared.stages.plan.SyncScope.TheVariants.{Whole}
-use Rattle.cmd_terms.specs.DisksEffect.{IsPart, DoesPart, DoesWhole}
+use Rattle.cmd_types.specs.declared.stages.plan.SyncScope.TheVariants.{Whole}
+use Rattle.cmd_types.specs.DisksEffect.{IsPart, DoesPart, DoesWhole}
 use Rattle.expire_make.proofs.Ways.{moves_on, moves_as}
 use Rattle.cmd_rehearse.specs.Advancing.{StaysSound}
 

@@ -7,8 +7,8 @@ use Rattle.base_model.specs.Now.{NowRepresents, NowEffect}
 use Rattle.base_model.specs.Repository.{Repository, IsSound}
 use Rattle.base_model.specs.Steps.{Command, after, all_of, steps_of}
 use Rattle.base_model.specs.Text.{Text}
-use Rattle.cmd_terms.specs.declared.stages.plan.SyncScope.TheVariants.{Whole}
-use Rattle.cmd_terms.specs.DisksEffect.{DoesPart, DoesWhole}
+use Rattle.cmd_types.specs.declared.stages.plan.SyncScope.TheVariants.{Whole}
+use Rattle.cmd_types.specs.DisksEffect.{DoesPart, DoesWhole}
 
 -- whatever sound repository the disk represents, it is sound after all of the command's steps
 abbrev pub StaysSound : Text → Command → Option Content → Type 0

@@ -18,11 +18,11 @@ use Rattle.repo_info.specs.BackupForm.{IsBackupForm}
 use Rattle.repo_pair.specs.declared.fault.InfoFault.{InfoFault}
 use Rattle.repo_pair.specs.Causes.{PairCause}
 use Rattle.repo_stanza.specs.Causes.{HistoriesDiffer}
-use Rattle.archive_index.specs.declared.stored.fault.ArchiveFault.{ArchiveFault}
-use Rattle.archive_index.specs.Causes.{PushCause as StoringCause}
-use Rattle.cmd_terms.specs.declared.stages.halt.Halt.TheVariants.{Refused}
-use Rattle.cmd_terms.specs.declared.stages.object.Object.{Object}
-use Rattle.cmd_terms.specs.Risen.{none, rose_in}
+use Rattle.archive_lookup.specs.declared.stored.fault.ArchiveFault.{ArchiveFault}
+use Rattle.archive_lookup.specs.Causes.{PushCause as StoringCause}
+use Rattle.cmd_types.specs.declared.stages.halt.Halt.TheVariants.{Refused}
+use Rattle.cmd_types.specs.declared.stages.object.Object.{Object}
+use Rattle.cmd_types.specs.Risen.{none, rose_in}
 use Rattle.cmd_stanza_create.specs.Creating.{MakeCause}
 use Rattle.cmd_archive_push.specs.declared.fault.PushFault.{PushFault}
 use Rattle.cmd_archive_push.specs.Faults.{of_archive}
@@ -36,7 +36,7 @@ use Rattle.cmd_restore.specs.declared.fault.RestoreCommandFault.{RestoreCommandF
 use Rattle.cmd_restore.specs.Causes.{RestoreCommandCause}
 use Rattle.cmd_restore.specs.Restoring.{Before as BeforeRestore}
 use Rattle.cmd_verify.specs.Verifying.{VerifyCommandCause}
-use Rattle.cmd_rehearse_sample.specs.Having.{IsTaken}
+use Rattle.base_sample.specs.Having.{IsTaken}
 use Rattle.cmd_rehearse.specs.declared.fault.StepFault.{StepFault}
 use Rattle.cmd_rehearse.specs.declared.fault.StepFault.TheVariants.{Create, Push, Take, Lost, HistoryDiffers, Recover, Examine}
 use Rattle.cmd_rehearse.specs.declared.fault.RehearseFault.{RehearseFault}

@@ -5,7 +5,7 @@ use Rattle.base_model.specs.declared.wal.ArchiveName.TheVariants.{Segment as Who
 use Rattle.base_model.specs.declared.labels.BackupKind.TheVariants.{Full}
 use Rattle.base_model.specs.Repository.{Backup}
 use Rattle.base_model.specs.Steps.{Command, StanzaCreate, ArchivePush, MakeBackup, Expire, Then, Reading, Named, Retention}
-use Rattle.cmd_rehearse_sample.specs.Bytes.{segment_bytes}
+use Rattle.base_sample.specs.Bytes.{segment_bytes}
 use Rattle.repo_stanza.specs.declared.control.Control.{Control}
 use Rattle.expire_rules.specs.declared.rules.FullRule.TheVariants.{Count}
 use Rattle.expire_rules.specs.declared.rules.Rules.{Rules}

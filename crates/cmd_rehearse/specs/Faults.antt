@@ -9,13 +9,13 @@ use Rattle.expire_make.specs.declared.fault.ExpireFault.TheVariants as expiries
 use Rattle.repo_pair.specs.declared.fault.InfoFault.{InfoFault}
 use Rattle.repo_pair.specs.declared.fault.InfoFault.TheVariants as pairs
 use Rattle.cmd_archive_push.specs.declared.fault.PushFault.{PushFault}
-use Rattle.cmd_rehearse_sample.specs.declared.folder.fault.FolderFault.{FolderFault}
-use Rattle.cmd_rehearse_sample.specs.declared.folder.fault.FolderFault.TheVariants as folders
-use Rattle.archive_index.specs.declared.stored.fault.ArchiveFault.{ArchiveFault}
-use Rattle.archive_index.specs.declared.stored.fault.ArchiveFault.TheVariants as archives
-use Rattle.cmd_terms.specs.declared.stages.halt.Halt.{Halt}
-use Rattle.cmd_terms.specs.declared.stages.halt.Halt.TheVariants.{Refused, Failed, NoMemory}
-use Rattle.cmd_terms.specs.declared.stages.object.Object.TheVariants.{Repo, TheDataFolder, Server}
+use Rattle.base_sample.specs.declared.folder.fault.FolderFault.{FolderFault}
+use Rattle.base_sample.specs.declared.folder.fault.FolderFault.TheVariants as folders
+use Rattle.archive_lookup.specs.declared.stored.fault.ArchiveFault.{ArchiveFault}
+use Rattle.archive_lookup.specs.declared.stored.fault.ArchiveFault.TheVariants as archives
+use Rattle.cmd_types.specs.declared.stages.halt.Halt.{Halt}
+use Rattle.cmd_types.specs.declared.stages.halt.Halt.TheVariants.{Refused, Failed, NoMemory}
+use Rattle.cmd_types.specs.declared.stages.object.Object.TheVariants.{Repo, TheDataFolder, Server}
 use Rattle.cmd_backup_offline.specs.declared.fault.OfflineFault.{OfflineFault}
 use Rattle.cmd_rehearse.specs.declared.fault.StepFault.{StepFault}
 use Rattle.cmd_rehearse.specs.declared.fault.StepFault.TheVariants.{Create, Push, Take, Lost, HistoryDiffers, Recover, Examine}

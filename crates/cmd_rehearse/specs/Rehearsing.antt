@@ -6,16 +6,16 @@ use Rattle.base_model.specs.declared.labels.BackupKind.TheVariants.{Full, Incr}
 use Rattle.base_model.specs.Now.{NowRepresents}
 use Rattle.base_model.specs.Repository.{Backup, Stanza}
 use Rattle.base_model.specs.Text.{Text}
-use Rattle.archive_index.specs.declared.stored.files.Stored.{Stored}
-use Rattle.archive_index.specs.Stored.{AreStored}
+use Rattle.archive_lookup.specs.declared.stored.files.Stored.{Stored}
+use Rattle.archive_lookup.specs.Stored.{AreStored}
 use Rattle.expire_rules.specs.Condemned.{condemned_labels}
 use Rattle.expire_make.specs.Expiry.{listed}
 use Rattle.cmd_restore.specs.Restoring.{Before, Recovers}
 use Rattle.cmd_verify.specs.Verifying.{IsVerified, EndsWithNone}
-use Rattle.cmd_terms.specs.declared.stages.halt.Halt.{Halt}
-use Rattle.cmd_terms.specs.declared.stages.halt.Halt.TheVariants.{Refused}
-use Rattle.cmd_terms.specs.declared.stages.outcome.Outcome.{Outcome}
-use Rattle.cmd_terms.specs.declared.stages.outcome.Outcome.TheVariants.{Finished, Absent, FindingsFound}
+use Rattle.cmd_types.specs.declared.stages.halt.Halt.{Halt}
+use Rattle.cmd_types.specs.declared.stages.halt.Halt.TheVariants.{Refused}
+use Rattle.cmd_types.specs.declared.stages.outcome.Outcome.{Outcome}
+use Rattle.cmd_types.specs.declared.stages.outcome.Outcome.TheVariants.{Finished, Absent, FindingsFound}
 use Rattle.cmd_rehearse.specs.declared.backup_totals.Amount.{Amount}
 use Rattle.cmd_rehearse.specs.declared.backup_totals.Counted.TheVariants.{All, Own, Filled}
 use Rattle.cmd_rehearse.specs.declared.fault.RehearseFault.{RehearseFault}

@@ -1,7 +1,7 @@
 -- What a rehearsal reports at its end, a line for each step (own).
 use Rattle.std.specs.Prelude.{ℕ, ◌++◌, codes, decimal}
 use Rattle.base_model.specs.Text.{Text}
-use Rattle.cmd_rehearse_sample.specs.Folder.{file_count, segment_count}
+use Rattle.base_sample.specs.Folder.{file_count, segment_count}
 use Rattle.cmd_rehearse.specs.declared.backup_totals.Amount.{Amount}
 use Rattle.cmd_rehearse.specs.declared.telling.Summary.{Summary}
 

@@ -1,7 +1,7 @@
 -- The status and the message of each refusal (own).
 use Rattle.std.specs.Prelude.{ℕ, ◌++◌, codes, string_bytes}
 use Rattle.base_model.specs.Text.{Text}
-use Rattle.cmd_terms.specs.StagesTexts.{shown, history_text}
+use Rattle.cmd_types.specs.StagesTexts.{shown, history_text}
 use Rattle.cmd_stanza_create.specs.Texts.{create_message}
 use Rattle.cmd_archive_push.specs.Texts.{push_message}
 use Rattle.cmd_backup_offline.specs.Texts.{offline_message}

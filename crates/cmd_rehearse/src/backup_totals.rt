@@ -4,8 +4,8 @@ ghost use Rattle.base_devices.specs.Cause.{Rises};
 ghost use Rattle.base_devices.specs.States.{Looks};
 ghost use Rattle.base_model.specs.Values.{file_entry_of};
 ghost use Rattle.backup_record.specs.Making.{size_of};
-ghost use Rattle.cmd_terms.specs.declared.stages.object.Object.TheVariants.{Repo as TheRepo};
-ghost use Rattle.cmd_terms.specs.Halts.{HaltCause, Only};
+ghost use Rattle.cmd_types.specs.declared.stages.object.Object.TheVariants.{Repo as TheRepo};
+ghost use Rattle.cmd_types.specs.Halts.{HaltCause, Only};
 ghost use Rattle.cmd_rehearse.specs.Causes.{StepCause};
 ghost use Rattle.cmd_rehearse.specs.Counting.{is_counted, amount_of, ShowsLast};
 
@@ -14,7 +14,7 @@ use crate::fault::{StepFault, of_base};
 use base_devices::Disk;
 use base_model::{BackupKind, FileEntry};
 use cmd_backup_offline::load_base;
-use cmd_terms::Halt;
+use cmd_types::Halt;
 use std::alloc::Global;
 
 /// This many files, of this many bytes.

@@ -2,13 +2,13 @@
 ghost use Rattle.std.specs.Prelude.{◌≡◌};
 ghost use Rattle.cmd_rehearse.specs.Faults.{of_create, of_push, of_info, of_folder, of_base, of_offline, of_expire, of_restore, of_all, of_examine, of_step};
 
-use archive_index::ArchiveFault;
+use archive_lookup::ArchiveFault;
+use base_sample::FolderFault;
 use cmd_archive_push::PushFault;
 use cmd_backup_offline::OfflineFault;
-use cmd_rehearse_sample::FolderFault;
 use cmd_restore::RestoreCommandFault;
 use cmd_stanza_create::CreateFault;
-use cmd_terms::{Halt, Object};
+use cmd_types::{Halt, Object};
 use cmd_verify::VerifyCommandFault;
 use expire_make::ExpireFault;
 use repo_pair::InfoFault;

@@ -3,14 +3,14 @@ ghost use Rattle.std.specs.Prelude.{◌≡◌, ◌≤◌, ◌∷◌, ◌++◌, �
 ghost use Rattle.base_devices.specs.States.{Frame};
 ghost use Rattle.base_model.specs.Repository.{Backup};
 ghost use Rattle.options_table.specs.Values.{is_stanza};
-ghost use Rattle.cmd_rehearse_sample.specs.Having.{IsEmpty};
-ghost use Rattle.base_traces.specs.Beside.{StaysBeside};
+ghost use Rattle.base_sample.specs.Having.{IsEmpty};
+ghost use Rattle.base_crash_lists.specs.Beside.{StaysBeside};
 ghost use Rattle.worker_pool.specs.Run.{AreReady};
-ghost use Rattle.cmd_terms.specs.declared.stages.plan.SyncScope.TheVariants.{Whole};
-ghost use Rattle.cmd_terms.specs.Halts.{HaltCause};
-ghost use Rattle.cmd_terms.specs.Plans.{archive_lock, backup_lock};
-ghost use Rattle.cmd_terms.specs.Reached.{reached_by};
-ghost use Rattle.cmd_terms.specs.DisksEffect.{RepoEffect};
+ghost use Rattle.cmd_types.specs.declared.stages.plan.SyncScope.TheVariants.{Whole};
+ghost use Rattle.cmd_types.specs.Halts.{HaltCause};
+ghost use Rattle.cmd_types.specs.Plans.{archive_lock, backup_lock};
+ghost use Rattle.cmd_types.specs.Reached.{reached_by};
+ghost use Rattle.cmd_types.specs.DisksEffect.{RepoEffect};
 ghost use Rattle.cmd_rehearse.specs.Advancing.{Carries, StaysOpen};
 ghost use Rattle.cmd_rehearse.specs.Causes.{PrefixCause, RehearseCause, Fails};
 ghost use Rattle.cmd_rehearse.specs.Commands.{rehearsed, keeps_one};
@@ -25,8 +25,8 @@ use crate::order::RehearseOrder;
 use crate::stanza_setup::check_new;
 use crate::telling::{Summary, summary_of};
 use base_devices::{Clock, DataFolder, Disk, Link, Locks, Scheduler, ServerConnection};
-use cmd_rehearse_sample::make_cluster;
-use cmd_terms::{Halt, Outcome};
+use base_sample::make_cluster;
+use cmd_types::{Halt, Outcome};
 use std::alloc::{AllocError, Global};
 
 // How many findings a verification reported.

@@ -8,7 +8,7 @@ use cmd_archive_push::push_message;
 use cmd_backup_offline::offline_message;
 use cmd_restore::restore_message;
 use cmd_stanza_create::create_message;
-use cmd_terms::{bytes_of, history_text, quoted};
+use cmd_types::{bytes_of, history_text, quoted};
 use cmd_verify::verify_message;
 use std::alloc::Global;
 

@@ -9,10 +9,10 @@ use Rattle.base_model.specs.Names.{backup_info}
 use Rattle.base_model.specs.Pair.{PairIs}
 use Rattle.base_model.specs.Text.{Text}
 use Rattle.base_model.specs.Values.{BackupInfo, Manifest}
-use Rattle.cmd_terms.specs.declared.stages.object.Object.{Object}
-use Rattle.cmd_terms.specs.declared.stages.object.Object.TheVariants.{Repo, TheDataFolder}
-use Rattle.cmd_terms.specs.Halts.{Only}
-use Rattle.cmd_terms.specs.Risen.{none, rose_in}
+use Rattle.cmd_types.specs.declared.stages.object.Object.{Object}
+use Rattle.cmd_types.specs.declared.stages.object.Object.TheVariants.{Repo, TheDataFolder}
+use Rattle.cmd_types.specs.Halts.{Only}
+use Rattle.cmd_types.specs.Risen.{none, rose_in}
 use Rattle.cmd_restore.specs.declared.fault.RestoreCommandFault.{RestoreCommandFault}
 use Rattle.cmd_restore.specs.declared.fault.RestoreCommandFault.TheVariants as faults
 use Rattle.cmd_restore.specs.Choosing.{OnList, ChooseCause}

@@ -17,8 +17,8 @@ use Rattle.base_model.specs.Represents.{HasStanza, IsManifestOf, backup_value}
 use Rattle.base_model.specs.Text.{Text, In}
 use Rattle.base_model.specs.Values.{BackupInfo, Entry, Manifest}
 use Rattle.repo_keys.proofs.Numbers.{map_in}
-use Rattle.repo_unique.proofs.Lists.{one_list}
-use Rattle.repo_unique.proofs.Manifests.{one_manifest}
+use Rattle.repo_text_lemmas.proofs.Lists.{one_list}
+use Rattle.repo_text_lemmas.proofs.Manifests.{one_manifest}
 use Rattle.worker_pool.specs.Payloads.{AllRead}
 use Rattle.restore_make.specs.Options.{Options}
 use Rattle.restore_make.specs.Finished.{AreKnown, Restores}

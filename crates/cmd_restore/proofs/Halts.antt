@@ -4,10 +4,10 @@ use Rattle.std.specs.Prelude.{IfErr, IsErrAnd}
 use Rattle.base_devices.specs.Cause.{Rises, HasCause}
 use Rattle.base_devices.specs.declared.stop.DeviceError.{DeviceError}
 use Rattle.base_devices.specs.declared.stop.DeviceError.TheVariants as stops
-use Rattle.cmd_terms.specs.declared.stages.object.Object.{Object}
-use Rattle.cmd_terms.specs.declared.stages.halt.Halt.{Halt}
-use Rattle.cmd_terms.specs.declared.stages.halt.Halt.TheVariants.{Refused, Failed, NoMemory}
-use Rattle.cmd_terms.specs.Halts.{HaltCause, Only, halt_of}
+use Rattle.cmd_types.specs.declared.stages.object.Object.{Object}
+use Rattle.cmd_types.specs.declared.stages.halt.Halt.{Halt}
+use Rattle.cmd_types.specs.declared.stages.halt.Halt.TheVariants.{Refused, Failed, NoMemory}
+use Rattle.cmd_types.specs.Halts.{HaltCause, Only, halt_of}
 
 pub halt_as : {E : Type 0} (P Q : E → Type 0) (F G : Object → Type 0) → ((e : E) → P e → Q e) → ((o : Object) → F o → G o) → (h : Halt E) → HaltCause P F h → HaltCause Q G h
 halt_as P Q F G refused failed (Refused e) h = refused e h

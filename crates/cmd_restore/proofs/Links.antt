@@ -18,8 +18,8 @@ use Rattle.restore_make.proofs.Earlier.{finished_before}
 use Rattle.restore_make.proofs.Failing.{fails_before}
 use Rattle.restore_make.proofs.Filled.{all_gone}
 use Rattle.worker_pool.proofs.Links.{left_is}
-use Rattle.cmd_terms.specs.declared.stages.object.Object.TheVariants.{TheDataFolder}
-use Rattle.cmd_terms.specs.Halts.{HaltCause, Only}
+use Rattle.cmd_types.specs.declared.stages.object.Object.TheVariants.{TheDataFolder}
+use Rattle.cmd_types.specs.Halts.{HaltCause, Only}
 use Rattle.cmd_restore.specs.Filling.{of_fill, AreLost, CannotRead, FillCause}
 
 -- ---- the first links

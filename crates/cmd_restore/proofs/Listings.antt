@@ -7,7 +7,7 @@ use Rattle.base_devices.specs.declared.tree.Node.{Node}
 use Rattle.base_devices.specs.declared.tree.FolderEntry as rust_seen
 use Rattle.base_devices.specs.DataFolder.{Nodes, Held, IsTreeListing, shown}
 use Rattle.base_model.specs.Text.{Text, In}
-use Rattle.restore_parts.specs.Clearing.{seen_of}
+use Rattle.restore_steps.specs.Clearing.{seen_of}
 use Rattle.cmd_restore.specs.declared.fault.RestoreCommandFault.{RestoreCommandFault}
 use Rattle.cmd_restore.specs.declared.fault.RestoreCommandFault.TheVariants as faults
 use Rattle.cmd_restore.specs.Looking.{server_path, version_path, IsEmpty, IsFirst, IsOpen, FolderCause, IsListed, IsSeenOpen, HoldingCause, SeenCause}

@@ -1,9 +1,9 @@
 -- What a restore leaves of the data folder where it is refused.
 use Rattle.std.specs.Prelude.{Bool, true, false}
-use Rattle.cmd_terms.specs.declared.stages.halt.Halt.{Halt}
-use Rattle.cmd_terms.specs.declared.stages.halt.Halt.TheVariants.{Refused, Failed, NoMemory}
-use Rattle.cmd_terms.specs.declared.stages.object.Object.{Object}
-use Rattle.cmd_terms.specs.declared.stages.object.Object.TheVariants.{Repo}
+use Rattle.cmd_types.specs.declared.stages.halt.Halt.{Halt}
+use Rattle.cmd_types.specs.declared.stages.halt.Halt.TheVariants.{Refused, Failed, NoMemory}
+use Rattle.cmd_types.specs.declared.stages.object.Object.{Object}
+use Rattle.cmd_types.specs.declared.stages.object.Object.TheVariants.{Repo}
 use Rattle.cmd_restore.specs.declared.fault.RestoreCommandFault.{RestoreCommandFault}
 use Rattle.cmd_restore.specs.declared.fault.RestoreCommandFault.TheVariants.{WorkersLost, Unread, FileDamaged}
 

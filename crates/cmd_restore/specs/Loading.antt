@@ -13,8 +13,8 @@ use Rattle.repo_pair.specs.declared.fault.InfoFault.{InfoFault}
 use Rattle.repo_pair.specs.declared.fault.InfoFault.TheVariants.{Missing, Damaged, Disk, NoMemory}
 use Rattle.repo_pair.specs.Causes.{AreDamaged}
 use Rattle.repo_manifest.specs.ManifestForm.{IsManifestForm}
-use Rattle.cmd_terms.specs.declared.stages.object.Object.{Object}
-use Rattle.cmd_terms.specs.declared.stages.object.Object.TheVariants.{Repo}
+use Rattle.cmd_types.specs.declared.stages.object.Object.{Object}
+use Rattle.cmd_types.specs.declared.stages.object.Object.TheVariants.{Repo}
 use Rattle.cmd_restore.specs.declared.fault.RestoreCommandFault.{RestoreCommandFault}
 use Rattle.cmd_restore.specs.declared.fault.RestoreCommandFault.TheVariants.{ManifestDamaged}
 

@@ -5,7 +5,7 @@ use Rattle.base_text.specs.Sum.{sum_text}
 use Rattle.base_model.specs.declared.labels.Label.{Label}
 use Rattle.base_model.specs.Names.{label_text}
 use Rattle.base_model.specs.Text.{Text}
-use Rattle.cmd_terms.specs.StagesTexts.{shown, damage_text}
+use Rattle.cmd_types.specs.StagesTexts.{shown, damage_text}
 use Rattle.cmd_restore.specs.declared.fault.RestoreCommandFault.{RestoreCommandFault}
 use Rattle.cmd_restore.specs.declared.fault.RestoreCommandFault.TheVariants.{SetForm, NoBackup, SetMissing, Running, NotEmpty, ManifestDamaged, WorkersLost, Unread, FileDamaged}
 

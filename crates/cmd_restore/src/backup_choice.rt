@@ -3,13 +3,13 @@ ghost use Rattle.std.specs.Prelude.{◌≡◌, ◌≢◌, true, false, map, IfOk
 ghost use Rattle.base_model.specs.InfoFiles.{IsBackupInfo, IsLabel};
 ghost use Rattle.base_model.specs.Text.{In};
 ghost use Rattle.base_model.specs.Values.{Entry as SpecEntry, backup_info_of, entry_of};
-ghost use Rattle.cmd_terms.specs.Halts.{HaltCause};
+ghost use Rattle.cmd_types.specs.Halts.{HaltCause};
 ghost use Rattle.cmd_restore.specs.Choosing.{IsChosen, ChooseCause};
 ghost use Rattle.cmd_restore.specs.Words.{IsSet};
 
 use crate::fault::{RestoreCommandFault, missing};
 use base_model::{BackupInfo, Entry, Label};
-use cmd_terms::Halt;
+use cmd_types::Halt;
 use std::alloc::Global;
 
 // Whether one of these backups has the label.

@@ -1,14 +1,14 @@
 // Why a restore is refused.
 ghost use Rattle.std.specs.Prelude.{◌≡◌, IfOk};
 ghost use Rattle.base_model.specs.InfoFiles.{IsLabel};
-ghost use Rattle.cmd_terms.specs.Halts.{HaltCause};
+ghost use Rattle.cmd_types.specs.Halts.{HaltCause};
 ghost use Rattle.cmd_restore.specs.Choosing.{ShowsMissing};
 ghost use Rattle.cmd_restore.specs.Filling.{of_fill};
 ghost use Rattle.cmd_restore.specs.Loading.{IsOtherLabel, ShowsDamage, ShowsForeign, ShowsPair, FailsPair};
 
 use base_model::Label;
 use base_text::Sum;
-use cmd_terms::{Halt, Object};
+use cmd_types::{Halt, Object};
 use repo_info::MemberFault;
 use repo_names::label_text;
 use repo_pair::InfoFault;

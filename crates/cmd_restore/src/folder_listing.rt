@@ -4,15 +4,15 @@ ghost use Rattle.std.specs.List.{list_any};
 ghost use Rattle.base_devices.specs.Cause.{Rises};
 ghost use Rattle.base_devices.specs.States.{LooksAt};
 ghost use Rattle.base_devices.specs.DataFolder.{IsTreeListing};
-ghost use Rattle.restore_parts.specs.Clearing.{seen_of};
-ghost use Rattle.cmd_terms.specs.declared.stages.object.Object.TheVariants.{TheDataFolder as TheFolder};
-ghost use Rattle.cmd_terms.specs.Halts.{HaltCause, Only};
+ghost use Rattle.restore_steps.specs.Clearing.{seen_of};
+ghost use Rattle.cmd_types.specs.declared.stages.object.Object.TheVariants.{TheDataFolder as TheFolder};
+ghost use Rattle.cmd_types.specs.Halts.{HaltCause, Only};
 ghost use Rattle.cmd_restore.specs.Looking.{version_path, IsOpen, IsSeenOpen, FolderCause, HoldingCause, SeenCause};
 
 use crate::fault::RestoreCommandFault;
 use backup_plan::is_running;
 use base_devices::{DataFolder, FolderEntry};
-use cmd_terms::{Halt, Object, halted};
+use cmd_types::{Halt, Object, halted};
 use std::alloc::Global;
 
 // A file that each cluster has.

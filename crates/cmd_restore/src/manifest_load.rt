@@ -5,14 +5,14 @@ ghost use Rattle.base_devices.specs.States.{Looks};
 ghost use Rattle.base_model.specs.InfoFiles.{IsLabel};
 ghost use Rattle.base_model.specs.ManifestText.{IsManifest};
 ghost use Rattle.base_model.specs.Values.{manifest_of};
-ghost use Rattle.cmd_terms.specs.declared.stages.object.Object.TheVariants.{Repo as TheRepo};
-ghost use Rattle.cmd_terms.specs.Halts.{HaltCause, Only};
+ghost use Rattle.cmd_types.specs.declared.stages.object.Object.TheVariants.{Repo as TheRepo};
+ghost use Rattle.cmd_types.specs.Halts.{HaltCause, Only};
 ghost use Rattle.cmd_restore.specs.Loading.{HasManifest, ShowsForeign, LoadCause};
 
 use crate::fault::{RestoreCommandFault, foreign, of_pair};
 use base_devices::Disk;
 use base_model::{Label, Manifest};
-use cmd_terms::Halt;
+use cmd_types::Halt;
 use repo_manifest::load_manifest;
 use std::alloc::Global;
 

@@ -1,12 +1,12 @@
 // What is to be restored.
 ghost use Rattle.std.specs.Prelude.{◌≡◌, ◌<◌, ◌^◌, length, option_map, IfOk, IfErr};
-ghost use Rattle.cmd_terms.specs.Halts.{HaltCause};
+ghost use Rattle.cmd_types.specs.Halts.{HaltCause};
 ghost use Rattle.cmd_restore.specs.Words.{ShowsSet, WordCause, IsSet-prop, IsSet};
 ghost use Rattle.cmd_restore.specs.Fetching.{recovery_type};
 
 use crate::fault::RestoreCommandFault;
 use base_model::Label;
-use cmd_terms::Halt;
+use cmd_types::Halt;
 use repo_names::read_label;
 
 /// How the server is to recover (pgBackRest command reference, "Restore Command", option `type`).

@@ -7,11 +7,11 @@ ghost use Rattle.base_model.specs.Now.{NowRepresents};
 ghost use Rattle.base_model.specs.Repository.{Stanza};
 ghost use Rattle.options_table.specs.Values.{is_stanza};
 ghost use Rattle.worker_pool.specs.Run.{AreReady};
-ghost use Rattle.restore_parts.specs.Clearing.{control_path, HasNone};
-ghost use Rattle.cmd_terms.specs.Halts.{HaltCause};
-ghost use Rattle.cmd_terms.specs.Reached.{OnFinished};
-ghost use Rattle.cmd_terms.specs.Risen.{none, rose_in};
-ghost use Rattle.cmd_stages.specs.Readies.{IsBackupOf};
+ghost use Rattle.restore_steps.specs.Clearing.{control_path, HasNone};
+ghost use Rattle.cmd_types.specs.Halts.{HaltCause};
+ghost use Rattle.cmd_types.specs.Reached.{OnFinished};
+ghost use Rattle.cmd_types.specs.Risen.{none, rose_in};
+ghost use Rattle.cmd_setup.specs.Readies.{IsBackupOf};
 ghost use Rattle.cmd_restore.specs.Ends.{leaves_folder};
 ghost use Rattle.cmd_restore.specs.Fetching.{recovery_type, options_by};
 ghost use Rattle.cmd_restore.specs.Restoring.{Recovers, GivesBackup};
@@ -26,7 +26,7 @@ use crate::order::RecoverOrder;
 use crate::texts::restored_line;
 use base_devices::{DataFolder, Disk, Link, Scheduler};
 use base_model::BackupInfo;
-use cmd_terms::{Halt, Outcome};
+use cmd_types::{Halt, Outcome};
 use std::alloc::Global;
 
 /// Puts a backup of the stanza into the data folder, and nothing else: the one that is asked for, or the last. The

@@ -6,7 +6,7 @@ ghost use Rattle.cmd_restore.specs.Texts.{restore_status, restore_message, resto
 use crate::fault::RestoreCommandFault;
 use base_model::Label;
 use base_text::{NoMemory, Sum};
-use cmd_terms::{bytes_of, damage_text, quoted};
+use cmd_types::{bytes_of, damage_text, quoted};
 use repo_names::label_text;
 use std::alloc::Global;
 

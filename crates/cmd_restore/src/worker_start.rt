@@ -3,13 +3,13 @@ ghost use Rattle.std.specs.Prelude.{◌≡◌, ◌<◌, ◌^◌, [], map, take, 
 ghost use Rattle.worker_protocol.specs.Frames.{FitsRoots};
 ghost use Rattle.worker_protocol.specs.Views.{roots_of};
 ghost use Rattle.worker_pool.specs.Run.{AreReady, Left};
-ghost use Rattle.cmd_terms.specs.Halts.{HaltCause};
+ghost use Rattle.cmd_types.specs.Halts.{HaltCause};
 ghost use Rattle.cmd_restore.specs.Filling.{StartCause};
 
 use crate::fault::RestoreCommandFault;
 use crate::order::RecoverOrder;
 use base_devices::Link;
-use cmd_terms::Halt;
+use cmd_types::Halt;
 use std::alloc::{AllocError, Global};
 use worker_pool::{DispatchFault, Lost, setup};
 use worker_protocol::Roots;

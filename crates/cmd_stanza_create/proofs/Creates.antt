@@ -23,17 +23,17 @@ use Rattle.repo_stanza.specs.declared.fault.StanzaFault.{StanzaFault}
 use Rattle.repo_stanza.specs.Causes.{CreateCause as StanzaCause, OnContent, IfNew, IfSame}
 use Rattle.repo_stanza.specs.Pairs.{LacksStanza, HasStanzaOf}
 use Rattle.archive_store.specs.Still.{IsStill, rests_none, still_self}
-use Rattle.cmd_terms.specs.declared.stages.object.Object.{Object}
-use Rattle.cmd_terms.specs.declared.stages.object.Object.TheVariants as objects
-use Rattle.cmd_terms.specs.declared.stages.halt.Halt.{Halt}
-use Rattle.cmd_terms.specs.declared.stages.halt.Halt.TheVariants.{Refused, Failed, NoMemory}
-use Rattle.cmd_terms.specs.declared.stages.outcome.Outcome.{Outcome}
-use Rattle.cmd_terms.specs.Halts.{HaltCause, Only}
-use Rattle.cmd_terms.specs.Reached.{reached_by, back_if, fails_early}
-use Rattle.cmd_terms.specs.Risen.{none, rose_in}
-use Rattle.cmd_terms.specs.declared.stages.plan.SyncScope.TheVariants.{Whole}
-use Rattle.cmd_terms.specs.DisksEffect.{Reached, to_end, turned_back, stopped, OnNone, IsPart, DoesPart, DoesWhole, RepoEffect}
-use Rattle.cmd_terms.proofs.Doing.{rests_part, rests_does}
+use Rattle.cmd_types.specs.declared.stages.object.Object.{Object}
+use Rattle.cmd_types.specs.declared.stages.object.Object.TheVariants as objects
+use Rattle.cmd_types.specs.declared.stages.halt.Halt.{Halt}
+use Rattle.cmd_types.specs.declared.stages.halt.Halt.TheVariants.{Refused, Failed, NoMemory}
+use Rattle.cmd_types.specs.declared.stages.outcome.Outcome.{Outcome}
+use Rattle.cmd_types.specs.Halts.{HaltCause, Only}
+use Rattle.cmd_types.specs.Reached.{reached_by, back_if, fails_early}
+use Rattle.cmd_types.specs.Risen.{none, rose_in}
+use Rattle.cmd_types.specs.declared.stages.plan.SyncScope.TheVariants.{Whole}
+use Rattle.cmd_types.specs.DisksEffect.{Reached, to_end, turned_back, stopped, OnNone, IsPart, DoesPart, DoesWhole, RepoEffect}
+use Rattle.cmd_types.proofs.Doing.{rests_part, rests_does}
 use Rattle.cmd_stanza_create.specs.declared.fault.CreateFault.{CreateFault}
 use Rattle.cmd_stanza_create.specs.declared.fault.CreateFault.TheVariants as faults
 use Rattle.cmd_stanza_create.specs.Server.{Server}

@@ -1,7 +1,7 @@
 -- What the status of a refusal says about it.
 use Rattle.std.proofs.Common.{◌⊎◌, ◌≤◌, ℕ, arith, inl, inr, List, Option}
-use Rattle.cmd_terms.proofs.Statuses.{server_over}
-use Rattle.cmd_terms.specs.declared.stages.halt.Halt.TheVariants.{Refused}
+use Rattle.cmd_types.proofs.Statuses.{server_over}
+use Rattle.cmd_types.specs.declared.stages.halt.Halt.TheVariants.{Refused}
 use Rattle.cmd_stanza_create.specs.declared.fault.CreateFault.{CreateFault}
 use Rattle.cmd_stanza_create.specs.declared.fault.CreateFault.TheVariants as faults
 use Rattle.cmd_stanza_create.specs.Talking.{Ended, Closes, IsServerRefusal}

@@ -16,11 +16,11 @@ use Rattle.repo_stanza.specs.Causes.{CreateCause as StanzaCause}
 use Rattle.repo_stanza.specs.ControlFile.{first_cluster}
 use Rattle.repo_stanza.specs.Pairs.{LacksStanza, HasStanzaOf, PairsAgree}
 use Rattle.repo_stanza.specs.Unused.{IsUnused}
-use Rattle.cmd_terms.specs.declared.stages.object.Object.TheVariants.{Repo as TheRepo}
-use Rattle.cmd_terms.specs.declared.stages.halt.Halt.{Halt}
-use Rattle.cmd_terms.specs.declared.stages.halt.Halt.TheVariants.{Refused, Failed, NoMemory}
-use Rattle.cmd_terms.specs.declared.stages.outcome.Outcome.{Outcome}
-use Rattle.cmd_terms.specs.Reached.{OnFinished}
+use Rattle.cmd_types.specs.declared.stages.object.Object.TheVariants.{Repo as TheRepo}
+use Rattle.cmd_types.specs.declared.stages.halt.Halt.{Halt}
+use Rattle.cmd_types.specs.declared.stages.halt.Halt.TheVariants.{Refused, Failed, NoMemory}
+use Rattle.cmd_types.specs.declared.stages.outcome.Outcome.{Outcome}
+use Rattle.cmd_types.specs.Reached.{OnFinished}
 use Rattle.cmd_stanza_create.specs.declared.fault.CreateFault.{CreateFault}
 use Rattle.cmd_stanza_create.specs.declared.fault.CreateFault.TheVariants.{Server as Talked, InfoDamaged, HistoryDiffers, StanzaMismatch, ArchiveLost, FilesFound}
 use Rattle.cmd_stanza_create.specs.Server.{Server}

@@ -7,9 +7,9 @@ use Rattle.server_talk.specs.Fault.{Fault as Refusal}
 use Rattle.server_talk.specs.Reads.{Fails, IsOutside}
 pub use Rattle.server_talk.specs.Sends.{Ended}
 use Rattle.server_talk.specs.System.{Shows, questions}
-use Rattle.cmd_terms.specs.declared.stages.object.Object.TheVariants.{Server as TheServer}
-use Rattle.cmd_terms.specs.declared.stages.halt.Halt.{Halt}
-use Rattle.cmd_terms.specs.declared.stages.halt.Halt.TheVariants.{Refused, Failed, NoMemory}
+use Rattle.cmd_types.specs.declared.stages.object.Object.TheVariants.{Server as TheServer}
+use Rattle.cmd_types.specs.declared.stages.halt.Halt.{Halt}
+use Rattle.cmd_types.specs.declared.stages.halt.Halt.TheVariants.{Refused, Failed, NoMemory}
 use Rattle.cmd_stanza_create.specs.declared.fault.CreateFault.{CreateFault}
 use Rattle.cmd_stanza_create.specs.declared.fault.CreateFault.TheVariants.{Server as Talked}
 use Rattle.cmd_stanza_create.specs.Server.{Server, socket_path}

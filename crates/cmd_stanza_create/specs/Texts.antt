@@ -1,8 +1,8 @@
 -- The status and the message of each refusal of stanza-create (own).
 use Rattle.std.specs.Prelude.{ℕ, ◌++◌, codes, decimal, string_bytes}
 use Rattle.base_model.specs.Text.{Text}
-use Rattle.cmd_terms.specs.StagesTexts.{shown, damaged_text, history_text, mismatch_text}
-use Rattle.cmd_terms.specs.ServerTextsTexts.{server_status, server_message}
+use Rattle.cmd_types.specs.StagesTexts.{shown, damaged_text, history_text, mismatch_text}
+use Rattle.cmd_types.specs.ServerTextsTexts.{server_status, server_message}
 use Rattle.cmd_stanza_create.specs.declared.fault.CreateFault.{CreateFault}
 use Rattle.cmd_stanza_create.specs.declared.fault.CreateFault.TheVariants.{Server, InfoDamaged, HistoryDiffers, StanzaMismatch, ArchiveLost, FilesFound}
 

@@ -4,15 +4,15 @@ ghost use Rattle.base_devices.specs.Cause.{Rises};
 ghost use Rattle.server_talk.specs.declared.session.fault.ServerFault.TheVariants.{NoMemory as OutOfMemory};
 ghost use Rattle.server_talk.specs.Reads.{HasCause, IsOutside};
 ghost use Rattle.server_talk.specs.System.{questions};
-ghost use Rattle.cmd_terms.specs.declared.stages.object.Object.TheVariants.{Server as TheServer};
-ghost use Rattle.cmd_terms.specs.Halts.{HaltCause, Only};
+ghost use Rattle.cmd_types.specs.declared.stages.object.Object.TheVariants.{Server as TheServer};
+ghost use Rattle.cmd_types.specs.Halts.{HaltCause, Only};
 ghost use Rattle.cmd_stanza_create.specs.Server.{server_view, socket_path};
 ghost use Rattle.cmd_stanza_create.specs.Talking.{Asks, Ended, IsOf, ShowsFault, AskCause, Closes, server_halt};
 
 use crate::fault::CreateFault;
 use crate::server::Server;
 use base_devices::ServerConnection;
-use cmd_terms::{Halt, Object};
+use cmd_types::{Halt, Object};
 use server_talk::{ServerFault, Session, check_system, close, open};
 use std::alloc::{AllocError, Global};
 

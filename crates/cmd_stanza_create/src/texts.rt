@@ -4,7 +4,7 @@ ghost use Rattle.cmd_stanza_create.specs.Texts.{create_status, create_message};
 
 use crate::fault::CreateFault;
 use base_text::NoMemory;
-use cmd_terms::{
+use cmd_types::{
     bytes_of, damaged_text, history_text, mismatch_text, quoted, server_message, server_status,
 };
 use std::alloc::Global;

@@ -5,7 +5,7 @@ use Rattle.std.proofs.lemmas.List.{append-nil, take_more, map-append}
 use Rattle.base_devices.specs.Content.{Content}
 use Rattle.base_model.specs.Text.{Text, In}
 use Rattle.base_model.proofs.Pushed.{in_left, in_either}
-use Rattle.archive_index.proofs.Orders.{in_map}
+use Rattle.archive_lookup.proofs.Orders.{in_map}
 use Rattle.cmd_verify.specs.declared.findings.finding.Finding.{Finding}
 use Rattle.cmd_verify.specs.What.{What, Shows}
 use Rattle.cmd_verify.specs.Adding.{Are, Adds, OfSome}

@@ -7,7 +7,7 @@ use Rattle.base_model.specs.declared.wal.Span.{Span}
 use Rattle.base_model.specs.declared.wal.ArchiveId.{ArchiveId}
 use Rattle.base_model.specs.declared.wal.ArchiveName.{ArchiveName}
 use Rattle.base_model.specs.declared.wal.ArchiveName.TheVariants.{Segment as Whole}
-use Rattle.archive_index.specs.declared.stored.files.Stored.{Stored}
+use Rattle.archive_lookup.specs.declared.stored.files.Stored.{Stored}
 use Rattle.base_model.specs.Text.{Text, In}
 use Rattle.base_model.specs.ManifestText.{position}
 use Rattle.base_model.specs.Repository.{IsWithinSpan}

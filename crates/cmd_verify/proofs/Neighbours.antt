@@ -16,17 +16,17 @@ use Rattle.base_model.specs.declared.wal.ArchiveName.TheVariants.{Segment as Who
 use Rattle.base_model.specs.Text.{Text, ◌⫽◌, In}
 use Rattle.base_model.specs.Names.{archive_folder, id_text, segment_text, segment_folder, wal_text}
 use Rattle.base_model.specs.Represents.{IsArchivePlace}
-use Rattle.archive_index.specs.declared.stored.files.Stored.{Stored}
-use Rattle.archive_index.specs.Ends.{RepresentsAt}
-use Rattle.archive_index.specs.Looks.{dash, file_prefix, file_place, sum_digits}
-use Rattle.archive_index.specs.Paths.{Lacks, below_id, has_sum}
-use Rattle.archive_index.specs.Stored.{AreStored, IsStoredFile, archive_path}
-use Rattle.archive_index.proofs.Bounding.{one_place}
-use Rattle.archive_index.proofs.Cuts.{divided, lacks_append}
-use Rattle.archive_index.proofs.Looked.{place_is, with_prefix}
-use Rattle.archive_index.proofs.OnePath.{below_cut, file_cut, folder_lacks, id_lacks, id_of_text, segment_lacks, wal_injective}
-use Rattle.archive_index.proofs.Orders.{before_on, in_of, not_itself}
-use Rattle.archive_index.proofs.Picked.{each_after}
+use Rattle.archive_lookup.specs.declared.stored.files.Stored.{Stored}
+use Rattle.archive_lookup.specs.Ends.{RepresentsAt}
+use Rattle.archive_lookup.specs.Looks.{dash, file_prefix, file_place, sum_digits}
+use Rattle.archive_lookup.specs.Paths.{Lacks, below_id, has_sum}
+use Rattle.archive_lookup.specs.Stored.{AreStored, IsStoredFile, archive_path}
+use Rattle.archive_lookup.proofs.Bounding.{one_place}
+use Rattle.archive_lookup.proofs.Cuts.{divided, lacks_append}
+use Rattle.archive_lookup.proofs.Looked.{place_is, with_prefix}
+use Rattle.archive_lookup.proofs.OnePath.{below_cut, file_cut, folder_lacks, id_lacks, id_of_text, segment_lacks, wal_injective}
+use Rattle.archive_lookup.proofs.Orders.{before_on, in_of, not_itself}
+use Rattle.archive_lookup.proofs.Picked.{each_after}
 use Rattle.cmd_verify.specs.declared.findings.finding.Finding.{Finding}
 use Rattle.cmd_verify.specs.What.{What, Shows, MemberAbsent, MemberBad, MembersDiffer, Absent, Short, Digest, Second, Gap, Reference, Unlike}
 use Rattle.cmd_verify.specs.Adding.{Adds}

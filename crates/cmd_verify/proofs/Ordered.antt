@@ -10,7 +10,7 @@ use Rattle.std.specs.List.Sorted.{IsStrictlySortedBy, IsSorted, IsPermutation}
 use Rattle.std.proofs.lemmas.List.Kept.{IsStrictlySortedBy-dedup, Any-dedup, Contains-from_dedup}
 use Rattle.std.proofs.lemmas.List.Sorted.{Contains-permutation, IsPermutation-sym}
 use Rattle.base_model.specs.Text.{Text, In, text_cmp}
-use Rattle.archive_index.proofs.Orders.{in_of, contains_of}
+use Rattle.archive_lookup.proofs.Orders.{in_of, contains_of}
 use Rattle.cmd_verify.specs.declared.findings.finding.Finding.{Finding}
 use Rattle.cmd_verify.specs.declared.findings.finding.FindingKind.{FindingKind}
 use Rattle.cmd_verify.specs.declared.findings.finding.FindingKind.TheVariants.{MemberAbsent, MemberBad, MembersDiffer, Absent, Short, Digest, Second, Gap, Reference, Unlike}

@@ -24,12 +24,12 @@ use Rattle.base_model.specs.Place.{place}
 use Rattle.base_model.specs.Repository.{Backup, Archived, Stanza, IsSoundStanza, IsSoundBackup, AreSound, AreApart, IsWithinSpan, id_of}
 use Rattle.base_model.specs.Represents.{HasStanza, IsManifestOf, IsArchivePlace, stored_name, backup_value, archive_value}
 use Rattle.base_model.specs.Log.{Lists}
-use Rattle.archive_index.specs.Stored.{archive_path}
-use Rattle.archive_index.specs.Paths.{has_sum}
-use Rattle.archive_index.specs.Looks.{file_prefix, sum_digits}
-use Rattle.archive_index.proofs.OnePath.{one_path}
-use Rattle.archive_index.proofs.Looked.{with_prefix}
-use Rattle.archive_index.proofs.Orders.{in_map, from_map, not_itself}
+use Rattle.archive_lookup.specs.Stored.{archive_path}
+use Rattle.archive_lookup.specs.Paths.{has_sum}
+use Rattle.archive_lookup.specs.Looks.{file_prefix, sum_digits}
+use Rattle.archive_lookup.proofs.OnePath.{one_path}
+use Rattle.archive_lookup.proofs.Looked.{with_prefix}
+use Rattle.archive_lookup.proofs.Orders.{in_map, from_map, not_itself}
 use Rattle.cmd_verify.specs.What.{What, MemberAbsent, MemberBad, MembersDiffer, Absent, Short, Digest, Second, Gap, Reference, Unlike}
 use Rattle.cmd_verify.specs.Findings.{IsText, MemberDeviates, BothDeviate, PairDeviates, OfMain, OfCopy, OfBoth, segment_of, IsStoredName, FileDeviates, part, BytesDeviate, EntryDeviates, SpanDeviates, ReferenceDeviates, ManifestDeviates, OfEntry, OfSpan, OfReference, BackupDeviates, OfMembers, OfManifest, IsFinding, OfArchivePair, OfBackupPair, OfFile, OfBackup, OfListed, EntryIsUnlike}
 use Rattle.base_model.proofs.Pushed.{in_left}

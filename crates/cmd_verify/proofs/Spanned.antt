@@ -17,9 +17,9 @@ use Rattle.base_model.specs.ManifestText.{segments_per_log, IsWalPart}
 use Rattle.base_model.specs.Values.{Manifest}
 use Rattle.base_model.specs.Repository.{IsWithinSpan, id_of}
 use Rattle.base_model.specs.Represents.{IsArchivePlace}
-use Rattle.archive_index.specs.declared.stored.files.Stored.{Stored}
-use Rattle.archive_index.specs.Stored.{archive_path, AreStored}
-use Rattle.archive_index.proofs.OnePath.{one_path}
+use Rattle.archive_lookup.specs.declared.stored.files.Stored.{Stored}
+use Rattle.archive_lookup.specs.Stored.{archive_path, AreStored}
+use Rattle.archive_lookup.proofs.OnePath.{one_path}
 use Rattle.cmd_verify.specs.declared.findings.finding.Finding.{Finding}
 use Rattle.cmd_verify.specs.What.{What, MemberAbsent, MemberBad, MembersDiffer, Absent, Short, Digest, Second, Gap, Reference, Unlike}
 use Rattle.cmd_verify.specs.Findings.{IsStored, SpanDeviates}

@@ -9,12 +9,12 @@ use Rattle.base_model.specs.declared.wal.Segment.{Segment}
 use Rattle.base_model.specs.declared.wal.ArchiveName.{ArchiveName}
 use Rattle.base_model.specs.declared.wal.ArchiveName.TheVariants.{Segment as Whole, Partial, History, Backup}
 use Rattle.base_model.specs.Text.{Text}
-use Rattle.archive_index.specs.declared.stored.files.Stored.{Stored}
+use Rattle.archive_lookup.specs.declared.stored.files.Stored.{Stored}
 use Rattle.base_model.specs.declared.wal.ArchiveId.{ArchiveId}
 use Rattle.base_model.specs.Names.{archive_folder}
 use Rattle.base_model.specs.Represents.{IsArchivePlace}
-use Rattle.archive_index.specs.Stored.{AreStored, IsStoredFile, known_sum, archive_path}
-use Rattle.archive_index.proofs.OnePath.{one_path}
+use Rattle.archive_lookup.specs.Stored.{AreStored, IsStoredFile, known_sum, archive_path}
+use Rattle.archive_lookup.proofs.OnePath.{one_path}
 use Rattle.cmd_verify.specs.declared.findings.finding.Finding.{Finding}
 use Rattle.cmd_verify.specs.declared.findings.finding.Mark.{Mark}
 use Rattle.cmd_verify.specs.declared.findings.place_sum.Lies.{Lies}

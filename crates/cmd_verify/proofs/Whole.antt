@@ -7,8 +7,8 @@ use Rattle.base_model.specs.declared.clusters.Cluster.{Cluster}
 use Rattle.base_model.specs.declared.labels.Label.{Label}
 use Rattle.base_model.specs.declared.files.Manifest.{Manifest as RustManifest}
 use Rattle.base_model.specs.declared.files.FileEntry.{FileEntry as RustEntry}
-use Rattle.archive_index.specs.declared.stored.files.Stored.{Stored}
-use Rattle.archive_index.specs.Stored.{AreStored}
+use Rattle.archive_lookup.specs.declared.stored.files.Stored.{Stored}
+use Rattle.archive_lookup.specs.Stored.{AreStored}
 use Rattle.cmd_verify.specs.Members.{ValueSo}
 use Rattle.base_model.specs.Text.{Text, In}
 use Rattle.base_model.specs.Names.{archive_info, backup_info, manifest_name}
@@ -17,7 +17,7 @@ use Rattle.base_model.specs.InfoFiles.{IsArchiveText, IsBackupText, IsLabel, IsB
 use Rattle.base_model.specs.ManifestText.{IsManifestText, IsManifest}
 use Rattle.base_model.specs.Pair.{PairIs}
 use Rattle.base_model.specs.Log.{Lists}
-use Rattle.archive_index.proofs.Orders.{in_map, from_map}
+use Rattle.archive_lookup.proofs.Orders.{in_map, from_map}
 use Rattle.cmd_verify.specs.declared.findings.finding.Finding.{Finding}
 use Rattle.cmd_verify.specs.What.{What, MemberAbsent, MemberBad, MembersDiffer, Absent, Short, Digest, Second, Gap, Reference, Unlike, Shows}
 use Rattle.cmd_verify.specs.Findings.{PairDeviates, FileDeviates, EntryDeviates, SpanDeviates, ReferenceDeviates, ManifestDeviates, OfEntry, OfSpan, OfReference, BackupDeviates, OfMembers, OfManifest, IsFinding, OfArchivePair, OfBackupPair, OfFile, OfBackup, OfListed, EntryIsUnlike, ListedDeviates}

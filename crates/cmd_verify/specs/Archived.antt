@@ -2,9 +2,9 @@
 use Rattle.std.specs.Prelude.{◌≡◌, ℕ, ◌+◌, ◌<◌, List, Some, IsSomeAnd, string_bytes}
 use Rattle.base_devices.specs.Content.{Content}
 use Rattle.base_model.specs.Text.{Text}
-use Rattle.archive_index.specs.declared.stored.files.Stored.{Stored}
+use Rattle.archive_lookup.specs.declared.stored.files.Stored.{Stored}
 use Rattle.cmd_verify.specs.What.{What, Second}
-use Rattle.archive_index.specs.Ends.{RepresentsAt}
+use Rattle.archive_lookup.specs.Ends.{RepresentsAt}
 use Rattle.cmd_verify.specs.Findings.{BytesDeviate, segment_of, IsSecond}
 
 -- the file has a sum in its name, and its bytes deviate from that

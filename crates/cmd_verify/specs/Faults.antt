@@ -4,9 +4,9 @@ use Rattle.base_devices.specs.Content.{Content}
 use Rattle.base_devices.specs.declared.stop.DeviceError.{DeviceError}
 use Rattle.base_devices.specs.declared.stop.DeviceError.TheVariants.{Failed, NoMemory as ErrorNoMemory}
 use Rattle.base_model.specs.Text.{Text}
-use Rattle.archive_index.specs.Causes.{AllCause}
-use Rattle.archive_index.specs.declared.stored.fault.ArchiveFault.{ArchiveFault}
-use Rattle.archive_index.specs.declared.stored.fault.ArchiveFault.TheVariants.{TooMany as ManyFiles, Disk as ArchiveDisk}
+use Rattle.archive_lookup.specs.Causes.{AllCause}
+use Rattle.archive_lookup.specs.declared.stored.fault.ArchiveFault.{ArchiveFault}
+use Rattle.archive_lookup.specs.declared.stored.fault.ArchiveFault.TheVariants.{TooMany as ManyFiles, Disk as ArchiveDisk}
 use Rattle.cmd_verify.specs.declared.findings.finding.LookFault.{LookFault}
 use Rattle.cmd_verify.specs.declared.findings.finding.LookFault.TheVariants as looks
 use Rattle.cmd_verify.specs.declared.findings.finding.VerifyFault.{VerifyFault}

@@ -7,7 +7,7 @@ use Rattle.base_model.specs.declared.wal.ArchiveName.TheVariants.{Segment as Who
 use Rattle.base_model.specs.Text.{Text, In}
 use Rattle.base_model.specs.ManifestText.{position}
 use Rattle.base_model.specs.Repository.{IsWithinSpan}
-use Rattle.archive_index.specs.declared.stored.files.Stored.{Stored}
+use Rattle.archive_lookup.specs.declared.stored.files.Stored.{Stored}
 use Rattle.cmd_verify.specs.What.{What, Gap}
 
 -- the timeline is the span's, and the log lies between those of its ends: the same for each segment within

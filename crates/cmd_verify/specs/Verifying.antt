@@ -5,20 +5,20 @@ use Rattle.base_devices.specs.Content.{Content}
 use Rattle.base_model.specs.Text.{Text}
 use Rattle.base_model.specs.Repository.{Stanza, IsSoundStanza}
 use Rattle.base_model.specs.Represents.{HasStanza}
-use Rattle.archive_index.specs.declared.stored.files.Stored.{Stored}
-use Rattle.archive_index.specs.Causes.{most_files}
-use Rattle.archive_index.specs.Stored.{AreStored}
+use Rattle.archive_lookup.specs.declared.stored.files.Stored.{Stored}
+use Rattle.archive_lookup.specs.Causes.{most_files}
+use Rattle.archive_lookup.specs.Stored.{AreStored}
 use Rattle.cmd_verify.specs.declared.findings.finding.Finding.{Finding}
 use Rattle.cmd_verify.specs.declared.findings.finding.VerifyFault.{VerifyFault}
 use Rattle.cmd_verify.specs.declared.findings.finding.VerifyFault.TheVariants as verifies
 use Rattle.cmd_verify.specs.Clean.{MembersAgree}
 use Rattle.cmd_verify.specs.Exact.{AreFindings}
-use Rattle.cmd_terms.specs.declared.stages.halt.Halt.{Halt}
-use Rattle.cmd_terms.specs.declared.stages.halt.Halt.TheVariants.{Refused, Failed, NoMemory}
-use Rattle.cmd_terms.specs.declared.stages.object.Object.TheVariants.{Repo}
-use Rattle.cmd_terms.specs.declared.stages.outcome.Outcome.{Outcome}
-use Rattle.cmd_terms.specs.declared.stages.outcome.Outcome.TheVariants.{Finished, FindingsFound}
-use Rattle.cmd_terms.specs.Reached.{OnFinished}
+use Rattle.cmd_types.specs.declared.stages.halt.Halt.{Halt}
+use Rattle.cmd_types.specs.declared.stages.halt.Halt.TheVariants.{Refused, Failed, NoMemory}
+use Rattle.cmd_types.specs.declared.stages.object.Object.TheVariants.{Repo}
+use Rattle.cmd_types.specs.declared.stages.outcome.Outcome.{Outcome}
+use Rattle.cmd_types.specs.declared.stages.outcome.Outcome.TheVariants.{Finished, FindingsFound}
+use Rattle.cmd_types.specs.Reached.{OnFinished}
 use Rattle.cmd_verify.specs.declared.command.fault.VerifyCommandFault.{VerifyCommandFault}
 use Rattle.cmd_verify.specs.declared.command.fault.VerifyCommandFault.TheVariants.{TooMany}
 

@@ -8,9 +8,9 @@ use Rattle.base_devices.specs.Order.{is_before, are_after, are_in_order}
 use Rattle.base_disk.proofs.Images.{put_same, put_other}
 use Rattle.base_model.specs.Text.{In}
 use Rattle.repo_keys.proofs.Seeking.{opened}
-use Rattle.archive_index.proofs.Orders.{not_itself}
-use Rattle.archive_index.proofs.Picked.{each_after}
-use Rattle.archive_index.proofs.Looked.{held_at, found_order}
+use Rattle.archive_lookup.proofs.Orders.{not_itself}
+use Rattle.archive_lookup.proofs.Picked.{each_after}
+use Rattle.archive_lookup.proofs.Looked.{held_at, found_order}
 use Rattle.repo_keys.proofs.Numbers.{map_in}
 use Rattle.expire_make.specs.Losing.{names_of}
 use Rattle.expire_make.specs.Removed.{pair_of, Took, Nothing, Further, Counted, AreDistinct}

@@ -12,9 +12,9 @@ use Rattle.base_model.specs.Names.{archive_folder, archive_name, id_text, wal_te
 use Rattle.base_model.specs.Repository.{Archived, Stanza, AreApart}
 use Rattle.base_model.specs.Represents.{IsArchivePlace}
 use Rattle.base_model.specs.Steps.{Step, Forget, Any, IsSomeOf, is_same_file, after, all_of}
-use Rattle.archive_index.specs.Paths.{below_id}
-use Rattle.archive_index.proofs.Cuts.{divided}
-use Rattle.archive_index.proofs.OnePath.{one_path, id_lacks, id_of_text, wal_injective}
+use Rattle.archive_lookup.specs.Paths.{below_id}
+use Rattle.archive_lookup.proofs.Cuts.{divided}
+use Rattle.archive_lookup.proofs.OnePath.{one_path, id_lacks, id_of_text, wal_injective}
 use Rattle.expire_rules.proofs.Lists.{in_filter, filter_in}
 
 -- ---- one file

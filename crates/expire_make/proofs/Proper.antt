@@ -8,8 +8,8 @@ use Rattle.base_model.specs.Text.{In}
 use Rattle.base_model.specs.Names.{label_text}
 use Rattle.base_model.specs.InfoFiles.{IsLabel, AreListed, IsBackupInfo}
 use Rattle.base_model.specs.Values.{Entry, BackupInfo}
-use Rattle.archive_index.proofs.Orders.{not_itself}
-use Rattle.archive_index.proofs.Picked.{each_after}
+use Rattle.archive_lookup.proofs.Orders.{not_itself}
+use Rattle.archive_lookup.proofs.Picked.{each_after}
 use Rattle.expire_rules.specs.Descent.{AreInLine}
 use Rattle.expire_rules.proofs.Lists.{in_append, any_in}
 

@@ -9,7 +9,7 @@ use Rattle.base_disk.specs.Dropped.{IsAbsent}
 use Rattle.base_disk.proofs.Images.{put_same, put_other, by_name}
 use Rattle.base_model.specs.Text.{Text, In, ◌⫽◌}
 use Rattle.repo_keys.proofs.Seeking.{opened, ended}
-use Rattle.archive_index.proofs.Looked.{pair_of, found_at}
+use Rattle.archive_lookup.proofs.Looked.{pair_of, found_at}
 use Rattle.expire_rules.specs.declared.rules.KeptFiles.{KeptFiles}
 use Rattle.repo_keys.proofs.Numbers.{in_map}
 use Rattle.expire_make.specs.Losing.{Drops, TakesAway, names_of}

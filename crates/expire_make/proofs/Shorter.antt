@@ -14,7 +14,7 @@ use Rattle.base_model.specs.InfoFiles.{IsLabel, entry_field, AreListed, IsListed
 use Rattle.base_model.specs.Values.{BackupInfo, Entry}
 use Rattle.repo_info.proofs.BackupRules.{listed, db, history, backup_sections_are}
 use Rattle.repo_info.proofs.Found.{found}
-use Rattle.archive_index.proofs.Orders.{before_on}
+use Rattle.archive_lookup.proofs.Orders.{before_on}
 use Rattle.expire_rules.proofs.Lists.{any_in, filter_in}
 use Rattle.repo_stanza.proofs.Lengths.{flat_length, keys_length, fewer_bytes, section_length}
 

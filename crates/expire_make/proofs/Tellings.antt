@@ -15,9 +15,9 @@ use Rattle.base_model.specs.Text.{Text, In, ◌⫽◌}
 use Rattle.base_model.specs.Names.{archive_folder, archive_text, id_text, segment_text, segment_folder}
 use Rattle.base_model.specs.Represents.{IsArchivePlace}
 use Rattle.base_model.specs.Values.{Entry}
-use Rattle.archive_index.specs.Paths.{IsReadAs, below_folder}
-use Rattle.archive_index.proofs.Orders.{in_of}
-use Rattle.archive_index.proofs.Bounding.{folder_named}
+use Rattle.archive_lookup.specs.Paths.{IsReadAs, below_folder}
+use Rattle.archive_lookup.proofs.Orders.{in_of}
+use Rattle.archive_lookup.proofs.Bounding.{folder_named}
 use Rattle.expire_rules.specs.declared.rules.Rules.{Rules}
 use Rattle.expire_rules.specs.declared.rules.KeptFiles.{KeptFiles}
 use Rattle.expire_rules.specs.Needed.{Keeping, keeping, keeping_of, of_cluster, keeps_file}

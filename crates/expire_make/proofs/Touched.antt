@@ -15,10 +15,10 @@ use Rattle.base_model.specs.Names.{is_of_stanza, archive_text, id_text, backup_f
 use Rattle.base_model.specs.Values.{Entry}
 use Rattle.repo_pair.specs.Member.{IsOfPair}
 use Rattle.repo_stanza.specs.Owned.{IsOfPairs}
-use Rattle.base_traces.specs.Beside.{StaysBeside}
-use Rattle.base_traces.proofs.Named.{in_archive, in_backup}
-use Rattle.base_traces.proofs.Stays.{beside_on}
-use Rattle.cmd_terms.proofs.Besides.{only_beside, pairs_beside}
+use Rattle.base_crash_lists.specs.Beside.{StaysBeside}
+use Rattle.base_crash_lists.proofs.Named.{in_archive, in_backup}
+use Rattle.base_crash_lists.proofs.Stays.{beside_on}
+use Rattle.cmd_types.proofs.Besides.{only_beside, pairs_beside}
 use Rattle.expire_rules.specs.declared.rules.Rules.{Rules}
 use Rattle.expire_make.specs.Losing.{TakesAway, IsUnlisted, IsUnneeded, is_passing, MayExpire, MayTouch}
 use Rattle.expire_make.specs.Planning.{keeps_by}

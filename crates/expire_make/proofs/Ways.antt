@@ -20,7 +20,7 @@ use Rattle.base_model.specs.Steady.{IsSteady, EachImage}
 use Rattle.base_model.proofs.Done.{part_none}
 use Rattle.repo_info.proofs.OneArchive.{one_archive_pair}
 use Rattle.repo_stanza.proofs.Settled.{settled_list}
-use Rattle.repo_unique.proofs.Lists.{one_list}
+use Rattle.repo_text_lemmas.proofs.Lists.{one_list}
 use Rattle.expire_rules.specs.declared.rules.Rules.{Rules}
 use Rattle.expire_rules.specs.Labels.{labels_of}
 use Rattle.expire_rules.specs.Condemned.{is_condemned}

@@ -14,8 +14,8 @@ use Rattle.base_model.specs.Represents.{IsVacant}
 use Rattle.base_model.specs.Steps.{Step, Command, Expire, IsPartOf, expiry_moves, after, all_of, steps_of}
 use Rattle.base_model.specs.Now.{NowRepresents}
 use Rattle.base_model.specs.Steady.{IsSteady, EachImage, LeavesOnly}
-use Rattle.cmd_terms.specs.declared.stages.plan.SyncScope.TheVariants.{Whole}
-use Rattle.cmd_terms.specs.DisksEffect.{IsPart, DoesPart, DoesWhole}
+use Rattle.cmd_types.specs.declared.stages.plan.SyncScope.TheVariants.{Whole}
+use Rattle.cmd_types.specs.DisksEffect.{IsPart, DoesPart, DoesWhole}
 use Rattle.repo_stanza.proofs.NewStanza.{no_pair}
 use Rattle.expire_rules.specs.declared.rules.Rules.{Rules}
 use Rattle.expire_rules.specs.Condemned.{condemned_labels}

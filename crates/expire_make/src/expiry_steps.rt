@@ -8,7 +8,7 @@ ghost use Rattle.base_model.specs.InfoFiles.{IsBackupInfo, info_limit};
 ghost use Rattle.base_model.specs.Repository.{Stanza, IsSoundStanza};
 ghost use Rattle.base_model.specs.Names.{backup_info};
 ghost use Rattle.repo_stanza.specs.Pairs.{AgreeAt};
-ghost use Rattle.base_traces.specs.Beside.{StaysBeside};
+ghost use Rattle.base_crash_lists.specs.Beside.{StaysBeside};
 ghost use Rattle.expire_make.specs.Expiry.{retention, PartFrom, WholeFrom};
 ghost use Rattle.expire_make.specs.Losing.{MayTouch};
 ghost use Rattle.expire_rules.specs.Labels.{labels_of};

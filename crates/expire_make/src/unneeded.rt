@@ -3,7 +3,7 @@ ghost use Rattle.std.specs.Prelude.{◌≡◌, true, false};
 ghost use Rattle.base_model.specs.Text.{Text};
 ghost use Rattle.expire_make.specs.Unneeded.{IsForgotten, Forgets, prefix_of};
 
-use archive_index::read_path;
+use archive_lookup::read_path;
 use base_model::ArchiveId;
 use expire_rules::{KeptFiles, keeps};
 

@@ -2,7 +2,7 @@
 use Rattle.std.proofs.Common.{◌≡◌, ℕ, List, [], ◌∷◌, ◌++◌, map, take, Option, Some, refl, ap, ◌∙◌, sym, subst, append_assoc}
 use Rattle.std.proofs.lemmas.List.{append_cancel_left}
 use Rattle.base_model.specs.Text.{Text}
-use Rattle.archive_index.specs.Turns.{Turned, Account, GoesOnBy, OnTurn}
+use Rattle.archive_lookup.specs.Turns.{Turned, Account, GoesOnBy, OnTurn}
 use Rattle.memory_processes.specs.declared.turn.OtherTurn.{OtherTurn}
 use Rattle.memory_processes.specs.Others.{idle_turn, idle_turns, turned_by, account_of}
 

@@ -29,13 +29,13 @@ use Rattle.base_model.proofs.Segments.{IsPartOfPush, NowPartOfPush}
 use Rattle.base_model.proofs.Steady.{steady_rests}
 use Rattle.base_model.proofs.Temporary.{file_lasts}
 use Rattle.base_model.proofs.Turned.{turn_with, turn_sound, push_is_turn, turn_steady, turn_now_part, turn_now_whole, idle_does, idle_carries, idle_passes}
-use Rattle.archive_index.specs.declared.stored.fault.ArchiveFault.{ArchiveFault}
-use Rattle.archive_index.specs.declared.stored.fault.ArchiveFault.TheVariants.{HeaderForm, SegmentSize, HeaderMismatch, Ambiguous, Duplicate, NotFound, SegmentDamaged, TooLong, TooMany, Disk, NoMemory}
+use Rattle.archive_lookup.specs.declared.stored.fault.ArchiveFault.{ArchiveFault}
+use Rattle.archive_lookup.specs.declared.stored.fault.ArchiveFault.TheVariants.{HeaderForm, SegmentSize, HeaderMismatch, Ambiguous, Duplicate, NotFound, SegmentDamaged, TooLong, TooMany, Disk, NoMemory}
 use Rattle.archive_store.specs.declared.pushing.Pushed.{Pushed}
 use Rattle.archive_store.specs.declared.pushing.Pushed.TheVariants.{New, Same}
-use Rattle.archive_index.specs.Causes.{OnFinding}
-use Rattle.archive_index.specs.Stored.{archived_file, archive_path, Stores, StoresOnly, ChangesArchive}
-use Rattle.archive_index.specs.Turns.{GoesByTurn, IsUnder}
+use Rattle.archive_lookup.specs.Causes.{OnFinding}
+use Rattle.archive_lookup.specs.Stored.{archived_file, archive_path, Stores, StoresOnly, ChangesArchive}
+use Rattle.archive_lookup.specs.Turns.{GoesByTurn, IsUnder}
 use Rattle.memory_processes.specs.declared.pushing.PushResult.{PushResult}
 use Rattle.memory_processes.specs.Pushing.{went_of, was_tried, MayEnd, IfStored, turn_of, HasFile}
 use Rattle.memory_processes.specs.Others.{idle_turn}

@@ -30,14 +30,14 @@ use Rattle.base_model.proofs.Created.{put_other, put_same}
 use Rattle.base_model.proofs.Temporary.{receipt_lasts, refusal_lasts}
 use Rattle.repo_names.proofs.Digits.{same_prefix}
 use Rattle.repo_names.proofs.Compared.{text_cmp-hex_upper}
-use Rattle.archive_index.specs.declared.pushes.processes.TurnError.{TurnError}
-use Rattle.archive_index.specs.declared.pushes.processes.TurnError.TheVariants.{Repo, Spool, NoMemory}
+use Rattle.archive_lookup.specs.declared.pushes.processes.TurnError.{TurnError}
+use Rattle.archive_lookup.specs.declared.pushes.processes.TurnError.TheVariants.{Repo, Spool, NoMemory}
 use Rattle.memory_processes.specs.declared.pushing.PushResult.{PushResult}
 use Rattle.memory_processes.specs.declared.pushing.PushResult.TheVariants.{Nothing, Stored, Tried, Refused}
 use Rattle.memory_processes.specs.declared.pushing.MarkNames.{MarkNames}
 use Rattle.memory_processes.specs.Others.{idle_turn}
-use Rattle.archive_index.specs.Stored.{ChangesArchive}
-use Rattle.archive_index.specs.Turns.{HadReceipt, IsMark, IsStoredBy, GivesReceipts, LeavesMarks, refusal_name}
+use Rattle.archive_lookup.specs.Stored.{ChangesArchive}
+use Rattle.archive_lookup.specs.Turns.{HadReceipt, IsMark, IsStoredBy, GivesReceipts, LeavesMarks, refusal_name}
 use Rattle.memory_processes.specs.Pushing.{AreMarkNamesOf, GivesReceipt, HasFile, IfStored, IfDeviceError, IsRepoFault, StopsBy, receipt_text, turn_of, was_tried}
 
 -- ---- the names of a mark

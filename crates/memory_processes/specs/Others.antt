@@ -1,7 +1,7 @@
 -- What is known of other processes in memory.
 use Rattle.std.specs.Prelude.{ℕ, Bool, true, List, [], ◌∷◌, ◌++◌, Option, Some, None, is_ok, map, take}
 use Rattle.base_model.specs.Text.{Text}
-use Rattle.archive_index.specs.Turns.{Turned, Account}
+use Rattle.archive_lookup.specs.Turns.{Turned, Account}
 use Rattle.memory_processes.specs.declared.turn.OtherPush.{OtherPush}
 use Rattle.memory_processes.specs.declared.turn.OtherTurn.{OtherTurn}
 use Rattle.memory_processes.specs.declared.turn.Came.{Came}

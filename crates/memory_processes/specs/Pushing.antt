@@ -16,15 +16,15 @@ use Rattle.base_model.specs.Names.{archive_folder, archive_name, receipt_name}
 use Rattle.base_model.specs.Represents.{IsWalName}
 use Rattle.base_model.specs.Steps.{Turn}
 use Rattle.base_model.specs.Log.{HasReceipt}
-use Rattle.archive_index.specs.declared.pushes.processes.TurnError.{TurnError}
-use Rattle.archive_index.specs.declared.pushes.processes.TurnError.TheVariants.{Repo, Spool, NoMemory}
-use Rattle.archive_index.specs.declared.stored.fault.ArchiveFault.{ArchiveFault}
-use Rattle.archive_index.specs.declared.stored.fault.ArchiveFault.TheVariants.{Disk, NoMemory as ArchiveNoMemory}
+use Rattle.archive_lookup.specs.declared.pushes.processes.TurnError.{TurnError}
+use Rattle.archive_lookup.specs.declared.pushes.processes.TurnError.TheVariants.{Repo, Spool, NoMemory}
+use Rattle.archive_lookup.specs.declared.stored.fault.ArchiveFault.{ArchiveFault}
+use Rattle.archive_lookup.specs.declared.stored.fault.ArchiveFault.TheVariants.{Disk, NoMemory as ArchiveNoMemory}
 use Rattle.archive_store.specs.declared.pushing.Pushed.{Pushed}
 use Rattle.memory_processes.specs.declared.pushing.PushResult.{PushResult}
 use Rattle.memory_processes.specs.declared.pushing.PushResult.TheVariants.{Nothing, Stored, Tried, Refused}
 use Rattle.memory_processes.specs.declared.pushing.MarkNames.{MarkNames}
-use Rattle.archive_index.specs.Turns.{HadReceipt}
+use Rattle.archive_lookup.specs.Turns.{HadReceipt}
 
 -- the result of a push that answered so: a file that is refused for its content is passed over
 abbrev pub went_of : Result Pushed ArchiveFault → PushResult

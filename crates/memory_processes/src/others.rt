@@ -3,7 +3,7 @@ ghost use Rattle.std.specs.Prelude.{◌≡◌, ◌<◌, ◌∷◌, [], Some, len
 ghost use Rattle.memory_processes.specs.Others.{account_of};
 
 use crate::turn::OtherTurn;
-use archive_index::{OtherProcesses, TurnError};
+use archive_lookup::{OtherProcesses, TurnError};
 use base_devices::{DeviceError, Disk, NotThere};
 use boxcar::tag::{Names, Tag};
 use std::alloc::{AllocError, Global};

@@ -14,11 +14,11 @@ ghost use Rattle.base_model.specs.Repository.{Repository};
 ghost use Rattle.base_model.specs.Represents.{IsArchivePlace};
 ghost use Rattle.base_model.specs.Log.{Done, KeepsRepository};
 ghost use Rattle.base_model.specs.Steady.{IsBegun};
-ghost use Rattle.archive_index.specs.Stored.{Stores, ChangesArchive};
-ghost use Rattle.archive_index.specs.Turns.{GoesByTurn, LeavesMarks};
+ghost use Rattle.archive_lookup.specs.Stored.{Stores, ChangesArchive};
+ghost use Rattle.archive_lookup.specs.Turns.{GoesByTurn, LeavesMarks};
 ghost use Rattle.memory_processes.specs.Pushing.{went_of, spool_stop_of, was_tried, MayEnd, IfStored, IfDeviceError, IsRepoFault, IsSpoolFault, StopsBy, turn_of, receipt_text, marks_of, HasFile, AreMarkNamesOf, GivesReceipt};
 
-use archive_index::{ArchiveFault, Look, TurnError, file_names, look_for};
+use archive_lookup::{ArchiveFault, Look, TurnError, file_names, look_for};
 use archive_store::{Pushed, push};
 use base_devices::Disk;
 use base_disk::{StoreFault, begin, replace};

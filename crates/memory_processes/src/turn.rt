@@ -2,12 +2,12 @@
 ghost use Rattle.std.specs.Prelude.{◌≡◌, IsSome, IfErr, IsErrOf, OnOk, is_ok};
 ghost use Rattle.base_devices.specs.States.{Frame};
 ghost use Rattle.base_devices.specs.Cause.{Rises};
-ghost use Rattle.archive_index.specs.Stored.{ChangesArchive};
-ghost use Rattle.archive_index.specs.Turns.{GoesByTurn, GivesReceipts, LeavesMarks};
+ghost use Rattle.archive_lookup.specs.Stored.{ChangesArchive};
+ghost use Rattle.archive_lookup.specs.Turns.{GoesByTurn, GivesReceipts, LeavesMarks};
 ghost use Rattle.memory_processes.specs.Others.{after_push, turned_by};
 
 use crate::pushing::{end_turn, push_after};
-use archive_index::TurnError;
+use archive_lookup::TurnError;
 use base_devices::Disk;
 use base_model::{ArchiveId, Segment};
 use std::alloc::Global;

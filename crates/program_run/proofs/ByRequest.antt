@@ -5,7 +5,7 @@ use Rattle.std.proofs.lemmas.List.{append-nil}
 use Rattle.base_devices.specs.Content.{Content}
 use Rattle.base_devices.specs.Links.{LinkState}
 use Rattle.base_devices.specs.States.{ConnectionState, ClockState}
-use Rattle.archive_index.specs.Turns.{Account, ProcessesState, Turned}
+use Rattle.archive_lookup.specs.Turns.{Account, ProcessesState, Turned}
 use Rattle.archive_wait.specs.TurnsDone.{turns_of}
 use Rattle.base_devices.specs.DataFolder.{Nodes}
 use Rattle.archive_store.specs.Still.{IsStill}
@@ -13,9 +13,9 @@ use Rattle.base_model.specs.declared.labels.BackupKind.{BackupKind}
 use Rattle.base_model.specs.declared.labels.BackupKind.TheVariants.{Full, Diff, Incr}
 use Rattle.base_model.specs.Text.{Text}
 use Rattle.base_model.specs.Steps.{Command, ArchivePushAsync, ArchivePushDrain, MakeBackup}
-use Rattle.cmd_terms.specs.Plans.{Heals, OnReading}
-use Rattle.cmd_terms.specs.DisksEffect.{On, one}
-use Rattle.cmd_terms.specs.World.{World}
+use Rattle.cmd_types.specs.Plans.{Heals, OnReading}
+use Rattle.cmd_types.specs.DisksEffect.{On, one}
+use Rattle.cmd_types.specs.World.{World}
 use Rattle.backup_lemmas.proofs.Reading.{no_files, no_files_read, no_files_left}
 use Rattle.cmd_backup_offline.specs.Kinds.{IsBackupBy}
 use Rattle.cmd_backup_online.specs.Doing.{TakesTurns, IsOnlineBy}
@@ -23,7 +23,7 @@ use Rattle.cmd_backup_online.proofs.Doings.{none_by}
 use Rattle.base_model.specs.Values.{Manifest}
 use Rattle.restore_make.specs.Finished.{IsFinished}
 use Rattle.cmd_restore.specs.Fetching.{options_by}
-use Rattle.restore_parts.specs.Clearing.{control_path, HasNone}
+use Rattle.restore_steps.specs.Clearing.{control_path, HasNone}
 use Rattle.program_run.specs.Asked.{Request, create, push, queue_file, drain, get, get_through, fetch_ahead, backup, backup_running, restore, report, examine, expire, rehearse, RunningHow, Asked, fetch_argument_list}
 use Rattle.expire_rules.specs.declared.rules.Rules.{Rules}
 use Rattle.cmd_expire.specs.FollowUp.{IsFollowed}
@@ -31,7 +31,7 @@ use Rattle.program_run.proofs.Expiries.{some_expiry}
 use Rattle.program_run.proofs.Followings.{any_followed}
 use Rattle.cmd_archive_get_async.specs.Following.{QuietOthers}
 use Rattle.cmd_archive_push_wait.specs.Pushing.{IsWaitOf}
-use Rattle.cmd_rehearse_sample.specs.Having.{IsEmpty}
+use Rattle.base_sample.specs.Having.{IsEmpty}
 use Rattle.cmd_rehearse.specs.Commands.{rehearsed, keeps_one}
 use Rattle.program_run.specs.Modelled.{size_by}
 use Rattle.program_run.specs.Tables.{KnownWorld, known_world, IsSomeDrain, WithExpiry, manner_of, FolderEffect, OthersGo, ShowsLabel}

@@ -6,7 +6,7 @@ use Rattle.base_devices.specs.Content.{Content}
 use Rattle.base_devices.specs.Moments.{View, Unchanged}
 use Rattle.base_devices.specs.Links.{LinkState}
 use Rattle.base_devices.specs.States.{IsOpened, OpensOnly, ConnectionState, ClockState}
-use Rattle.archive_index.specs.Turns.{ProcessesState}
+use Rattle.archive_lookup.specs.Turns.{ProcessesState}
 use Rattle.base_devices.specs.DataFolder.{Nodes}
 use Rattle.base_disk.proofs.Changes.{only_on, only_rests}
 use Rattle.repo_stanza.specs.Owned.{IsOfPairs}
@@ -15,29 +15,29 @@ use Rattle.base_model.specs.Text.{Text}
 use Rattle.base_model.specs.Steps.{Command}
 use Rattle.base_model.specs.Walks.{IsSynced}
 use Rattle.base_model.proofs.Each.{keeps_synced}
-use Rattle.cmd_terms.specs.declared.stages.plan.Plan.{Plan}
-use Rattle.cmd_terms.specs.declared.stages.object.Object.{Object}
-use Rattle.cmd_terms.specs.declared.stages.object.Object.TheVariants.{Repo, Server as TheServer, Clock as TheClock, Locks}
-use Rattle.cmd_terms.specs.declared.stages.fault.StageFault.{StageFault}
-use Rattle.cmd_terms.specs.declared.stages.fault.StageFault.TheVariants.{Held}
-use Rattle.cmd_terms.specs.declared.stages.halt.Halt.{Halt}
-use Rattle.cmd_terms.specs.declared.stages.halt.Halt.TheVariants.{Refused, Failed as HaltFailed, NoMemory as HaltMemory}
-use Rattle.cmd_terms.specs.declared.stages.outcome.Outcome.{Outcome}
-use Rattle.cmd_terms.specs.Halts.{HaltCause, Never, Only}
-use Rattle.cmd_terms.specs.Plans.{Heals, AreHealed, HealsToLast, OnReading, TakesLocks}
-use Rattle.cmd_terms.specs.Reached.{back_if}
-use Rattle.cmd_terms.specs.declared.stages.plan.SyncScope.{SyncScope}
-use Rattle.cmd_terms.specs.declared.stages.plan.SyncScope.TheVariants.{Looked}
-use Rattle.cmd_terms.specs.DisksEffect.{Reached, to_end, turned_back, stopped, OnNone, DisksEffect, Takes, Quiet, Begins, IsLookedAt, On}
-use Rattle.cmd_terms.specs.World.{LocksSeen, World, Failed, AreLater, AreRead}
-use Rattle.base_traces.specs.Beside.{StaysBeside}
-use Rattle.base_traces.proofs.Stays.{beside_on}
-use Rattle.cmd_terms.proofs.Besides.{still_beside}
-use Rattle.cmd_terms.proofs.Counts.{rises_from}
-use Rattle.cmd_terms.proofs.Lifted.{on_as, still_quiet, rests_quiet, quiet_takes, looked_at, begun_takes, opened_takes}
+use Rattle.cmd_types.specs.declared.stages.plan.Plan.{Plan}
+use Rattle.cmd_types.specs.declared.stages.object.Object.{Object}
+use Rattle.cmd_types.specs.declared.stages.object.Object.TheVariants.{Repo, Server as TheServer, Clock as TheClock, Locks}
+use Rattle.cmd_types.specs.declared.stages.fault.StageFault.{StageFault}
+use Rattle.cmd_types.specs.declared.stages.fault.StageFault.TheVariants.{Held}
+use Rattle.cmd_types.specs.declared.stages.halt.Halt.{Halt}
+use Rattle.cmd_types.specs.declared.stages.halt.Halt.TheVariants.{Refused, Failed as HaltFailed, NoMemory as HaltMemory}
+use Rattle.cmd_types.specs.declared.stages.outcome.Outcome.{Outcome}
+use Rattle.cmd_types.specs.Halts.{HaltCause, Never, Only}
+use Rattle.cmd_types.specs.Plans.{Heals, AreHealed, HealsToLast, OnReading, TakesLocks}
+use Rattle.cmd_types.specs.Reached.{back_if}
+use Rattle.cmd_types.specs.declared.stages.plan.SyncScope.{SyncScope}
+use Rattle.cmd_types.specs.declared.stages.plan.SyncScope.TheVariants.{Looked}
+use Rattle.cmd_types.specs.DisksEffect.{Reached, to_end, turned_back, stopped, OnNone, DisksEffect, Takes, Quiet, Begins, IsLookedAt, On}
+use Rattle.cmd_types.specs.World.{LocksSeen, World, Failed, AreLater, AreRead}
+use Rattle.base_crash_lists.specs.Beside.{StaysBeside}
+use Rattle.base_crash_lists.proofs.Stays.{beside_on}
+use Rattle.cmd_types.proofs.Besides.{still_beside}
+use Rattle.cmd_types.proofs.Counts.{rises_from}
+use Rattle.cmd_types.proofs.Lifted.{on_as, still_quiet, rests_quiet, quiet_takes, looked_at, begun_takes, opened_takes}
 use Rattle.base_model.proofs.Logged.{rests_still}
-use Rattle.cmd_stages.specs.Stages.{FoundCause, StageCause}
-use Rattle.cmd_stages.specs.Taking.{HeldCause, MayTake}
+use Rattle.cmd_setup.specs.Stages.{FoundCause, StageCause}
+use Rattle.cmd_setup.specs.Taking.{HeldCause, MayTake}
 use Rattle.cmd_stanza_create.specs.Talking.{Ended}
 use Rattle.cmd_stanza_create.proofs.Statuses.{closes_as}
 use Rattle.program_run.specs.declared.fault.CommandFault.TheVariants.{Create, Push, Queue, Drain, Get, Take, BackupOnline, Recover, Examine, Prune, Rehearse}

@@ -7,14 +7,14 @@ use Rattle.options_read.specs.Commands.{IsCommand}
 use Rattle.options_read.specs.Settings.{Resolved}
 use Rattle.archive_store.specs.Still.{still_self}
 use Rattle.base_model.specs.Text.{Text}
-use Rattle.cmd_terms.specs.declared.stages.object.Object.{Object}
-use Rattle.cmd_terms.specs.declared.stages.object.Object.TheVariants.{Repo, Spool, TheDataFolder, Server, Others, Clock, Locks, Config, Output}
-use Rattle.cmd_terms.specs.declared.stages.fault.Unbuilt.{Unbuilt}
-use Rattle.cmd_terms.specs.declared.stages.fault.StageFault.TheVariants.{NotBuilt}
-use Rattle.cmd_terms.specs.declared.stages.outcome.Outcome.{Outcome}
-use Rattle.cmd_terms.specs.World.{World, Failed, AreLater, AreRead}
+use Rattle.cmd_types.specs.declared.stages.object.Object.{Object}
+use Rattle.cmd_types.specs.declared.stages.object.Object.TheVariants.{Repo, Spool, TheDataFolder, Server, Others, Clock, Locks, Config, Output}
+use Rattle.cmd_types.specs.declared.stages.fault.Unbuilt.{Unbuilt}
+use Rattle.cmd_types.specs.declared.stages.fault.StageFault.TheVariants.{NotBuilt}
+use Rattle.cmd_types.specs.declared.stages.outcome.Outcome.{Outcome}
+use Rattle.cmd_types.specs.World.{World, Failed, AreLater, AreRead}
 use Rattle.base_devices.specs.States.{OutputState, InputState}
-use Rattle.cmd_terms.proofs.Counts.{rises_to}
+use Rattle.cmd_types.proofs.Counts.{rises_to}
 use Rattle.program_run.specs.declared.fault.CommandFault.TheVariants.{Create, Push, Queue, Drain, Get, Take, BackupOnline, Recover, Examine, Prune, Rehearse}
 use Rattle.program_run.specs.declared.fault.Fault.{Fault}
 use Rattle.program_run.specs.declared.fault.Fault.TheVariants.{Usage, Stage, Command as OfCommand, FollowUp, Failed as ObjectFailed, NoMemory}

@@ -5,16 +5,16 @@ use Rattle.std.specs.declared.alloc.Global.{Global}
 use Rattle.base_model.specs.Text.{Text}
 use Rattle.options_read.specs.declared.usage.Usage.{Usage}
 use Rattle.options_read.specs.declared.usage.Usage.TheVariants as usage
-use Rattle.cmd_terms.specs.declared.stages.plan.Plan.{Plan}
-use Rattle.cmd_terms.specs.declared.stages.object.Object.{Object}
-use Rattle.cmd_terms.specs.declared.stages.object.Object.TheVariants as object
-use Rattle.cmd_terms.specs.declared.stages.fault.StageFault.{StageFault}
-use Rattle.cmd_terms.specs.declared.stages.fault.StageFault.TheVariants as stage
-use Rattle.cmd_terms.specs.declared.stages.outcome.Outcome.{Outcome}
-use Rattle.cmd_terms.specs.declared.stages.outcome.Outcome.TheVariants.{Finished, Absent, FindingsFound}
-use Rattle.cmd_terms.specs.World.{World, Failed}
-use Rattle.cmd_terms.specs.StagesTexts.{stage_status, object_status}
-use Rattle.cmd_stages.specs.Stages.{StageCause}
+use Rattle.cmd_types.specs.declared.stages.plan.Plan.{Plan}
+use Rattle.cmd_types.specs.declared.stages.object.Object.{Object}
+use Rattle.cmd_types.specs.declared.stages.object.Object.TheVariants as object
+use Rattle.cmd_types.specs.declared.stages.fault.StageFault.{StageFault}
+use Rattle.cmd_types.specs.declared.stages.fault.StageFault.TheVariants as stage
+use Rattle.cmd_types.specs.declared.stages.outcome.Outcome.{Outcome}
+use Rattle.cmd_types.specs.declared.stages.outcome.Outcome.TheVariants.{Finished, Absent, FindingsFound}
+use Rattle.cmd_types.specs.World.{World, Failed}
+use Rattle.cmd_types.specs.StagesTexts.{stage_status, object_status}
+use Rattle.cmd_setup.specs.Stages.{StageCause}
 use Rattle.cmd_stanza_create.specs.Talking.{Ended, IsServerRefusal}
 use Rattle.cmd_stanza_create.proofs.Statuses.{create_closed}
 use Rattle.cmd_archive_push.specs.declared.fault.PushFault.{PushFault}

@@ -6,19 +6,19 @@ use Rattle.options_read.specs.declared.usage.Usage.{Usage}
 use Rattle.options_read.specs.declared.usage.Usage.TheVariants as usage
 use Rattle.server_talk.specs.declared.session.fault.ServerFault.{ServerFault}
 use Rattle.server_talk.specs.declared.session.fault.ServerFault.TheVariants as server
-use Rattle.cmd_terms.specs.declared.stages.object.Object.{Object}
-use Rattle.cmd_terms.specs.declared.stages.object.Object.TheVariants as object
-use Rattle.cmd_terms.specs.declared.stages.fault.StageFault.{StageFault}
-use Rattle.cmd_terms.specs.declared.stages.fault.StageFault.TheVariants as stage
+use Rattle.cmd_types.specs.declared.stages.object.Object.{Object}
+use Rattle.cmd_types.specs.declared.stages.object.Object.TheVariants as object
+use Rattle.cmd_types.specs.declared.stages.fault.StageFault.{StageFault}
+use Rattle.cmd_types.specs.declared.stages.fault.StageFault.TheVariants as stage
 use Rattle.base_devices.specs.Content.{Content}
 use Rattle.base_model.specs.Text.{Text}
-use Rattle.cmd_terms.specs.declared.stages.outcome.Outcome.{Outcome}
-use Rattle.cmd_terms.specs.declared.stages.outcome.Outcome.TheVariants.{FindingsFound}
-use Rattle.cmd_terms.specs.StagesTexts.{stage_status, object_status}
+use Rattle.cmd_types.specs.declared.stages.outcome.Outcome.{Outcome}
+use Rattle.cmd_types.specs.declared.stages.outcome.Outcome.TheVariants.{FindingsFound}
+use Rattle.cmd_types.specs.StagesTexts.{stage_status, object_status}
 use Rattle.cmd_stanza_create.specs.declared.fault.CreateFault.{CreateFault}
 use Rattle.cmd_stanza_create.specs.declared.fault.CreateFault.TheVariants as creates
 use Rattle.cmd_stanza_create.specs.Texts.{create_status}
-use Rattle.cmd_terms.specs.ServerTextsTexts.{server_status}
+use Rattle.cmd_types.specs.ServerTextsTexts.{server_status}
 use Rattle.cmd_archive_push.proofs.Refusals.{push_within}
 use Rattle.cmd_archive_get.proofs.Refusals.{get_within}
 use Rattle.cmd_backup_common.specs.declared.parts.fault.BackupFault.{BackupFault}

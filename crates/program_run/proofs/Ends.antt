@@ -1,16 +1,16 @@
 -- How a command's own part ended, by layers.
 use Rattle.std.proofs.Common.{◌≡◌, ◌≤◌, Bool, Option, Result, Ok, Err, IfOk, IfErr, refl, ap, sym, subst}
 use Rattle.std.specs.Prelude.{OnOk}
-use Rattle.cmd_terms.specs.declared.stages.object.Object.{Object}
-use Rattle.cmd_terms.specs.declared.stages.object.Object.TheVariants.{Repo, Spool, TheDataFolder, Server, Others, Clock, Locks, Config, Output}
-use Rattle.cmd_terms.specs.declared.stages.halt.Halt.{Halt}
-use Rattle.cmd_terms.specs.declared.stages.halt.Halt.TheVariants.{Refused, Failed as HaltFailed, NoMemory as HaltMemory}
-use Rattle.cmd_terms.specs.declared.stages.outcome.Outcome.{Outcome}
-use Rattle.cmd_terms.specs.declared.stages.outcome.Outcome.TheVariants.{Finished, Absent, FindingsFound}
-use Rattle.cmd_terms.specs.Halts.{Only}
-use Rattle.cmd_terms.specs.Reached.{reached_by, back_if}
-use Rattle.cmd_terms.specs.Risen.{Rose, rose_in}
-use Rattle.cmd_terms.specs.World.{World, Failed, AreLater}
+use Rattle.cmd_types.specs.declared.stages.object.Object.{Object}
+use Rattle.cmd_types.specs.declared.stages.object.Object.TheVariants.{Repo, Spool, TheDataFolder, Server, Others, Clock, Locks, Config, Output}
+use Rattle.cmd_types.specs.declared.stages.halt.Halt.{Halt}
+use Rattle.cmd_types.specs.declared.stages.halt.Halt.TheVariants.{Refused, Failed as HaltFailed, NoMemory as HaltMemory}
+use Rattle.cmd_types.specs.declared.stages.outcome.Outcome.{Outcome}
+use Rattle.cmd_types.specs.declared.stages.outcome.Outcome.TheVariants.{Finished, Absent, FindingsFound}
+use Rattle.cmd_types.specs.Halts.{Only}
+use Rattle.cmd_types.specs.Reached.{reached_by, back_if}
+use Rattle.cmd_types.specs.Risen.{Rose, rose_in}
+use Rattle.cmd_types.specs.World.{World, Failed, AreLater}
 use Rattle.base_devices.specs.Content.{Content}
 use Rattle.base_model.specs.Text.{Text}
 use Rattle.cmd_expire.specs.declared.fault.FollowUpFault.{FollowUpFault}

@@ -9,9 +9,9 @@ use Rattle.base_model.specs.Now.{NowRepresents}
 use Rattle.base_model.specs.Steps.{Command, Expire}
 use Rattle.base_model.specs.Text.{Text}
 use Rattle.archive_store.specs.Still.{IsStill}
-use Rattle.cmd_terms.specs.declared.stages.halt.Halt.{Halt}
-use Rattle.cmd_terms.specs.declared.stages.outcome.Outcome.{Outcome}
-use Rattle.cmd_terms.specs.Reached.{OnFinished}
+use Rattle.cmd_types.specs.declared.stages.halt.Halt.{Halt}
+use Rattle.cmd_types.specs.declared.stages.outcome.Outcome.{Outcome}
+use Rattle.cmd_types.specs.Reached.{OnFinished}
 use Rattle.expire_rules.specs.declared.rules.FullRule.{FullRule}
 use Rattle.expire_rules.specs.declared.rules.FullRule.TheVariants.{Unset, Count, Days}
 use Rattle.expire_rules.specs.declared.rules.Rules.{Rules}

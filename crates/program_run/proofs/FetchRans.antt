@@ -15,21 +15,21 @@ use Rattle.base_model.specs.Walks.{IsSynced}
 use Rattle.archive_store.specs.Still.{IsStill, still_self}
 use Rattle.archive_spool.specs.Marks.{GivesMarks}
 use Rattle.repo_stanza.specs.declared.control.Control.{Control}
-use Rattle.base_traces.specs.Beside.{StaysBeside}
-use Rattle.cmd_terms.specs.declared.stages.object.Object.{Object}
-use Rattle.cmd_terms.specs.declared.stages.outcome.Outcome.{Outcome}
-use Rattle.cmd_terms.specs.declared.stages.plan.SyncScope.{SyncScope}
-use Rattle.cmd_terms.specs.declared.stages.plan.SyncScope.TheVariants.{Looked}
-use Rattle.cmd_terms.specs.declared.stages.halt.Halt.{Halt}
-use Rattle.cmd_terms.specs.declared.stages.halt.Halt.TheVariants.{NoMemory as HaltMemory}
-use Rattle.cmd_terms.specs.Cluster.{FolderShows}
-use Rattle.cmd_terms.specs.Halts.{HaltCause}
-use Rattle.cmd_terms.specs.Reached.{reached_by}
-use Rattle.cmd_terms.specs.DisksEffect.{Reached, stopped, DisksEffect, RunsPart, RunsWhole, DoesPart, DoesWhole, OnNone, IsLookedAt, PairAlike, SpoolEffect}
-use Rattle.cmd_terms.specs.World.{World, Failed, AreLater}
-use Rattle.cmd_terms.proofs.Besides.{still_beside}
-use Rattle.cmd_terms.proofs.Doing.{reading_does, now_known}
-use Rattle.cmd_terms.proofs.Lifted.{all_as, none_as}
+use Rattle.base_crash_lists.specs.Beside.{StaysBeside}
+use Rattle.cmd_types.specs.declared.stages.object.Object.{Object}
+use Rattle.cmd_types.specs.declared.stages.outcome.Outcome.{Outcome}
+use Rattle.cmd_types.specs.declared.stages.plan.SyncScope.{SyncScope}
+use Rattle.cmd_types.specs.declared.stages.plan.SyncScope.TheVariants.{Looked}
+use Rattle.cmd_types.specs.declared.stages.halt.Halt.{Halt}
+use Rattle.cmd_types.specs.declared.stages.halt.Halt.TheVariants.{NoMemory as HaltMemory}
+use Rattle.cmd_types.specs.Cluster.{FolderShows}
+use Rattle.cmd_types.specs.Halts.{HaltCause}
+use Rattle.cmd_types.specs.Reached.{reached_by}
+use Rattle.cmd_types.specs.DisksEffect.{Reached, stopped, DisksEffect, RunsPart, RunsWhole, DoesPart, DoesWhole, OnNone, IsLookedAt, PairAlike, SpoolEffect}
+use Rattle.cmd_types.specs.World.{World, Failed, AreLater}
+use Rattle.cmd_types.proofs.Besides.{still_beside}
+use Rattle.cmd_types.proofs.Doing.{reading_does, now_known}
+use Rattle.cmd_types.proofs.Lifted.{all_as, none_as}
 use Rattle.cmd_archive_get.specs.declared.fault.GetFault.{GetFault}
 use Rattle.cmd_archive_get.specs.Getting.{get_early, served_path, AreArguments, ChangesPath, GivenBy, IsWanted}
 use Rattle.cmd_archive_get_async.specs.FollowUp.{FollowUpCause, FetchedBy, IsSegmentName}

@@ -6,7 +6,7 @@ use Rattle.base_devices.specs.Content.{Content}
 use Rattle.base_devices.specs.Links.{LinkState}
 use Rattle.base_devices.specs.Moments.{View}
 use Rattle.base_devices.specs.States.{ConnectionState}
-use Rattle.archive_index.specs.Turns.{Account, ProcessesState, Turned}
+use Rattle.archive_lookup.specs.Turns.{Account, ProcessesState, Turned}
 use Rattle.archive_wait.specs.TurnsDone.{turns_of}
 use Rattle.base_model.specs.declared.labels.BackupKind.{BackupKind}
 use Rattle.base_model.specs.declared.labels.BackupKind.TheVariants.{Full, Diff, Incr}
@@ -15,18 +15,18 @@ use Rattle.base_model.specs.Repository.{Backup}
 use Rattle.base_model.specs.Steps.{Command, Turn, MakeBackup, Expire}
 use Rattle.base_model.specs.Text.{Text}
 use Rattle.repo_stanza.specs.declared.control.Control.{Control}
-use Rattle.base_traces.specs.Beside.{StaysBeside}
-use Rattle.base_traces.proofs.Stays.{beside_on}
-use Rattle.cmd_terms.specs.declared.stages.object.Object.{Object}
-use Rattle.cmd_terms.specs.declared.stages.object.Object.TheVariants.{Repo, Clock as TheClock}
-use Rattle.cmd_terms.specs.declared.stages.plan.SyncScope.TheVariants.{Whole}
-use Rattle.cmd_terms.specs.declared.stages.outcome.Outcome.{Outcome}
-use Rattle.cmd_terms.specs.declared.stages.outcome.Outcome.TheVariants.{Finished, Absent, FindingsFound}
-use Rattle.cmd_terms.specs.Plans.{AreHeld, backup_lock}
-use Rattle.cmd_terms.specs.Reached.{back_if}
-use Rattle.cmd_terms.specs.DisksEffect.{Reached, to_end, turned_back, stopped, On, OnAll, DoesWhole, DisksEffect}
-use Rattle.cmd_terms.specs.World.{World, Failed, AreLater}
-use Rattle.cmd_terms.proofs.Counts.{rises_from}
+use Rattle.base_crash_lists.specs.Beside.{StaysBeside}
+use Rattle.base_crash_lists.proofs.Stays.{beside_on}
+use Rattle.cmd_types.specs.declared.stages.object.Object.{Object}
+use Rattle.cmd_types.specs.declared.stages.object.Object.TheVariants.{Repo, Clock as TheClock}
+use Rattle.cmd_types.specs.declared.stages.plan.SyncScope.TheVariants.{Whole}
+use Rattle.cmd_types.specs.declared.stages.outcome.Outcome.{Outcome}
+use Rattle.cmd_types.specs.declared.stages.outcome.Outcome.TheVariants.{Finished, Absent, FindingsFound}
+use Rattle.cmd_types.specs.Plans.{AreHeld, backup_lock}
+use Rattle.cmd_types.specs.Reached.{back_if}
+use Rattle.cmd_types.specs.DisksEffect.{Reached, to_end, turned_back, stopped, On, OnAll, DoesWhole, DisksEffect}
+use Rattle.cmd_types.specs.World.{World, Failed, AreLater}
+use Rattle.cmd_types.proofs.Counts.{rises_from}
 use Rattle.backup_lemmas.specs.Backups.{AddsBackup}
 use Rattle.cmd_backup_offline.specs.Kinds.{IsBackupBy}
 use Rattle.cmd_backup_offline.specs.Taken.{IsTaken}

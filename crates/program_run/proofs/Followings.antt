@@ -7,11 +7,11 @@ use Rattle.base_model.specs.Now.{NowRepresents, NowEffect}
 use Rattle.base_model.specs.Repository.{Backup, Stanza, IsSound, IsSoundStanza}
 use Rattle.base_model.specs.Steps.{Command, Turn, MakeBackup, Expire, after, all_of, steps_of}
 use Rattle.base_model.specs.Text.{Text}
-use Rattle.repo_unique.proofs.Lists.{one_list}
-use Rattle.repo_unique.proofs.Manifests.{one_manifest}
+use Rattle.repo_text_lemmas.proofs.Lists.{one_list}
+use Rattle.repo_text_lemmas.proofs.Manifests.{one_manifest}
 use Rattle.backup_lemmas.proofs.Again.{made_sound}
-use Rattle.cmd_terms.specs.declared.stages.plan.SyncScope.TheVariants.{Whole}
-use Rattle.cmd_terms.specs.DisksEffect.{Reached, to_end, turned_back, OnAll, DoesPart, DoesWhole, DisksEffect}
+use Rattle.cmd_types.specs.declared.stages.plan.SyncScope.TheVariants.{Whole}
+use Rattle.cmd_types.specs.DisksEffect.{Reached, to_end, turned_back, OnAll, DoesPart, DoesWhole, DisksEffect}
 use Rattle.expire_rules.specs.declared.rules.Rules.{Rules}
 use Rattle.expire_make.specs.Expiry.{retention}
 use Rattle.cmd_expire.specs.FollowUp.{IsFollowed, StaysSound}

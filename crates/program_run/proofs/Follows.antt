@@ -2,19 +2,19 @@
 use Rattle.std.proofs.Common.{Bool, true, false, ⊎_elim, ◌≡◌, ◌≢◌, ◌≤◌, ◌⊎◌, ◌∙◌, ℕ, List, [], Option, Some, None, inl, inr, Result, Ok, Err, IfErr, refl, sym, ap, subst, arith}
 use Rattle.std.specs.Prelude.{OnOk}
 use Rattle.base_model.specs.Text.{Text}
-use Rattle.cmd_terms.specs.declared.stages.object.Object.TheVariants.{Output}
-use Rattle.cmd_terms.specs.declared.stages.fault.StageFault.TheVariants.{NotBuilt}
-use Rattle.cmd_terms.specs.declared.stages.outcome.Outcome.{Outcome}
-use Rattle.cmd_terms.specs.declared.stages.outcome.Outcome.TheVariants.{Finished, Absent, FindingsFound}
+use Rattle.cmd_types.specs.declared.stages.object.Object.TheVariants.{Output}
+use Rattle.cmd_types.specs.declared.stages.fault.StageFault.TheVariants.{NotBuilt}
+use Rattle.cmd_types.specs.declared.stages.outcome.Outcome.{Outcome}
+use Rattle.cmd_types.specs.declared.stages.outcome.Outcome.TheVariants.{Finished, Absent, FindingsFound}
 use Rattle.std.specs.Prelude.{String}
 use Rattle.std.specs.declared.alloc.Global.{Global}
 use Rattle.base_model.specs.Steps.{Command, Reading}
-use Rattle.cmd_terms.specs.declared.stages.plan.SyncScope.TheVariants.{Whole as WholeStanza}
-use Rattle.cmd_terms.specs.DisksEffect.{Reached, to_end, turned_back, turns_of, OnAll, OnNone, Leads, Takes, On}
+use Rattle.cmd_types.specs.declared.stages.plan.SyncScope.TheVariants.{Whole as WholeStanza}
+use Rattle.cmd_types.specs.DisksEffect.{Reached, to_end, turned_back, turns_of, OnAll, OnNone, Leads, Takes, On}
 use Rattle.base_devices.specs.States.{DataFolderState}
-use Rattle.cmd_terms.specs.World.{LocksSeen, World, Failed}
-use Rattle.cmd_terms.proofs.Besides.{still_beside}
-use Rattle.cmd_terms.proofs.Lifted.{on_as, still_quiet, quiet_takes, opened_takes}
+use Rattle.cmd_types.specs.World.{LocksSeen, World, Failed}
+use Rattle.cmd_types.proofs.Besides.{still_beside}
+use Rattle.cmd_types.proofs.Lifted.{on_as, still_quiet, quiet_takes, opened_takes}
 use Rattle.program_run.specs.declared.fault.Fault.{Fault}
 use Rattle.program_run.specs.declared.fault.Fault.TheVariants.{Stage, NoMemory}
 use Rattle.program_run.specs.Answers.{Ending, status, status_of, answer_of, ending_of, reached_of}

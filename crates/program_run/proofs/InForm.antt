@@ -14,9 +14,9 @@ use Rattle.options_table.specs.Table.{row, is_for, stanza as stanza_kind}
 use Rattle.options_table.specs.Values.{is_stanza, is_stanza_byte, value_of, text_where}
 use Rattle.options_read.specs.Words.{read_arguments}
 use Rattle.options_read.specs.Settings.{Source, Resolved, resolve, resolved_arguments, settled, source_of, sections_of, configured, accepted, command_of, each_is_for, stanza_of, value_given, value_configured, none_wrong, refused, is_wrong, in_force, value}
-use Rattle.archive_index.specs.Paths.{Lacks}
+use Rattle.archive_lookup.specs.Paths.{Lacks}
 use Rattle.archive_store.proofs.PathLies.{lacks_not}
-use Rattle.base_traces.specs.Beside.{IsStanza}
+use Rattle.base_crash_lists.specs.Beside.{IsStanza}
 use Rattle.options_read.specs.declared.resolve.Command.{Command}
 use Rattle.options_read.specs.Commands.{IsCommand}
 use Rattle.program_run.specs.Asked.{ArgumentsResolve, Asked, MayAsk}

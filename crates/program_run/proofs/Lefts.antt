@@ -12,23 +12,23 @@ use Rattle.base_model.specs.Repository.{Repository}
 use Rattle.base_model.specs.Steps.{Command}
 use Rattle.base_model.specs.Text.{Text, In}
 use Rattle.base_model.proofs.Logged.{rests_still}
-use Rattle.archive_index.specs.Causes.{limit_of}
-use Rattle.base_traces.specs.Beside.{StaysBeside}
-use Rattle.cmd_terms.specs.declared.stages.object.Object.{Object}
-use Rattle.cmd_terms.specs.declared.stages.halt.Halt.{Halt}
-use Rattle.cmd_terms.specs.declared.stages.halt.Halt.TheVariants.{Refused, Failed as HaltFailed, NoMemory as HaltMemory}
-use Rattle.cmd_terms.specs.declared.stages.outcome.Outcome.{Outcome}
-use Rattle.cmd_terms.specs.declared.stages.outcome.Outcome.TheVariants.{Finished, Absent, FindingsFound}
-use Rattle.cmd_terms.specs.declared.stages.plan.SyncScope.TheVariants.{Looked}
-use Rattle.cmd_terms.specs.Halts.{HaltCause}
-use Rattle.cmd_terms.specs.Plans.{TakesLocks}
-use Rattle.cmd_terms.specs.Reached.{OnFinished, reached_by}
-use Rattle.cmd_terms.specs.DisksEffect.{On, one, Reached, Takes}
-use Rattle.cmd_terms.specs.World.{World, Failed, AreLater, AreRead}
-use Rattle.cmd_terms.proofs.Lifted.{spool_rests}
+use Rattle.archive_lookup.specs.Causes.{limit_of}
+use Rattle.base_crash_lists.specs.Beside.{StaysBeside}
+use Rattle.cmd_types.specs.declared.stages.object.Object.{Object}
+use Rattle.cmd_types.specs.declared.stages.halt.Halt.{Halt}
+use Rattle.cmd_types.specs.declared.stages.halt.Halt.TheVariants.{Refused, Failed as HaltFailed, NoMemory as HaltMemory}
+use Rattle.cmd_types.specs.declared.stages.outcome.Outcome.{Outcome}
+use Rattle.cmd_types.specs.declared.stages.outcome.Outcome.TheVariants.{Finished, Absent, FindingsFound}
+use Rattle.cmd_types.specs.declared.stages.plan.SyncScope.TheVariants.{Looked}
+use Rattle.cmd_types.specs.Halts.{HaltCause}
+use Rattle.cmd_types.specs.Plans.{TakesLocks}
+use Rattle.cmd_types.specs.Reached.{OnFinished, reached_by}
+use Rattle.cmd_types.specs.DisksEffect.{On, one, Reached, Takes}
+use Rattle.cmd_types.specs.World.{World, Failed, AreLater, AreRead}
+use Rattle.cmd_types.proofs.Lifted.{spool_rests}
 use Rattle.cmd_archive_push.specs.LogFile.{known_file}
 use Rattle.cmd_archive_push.specs.WalPath.{IsWalPath, wal_path}
-use Rattle.archive_index.specs.Turns.{Account, IsStoredBy, ProcessesState, Turned}
+use Rattle.archive_lookup.specs.Turns.{Account, IsStoredBy, ProcessesState, Turned}
 use Rattle.cmd_archive_push_wait.specs.declared.fault.QueueFault.{QueueFault}
 use Rattle.cmd_archive_push_wait.specs.Causes.{Call, QueueCause}
 use Rattle.cmd_archive_push_wait.specs.Received.{ReceivedCause}

@@ -8,7 +8,7 @@ use Rattle.base_model.specs.declared.clusters.Cluster.{Cluster}
 use Rattle.base_model.specs.Text.{Text}
 use Rattle.repo_stanza.specs.declared.control.Control.{Control}
 use Rattle.repo_stanza.specs.ControlFile.{Shows, first_cluster}
-use Rattle.cmd_terms.specs.Cluster.{control_bytes, version_bytes, FolderShows, IsClusterOf}
+use Rattle.cmd_types.specs.Cluster.{control_bytes, version_bytes, FolderShows, IsClusterOf}
 
 abbrev made : ℕ → ℕ → ℕ → ℕ → Control
 made s c k v = record { system = s; control = c; catalog = k; version = v }

@@ -20,25 +20,25 @@ use Rattle.base_disk.specs.Store.{ChangesOnly}
 use Rattle.repo_stanza.specs.ControlFile.{first_cluster}
 use Rattle.repo_stanza.specs.Owned.{IsOfPairs}
 use Rattle.archive_store.specs.Still.{IsStill, still_self}
-use Rattle.cmd_terms.specs.declared.stages.object.Object.{Object}
-use Rattle.cmd_terms.specs.declared.stages.object.Object.TheVariants.{Server as TheServer}
-use Rattle.cmd_terms.specs.declared.stages.outcome.Outcome.TheVariants.{Finished, Absent, FindingsFound}
-use Rattle.cmd_terms.specs.declared.stages.plan.Pairs.TheVariants.{HealArchive}
-use Rattle.cmd_terms.specs.declared.stages.plan.SyncScope.{SyncScope}
-use Rattle.cmd_terms.specs.declared.stages.plan.SyncScope.TheVariants.{Whole, Looked}
-use Rattle.cmd_terms.specs.declared.stages.halt.Halt.{Halt}
-use Rattle.cmd_terms.specs.declared.stages.halt.Halt.TheVariants.{Refused, Failed as HaltFailed, NoMemory as HaltMemory}
-use Rattle.cmd_terms.specs.declared.stages.outcome.Outcome.{Outcome}
-use Rattle.cmd_terms.specs.Cluster.{FolderShows}
-use Rattle.cmd_terms.specs.Halts.{HaltCause}
-use Rattle.cmd_terms.specs.Plans.{AreHealed, HealsToLast}
-use Rattle.cmd_terms.specs.Reached.{OnFinished, reached_by}
-use Rattle.cmd_terms.specs.DisksEffect.{one, Reached, to_end, turned_back, stopped, RepoEffect, DisksEffect, On, OnNone, IsLookedAt, PairAlike}
-use Rattle.cmd_terms.specs.World.{World, Failed, AreLater}
-use Rattle.base_traces.specs.Beside.{StaysBeside}
-use Rattle.cmd_terms.proofs.Besides.{still_beside, pairs_beside}
-use Rattle.cmd_terms.proofs.Doing.{reading_does, now_known}
-use Rattle.cmd_terms.proofs.Lifted.{does_runs, reading_spool}
+use Rattle.cmd_types.specs.declared.stages.object.Object.{Object}
+use Rattle.cmd_types.specs.declared.stages.object.Object.TheVariants.{Server as TheServer}
+use Rattle.cmd_types.specs.declared.stages.outcome.Outcome.TheVariants.{Finished, Absent, FindingsFound}
+use Rattle.cmd_types.specs.declared.stages.plan.Pairs.TheVariants.{HealArchive}
+use Rattle.cmd_types.specs.declared.stages.plan.SyncScope.{SyncScope}
+use Rattle.cmd_types.specs.declared.stages.plan.SyncScope.TheVariants.{Whole, Looked}
+use Rattle.cmd_types.specs.declared.stages.halt.Halt.{Halt}
+use Rattle.cmd_types.specs.declared.stages.halt.Halt.TheVariants.{Refused, Failed as HaltFailed, NoMemory as HaltMemory}
+use Rattle.cmd_types.specs.declared.stages.outcome.Outcome.{Outcome}
+use Rattle.cmd_types.specs.Cluster.{FolderShows}
+use Rattle.cmd_types.specs.Halts.{HaltCause}
+use Rattle.cmd_types.specs.Plans.{AreHealed, HealsToLast}
+use Rattle.cmd_types.specs.Reached.{OnFinished, reached_by}
+use Rattle.cmd_types.specs.DisksEffect.{one, Reached, to_end, turned_back, stopped, RepoEffect, DisksEffect, On, OnNone, IsLookedAt, PairAlike}
+use Rattle.cmd_types.specs.World.{World, Failed, AreLater}
+use Rattle.base_crash_lists.specs.Beside.{StaysBeside}
+use Rattle.cmd_types.proofs.Besides.{still_beside, pairs_beside}
+use Rattle.cmd_types.proofs.Doing.{reading_does, now_known}
+use Rattle.cmd_types.proofs.Lifted.{does_runs, reading_spool}
 use Rattle.cmd_stanza_create.specs.declared.fault.CreateFault.{CreateFault}
 use Rattle.cmd_stanza_create.specs.Creating.{IsCreated, CreateCause, create_early}
 use Rattle.cmd_stanza_create.specs.Talking.{Asks, IsOf, Closes as CreateCloses}

@@ -5,11 +5,11 @@ use Rattle.base_devices.specs.Content.{Content}
 use Rattle.base_devices.specs.DataFolder.{Nodes}
 use Rattle.base_model.specs.Text.{Text}
 use Rattle.repo_stanza.specs.declared.control.Control.{Control}
-use Rattle.cmd_terms.specs.Cluster.{FolderShows}
-use Rattle.cmd_terms.specs.Plans.{AreHeld, backup_lock}
+use Rattle.cmd_types.specs.Cluster.{FolderShows}
+use Rattle.cmd_types.specs.Plans.{AreHeld, backup_lock}
 use Rattle.cmd_backup_offline.specs.Held.{IsHeld}
-use Rattle.cmd_stages.specs.declared.ready.Ready.{Ready}
-use Rattle.cmd_stages.specs.Readies.{IsReady}
+use Rattle.cmd_setup.specs.declared.ready.Ready.{Ready}
+use Rattle.cmd_setup.specs.Readies.{IsReady}
 use Rattle.cmd_stanza_create.specs.declared.server.Server as code
 use Rattle.cmd_stanza_create.specs.Server.{server_view, socket_path}
 use Rattle.server_talk.specs.Telling.{starting, stopping}

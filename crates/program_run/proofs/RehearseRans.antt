@@ -3,20 +3,20 @@ use Rattle.std.proofs.Common.{◌≡◌, ◌⊎◌, Result, Ok, Err, IfOk, IfErr
 use Rattle.std.specs.Prelude.{IfSome}
 use Rattle.base_devices.specs.Moments.{View}
 use Rattle.base_model.specs.Repository.{Backup}
-use Rattle.cmd_terms.specs.declared.stages.object.Object.{Object}
-use Rattle.cmd_terms.specs.declared.stages.object.Object.TheVariants as objects
-use Rattle.cmd_terms.specs.declared.stages.object.Object.TheVariants.{Server as TheServer}
-use Rattle.cmd_terms.specs.declared.stages.outcome.Outcome.{Outcome}
-use Rattle.cmd_terms.specs.declared.stages.outcome.Outcome.TheVariants.{Finished, Absent, FindingsFound}
-use Rattle.cmd_terms.specs.declared.stages.plan.SyncScope.TheVariants.{Whole}
-use Rattle.cmd_terms.specs.declared.stages.halt.Halt.{Halt}
-use Rattle.cmd_terms.specs.declared.stages.halt.Halt.TheVariants.{Refused, Failed as HaltFailed, NoMemory as HaltMemory}
-use Rattle.cmd_terms.specs.Halts.{HaltCause}
-use Rattle.cmd_terms.specs.Reached.{reached_by}
-use Rattle.cmd_terms.specs.DisksEffect.{RepoEffect, DisksEffect, OnNone, IsLookedAt}
-use Rattle.cmd_terms.specs.World.{World, Failed, AreLater}
-use Rattle.base_traces.specs.Beside.{StaysBeside}
-use Rattle.cmd_rehearse_sample.specs.Having.{IsEmpty}
+use Rattle.cmd_types.specs.declared.stages.object.Object.{Object}
+use Rattle.cmd_types.specs.declared.stages.object.Object.TheVariants as objects
+use Rattle.cmd_types.specs.declared.stages.object.Object.TheVariants.{Server as TheServer}
+use Rattle.cmd_types.specs.declared.stages.outcome.Outcome.{Outcome}
+use Rattle.cmd_types.specs.declared.stages.outcome.Outcome.TheVariants.{Finished, Absent, FindingsFound}
+use Rattle.cmd_types.specs.declared.stages.plan.SyncScope.TheVariants.{Whole}
+use Rattle.cmd_types.specs.declared.stages.halt.Halt.{Halt}
+use Rattle.cmd_types.specs.declared.stages.halt.Halt.TheVariants.{Refused, Failed as HaltFailed, NoMemory as HaltMemory}
+use Rattle.cmd_types.specs.Halts.{HaltCause}
+use Rattle.cmd_types.specs.Reached.{reached_by}
+use Rattle.cmd_types.specs.DisksEffect.{RepoEffect, DisksEffect, OnNone, IsLookedAt}
+use Rattle.cmd_types.specs.World.{World, Failed, AreLater}
+use Rattle.base_crash_lists.specs.Beside.{StaysBeside}
+use Rattle.base_sample.specs.Having.{IsEmpty}
 use Rattle.cmd_rehearse.specs.declared.fault.RehearseFault.{RehearseFault}
 use Rattle.cmd_rehearse.specs.declared.fault.RehearseFault.TheVariants.{StanzaExists, NotEmpty, Step}
 use Rattle.cmd_rehearse.specs.Causes.{RehearseCause}

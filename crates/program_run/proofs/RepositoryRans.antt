@@ -8,19 +8,19 @@ use Rattle.base_disk.specs.Store.{ChangesOnly}
 use Rattle.base_disk.proofs.Changes.{only_rests}
 use Rattle.repo_stanza.specs.Owned.{IsOfPairs}
 use Rattle.archive_store.specs.Still.{IsStill}
-use Rattle.cmd_terms.specs.declared.stages.object.Object.{Object}
-use Rattle.cmd_terms.specs.declared.stages.plan.SyncScope.TheVariants.{Whole}
-use Rattle.cmd_terms.specs.declared.stages.fault.StageFault.{StageFault}
-use Rattle.cmd_terms.specs.declared.stages.halt.Halt.{Halt}
-use Rattle.cmd_terms.specs.declared.stages.halt.Halt.TheVariants.{Refused, Failed as HaltFailed, NoMemory as HaltMemory}
-use Rattle.cmd_terms.specs.declared.stages.outcome.Outcome.{Outcome}
-use Rattle.cmd_terms.specs.Halts.{HaltCause, Never}
-use Rattle.cmd_terms.specs.Reached.{reached_by}
-use Rattle.cmd_terms.specs.DisksEffect.{Reached, DisksEffect, On, IsLookedAt}
-use Rattle.cmd_terms.specs.World.{World, Failed, AreLater}
-use Rattle.base_traces.specs.Beside.{StaysBeside}
-use Rattle.cmd_terms.proofs.Besides.{still_beside}
-use Rattle.cmd_terms.proofs.Lifted.{does_runs}
+use Rattle.cmd_types.specs.declared.stages.object.Object.{Object}
+use Rattle.cmd_types.specs.declared.stages.plan.SyncScope.TheVariants.{Whole}
+use Rattle.cmd_types.specs.declared.stages.fault.StageFault.{StageFault}
+use Rattle.cmd_types.specs.declared.stages.halt.Halt.{Halt}
+use Rattle.cmd_types.specs.declared.stages.halt.Halt.TheVariants.{Refused, Failed as HaltFailed, NoMemory as HaltMemory}
+use Rattle.cmd_types.specs.declared.stages.outcome.Outcome.{Outcome}
+use Rattle.cmd_types.specs.Halts.{HaltCause, Never}
+use Rattle.cmd_types.specs.Reached.{reached_by}
+use Rattle.cmd_types.specs.DisksEffect.{Reached, DisksEffect, On, IsLookedAt}
+use Rattle.cmd_types.specs.World.{World, Failed, AreLater}
+use Rattle.base_crash_lists.specs.Beside.{StaysBeside}
+use Rattle.cmd_types.proofs.Besides.{still_beside}
+use Rattle.cmd_types.proofs.Lifted.{does_runs}
 use Rattle.program_run.specs.declared.fault.Fault.{Fault}
 use Rattle.program_run.specs.declared.fault.Fault.TheVariants.{Stage, Command as OfCommand}
 use Rattle.cmd_verify.specs.declared.command.fault.VerifyCommandFault.{VerifyCommandFault}

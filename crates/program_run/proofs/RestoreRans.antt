@@ -4,27 +4,27 @@ use Rattle.std.specs.Prelude.{take, IfSome, OnErr}
 use Rattle.base_devices.specs.Content.{Content}
 use Rattle.base_model.specs.Text.{Text}
 use Rattle.archive_store.specs.Still.{IsStill}
-use Rattle.cmd_terms.specs.declared.stages.object.Object.{Object}
-use Rattle.cmd_terms.specs.declared.stages.object.Object.TheVariants.{Server as TheServer}
-use Rattle.cmd_terms.specs.declared.stages.object.Object.TheVariants as objects
-use Rattle.cmd_terms.specs.declared.stages.outcome.Outcome.TheVariants.{Finished, Absent, FindingsFound}
-use Rattle.cmd_terms.specs.Reached.{back_if, fails_early}
-use Rattle.cmd_terms.specs.StagesTexts.{object_status}
+use Rattle.cmd_types.specs.declared.stages.object.Object.{Object}
+use Rattle.cmd_types.specs.declared.stages.object.Object.TheVariants.{Server as TheServer}
+use Rattle.cmd_types.specs.declared.stages.object.Object.TheVariants as objects
+use Rattle.cmd_types.specs.declared.stages.outcome.Outcome.TheVariants.{Finished, Absent, FindingsFound}
+use Rattle.cmd_types.specs.Reached.{back_if, fails_early}
+use Rattle.cmd_types.specs.StagesTexts.{object_status}
 use Rattle.base_model.specs.Repository.{Stanza}
 use Rattle.base_model.specs.Now.{NowRepresents}
 use Rattle.base_model.specs.Values.{Manifest}
 use Rattle.restore_make.specs.Finished.{IsFinished}
-use Rattle.restore_parts.specs.Clearing.{control_path, HasNone}
+use Rattle.restore_steps.specs.Clearing.{control_path, HasNone}
 use Rattle.cmd_restore.specs.Restoring.{Recovers, GivesBackup}
-use Rattle.cmd_terms.specs.declared.stages.plan.SyncScope.TheVariants.{Whole}
-use Rattle.cmd_terms.specs.declared.stages.halt.Halt.{Halt}
-use Rattle.cmd_terms.specs.declared.stages.halt.Halt.TheVariants.{Refused, Failed as HaltFailed, NoMemory as HaltMemory}
-use Rattle.cmd_terms.specs.declared.stages.outcome.Outcome.{Outcome}
-use Rattle.cmd_terms.specs.Halts.{HaltCause}
-use Rattle.cmd_terms.specs.Reached.{OnFinished, reached_by}
-use Rattle.cmd_terms.specs.DisksEffect.{OnNone, IsLookedAt}
-use Rattle.cmd_terms.specs.World.{World, Failed, AreLater}
-use Rattle.cmd_terms.proofs.Besides.{still_beside}
+use Rattle.cmd_types.specs.declared.stages.plan.SyncScope.TheVariants.{Whole}
+use Rattle.cmd_types.specs.declared.stages.halt.Halt.{Halt}
+use Rattle.cmd_types.specs.declared.stages.halt.Halt.TheVariants.{Refused, Failed as HaltFailed, NoMemory as HaltMemory}
+use Rattle.cmd_types.specs.declared.stages.outcome.Outcome.{Outcome}
+use Rattle.cmd_types.specs.Halts.{HaltCause}
+use Rattle.cmd_types.specs.Reached.{OnFinished, reached_by}
+use Rattle.cmd_types.specs.DisksEffect.{OnNone, IsLookedAt}
+use Rattle.cmd_types.specs.World.{World, Failed, AreLater}
+use Rattle.cmd_types.proofs.Besides.{still_beside}
 use Rattle.cmd_restore.specs.declared.fault.RestoreCommandFault.{RestoreCommandFault}
 use Rattle.cmd_restore.specs.declared.fault.RestoreCommandFault.TheVariants as recovers
 use Rattle.cmd_restore.specs.Causes.{RestoreCommandCause}

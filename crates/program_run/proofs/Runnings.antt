@@ -5,23 +5,23 @@ use Rattle.base_model.specs.Text.{Text}
 use Rattle.base_model.specs.Steps.{Command, MakeBackup}
 use Rattle.repo_stanza.specs.declared.control.Control.{Control}
 use Rattle.archive_store.specs.Still.{rests_none, still_self}
-use Rattle.cmd_terms.specs.declared.stages.object.Object.{Object}
-use Rattle.cmd_terms.specs.declared.stages.object.Object.TheVariants.{Server as TheServer}
-use Rattle.cmd_terms.specs.declared.stages.plan.SyncScope.TheVariants.{Whole}
-use Rattle.cmd_terms.specs.declared.stages.halt.Halt.{Halt}
-use Rattle.cmd_terms.specs.declared.stages.halt.Halt.TheVariants.{Refused, Failed as HaltFailed, NoMemory as HaltMemory}
-use Rattle.cmd_terms.specs.declared.stages.outcome.Outcome.{Outcome}
-use Rattle.cmd_terms.specs.Cluster.{FolderShows}
-use Rattle.cmd_terms.specs.Halts.{HaltCause}
-use Rattle.cmd_terms.specs.Reached.{OnFinished, reached_by}
-use Rattle.cmd_terms.specs.DisksEffect.{one, Reached, to_end, stopped, DisksEffect, On, IsLookedAt}
-use Rattle.cmd_terms.specs.World.{World, Failed, AreLater}
-use Rattle.base_traces.specs.Beside.{StaysBeside}
-use Rattle.cmd_terms.proofs.Besides.{still_beside}
-use Rattle.cmd_terms.proofs.Doing.{rests_does}
-use Rattle.cmd_terms.proofs.Lifted.{does_runs}
+use Rattle.cmd_types.specs.declared.stages.object.Object.{Object}
+use Rattle.cmd_types.specs.declared.stages.object.Object.TheVariants.{Server as TheServer}
+use Rattle.cmd_types.specs.declared.stages.plan.SyncScope.TheVariants.{Whole}
+use Rattle.cmd_types.specs.declared.stages.halt.Halt.{Halt}
+use Rattle.cmd_types.specs.declared.stages.halt.Halt.TheVariants.{Refused, Failed as HaltFailed, NoMemory as HaltMemory}
+use Rattle.cmd_types.specs.declared.stages.outcome.Outcome.{Outcome}
+use Rattle.cmd_types.specs.Cluster.{FolderShows}
+use Rattle.cmd_types.specs.Halts.{HaltCause}
+use Rattle.cmd_types.specs.Reached.{OnFinished, reached_by}
+use Rattle.cmd_types.specs.DisksEffect.{one, Reached, to_end, stopped, DisksEffect, On, IsLookedAt}
+use Rattle.cmd_types.specs.World.{World, Failed, AreLater}
+use Rattle.base_crash_lists.specs.Beside.{StaysBeside}
+use Rattle.cmd_types.proofs.Besides.{still_beside}
+use Rattle.cmd_types.proofs.Doing.{rests_does}
+use Rattle.cmd_types.proofs.Lifted.{does_runs}
 use Rattle.backup_lemmas.proofs.Reading.{no_files}
-use Rattle.archive_index.specs.Turns.{Account, Turned}
+use Rattle.archive_lookup.specs.Turns.{Account, Turned}
 use Rattle.archive_wait.specs.TurnsDone.{turns_of}
 use Rattle.cmd_backup_offline.specs.declared.fault.OfflineFault.{OfflineFault}
 use Rattle.cmd_backup_offline.specs.declared.order.OfflineOrder.{OfflineOrder}

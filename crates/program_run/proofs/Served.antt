@@ -5,8 +5,8 @@ use Rattle.base_model.specs.Text.{Text}
 use Rattle.options_read.specs.declared.resolve.Command.{Command}
 use Rattle.options_read.specs.Commands.{IsCommand}
 use Rattle.options_read.specs.Settings.{Resolved}
-use Rattle.cmd_terms.specs.declared.stages.fault.Unbuilt.{Unbuilt}
-use Rattle.cmd_terms.specs.declared.stages.fault.Unbuilt.TheVariants.{Bundles}
+use Rattle.cmd_types.specs.declared.stages.fault.Unbuilt.{Unbuilt}
+use Rattle.cmd_types.specs.declared.stages.fault.Unbuilt.TheVariants.{Bundles}
 use Rattle.options_table.specs.declared.table.Verb.{Verb}
 use Rattle.options_table.specs.declared.table.Verb.TheVariants.{StanzaCreate, ArchivePush, ArchivePushAsync, ArchiveGet, ArchiveGetAsync, Backup, Expire, Restore, Verify, Info, Rehearse}
 use Rattle.cmd_stanza_create.specs.declared.server.Server as code

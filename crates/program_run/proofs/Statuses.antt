@@ -2,15 +2,15 @@
 use Rattle.std.proofs.Common.{◌≡◌, ◌≤◌, ◌≢◌, ◌⊎◌, ℕ, true, inl, inr, Result, Ok, Err, refl, ap, subst, arith}
 use Rattle.options_read.specs.declared.usage.Usage.{Usage}
 use Rattle.options_read.specs.declared.usage.Usage.TheVariants as usage
-use Rattle.cmd_terms.specs.declared.stages.object.Object.{Object}
-use Rattle.cmd_terms.specs.declared.stages.object.Object.TheVariants as object
-use Rattle.cmd_terms.specs.declared.stages.fault.StageFault.{StageFault}
-use Rattle.cmd_terms.specs.declared.stages.fault.StageFault.TheVariants as stage
-use Rattle.cmd_terms.specs.declared.stages.outcome.Outcome.{Outcome}
-use Rattle.cmd_terms.specs.declared.stages.outcome.Outcome.TheVariants.{Finished, Absent, FindingsFound}
-use Rattle.cmd_terms.specs.DisksEffect.{to_end, turned_back}
-use Rattle.cmd_terms.specs.Reached.{fails_early, back_if}
-use Rattle.cmd_terms.specs.StagesTexts.{stage_status, object_status}
+use Rattle.cmd_types.specs.declared.stages.object.Object.{Object}
+use Rattle.cmd_types.specs.declared.stages.object.Object.TheVariants as object
+use Rattle.cmd_types.specs.declared.stages.fault.StageFault.{StageFault}
+use Rattle.cmd_types.specs.declared.stages.fault.StageFault.TheVariants as stage
+use Rattle.cmd_types.specs.declared.stages.outcome.Outcome.{Outcome}
+use Rattle.cmd_types.specs.declared.stages.outcome.Outcome.TheVariants.{Finished, Absent, FindingsFound}
+use Rattle.cmd_types.specs.DisksEffect.{to_end, turned_back}
+use Rattle.cmd_types.specs.Reached.{fails_early, back_if}
+use Rattle.cmd_types.specs.StagesTexts.{stage_status, object_status}
 use Rattle.cmd_stanza_create.proofs.Statuses.{create_over}
 use Rattle.cmd_archive_push.proofs.Refusals.{push_within}
 use Rattle.cmd_archive_get.proofs.Refusals.{get_within}

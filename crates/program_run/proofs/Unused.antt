@@ -7,7 +7,7 @@ use Rattle.options_read.specs.declared.resolve.Command.{Command}
 use Rattle.options_table.specs.declared.table.Opt.TheVariants.{Pg1Path, Repo1Path, LockPath}
 use Rattle.options_read.specs.Commands.{IsCommand}
 use Rattle.options_read.specs.Settings.{Resolved}
-use Rattle.cmd_terms.specs.declared.stages.fault.Unbuilt.{Unbuilt}
+use Rattle.cmd_types.specs.declared.stages.fault.Unbuilt.{Unbuilt}
 use Rattle.program_run.specs.Asked.{Request, Asked, expires_by, wanted_in, ArgumentsResolve, IsAsked, MayAsk, Asks, path_in, requested, server_asked}
 use Rattle.program_run.specs.Uses.{uses_spool}
 use Rattle.program_run.proofs.AskedOnce.{ok_same, one_settling}

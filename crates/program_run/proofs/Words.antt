@@ -4,11 +4,11 @@ use Rattle.std.specs.Prelude.{IsErrAnd}
 use Rattle.base_model.specs.InfoFiles.{IsSegment}
 use Rattle.base_model.specs.Text.{Text}
 use Rattle.archive_store.specs.Still.{still_self}
-use Rattle.cmd_terms.specs.declared.stages.object.Object.{Object}
-use Rattle.cmd_terms.specs.declared.stages.halt.Halt.{Halt}
-use Rattle.cmd_terms.specs.declared.stages.halt.Halt.TheVariants.{Refused, Failed as HaltFailed, NoMemory as HaltMemory}
-use Rattle.cmd_terms.specs.Halts.{HaltCause}
-use Rattle.cmd_terms.specs.World.{World}
+use Rattle.cmd_types.specs.declared.stages.object.Object.{Object}
+use Rattle.cmd_types.specs.declared.stages.halt.Halt.{Halt}
+use Rattle.cmd_types.specs.declared.stages.halt.Halt.TheVariants.{Refused, Failed as HaltFailed, NoMemory as HaltMemory}
+use Rattle.cmd_types.specs.Halts.{HaltCause}
+use Rattle.cmd_types.specs.World.{World}
 use Rattle.base_devices.specs.States.{OutputState}
 use Rattle.cmd_archive_push.specs.declared.fault.PushFault.{PushFault}
 use Rattle.cmd_archive_push.proofs.Refusals.{push_word}
@@ -24,7 +24,7 @@ use Rattle.cmd_archive_get.proofs.Refusals.{get_arguments as read_arguments}
 use Rattle.cmd_archive_get.specs.Getting.{AreArguments, ArgumentsCause as GetArguments}
 use Rattle.program_run.specs.declared.fault.CommandFault.TheVariants.{Push, Get, Recover}
 use Rattle.program_run.specs.declared.fault.Fault.{Fault}
-use Rattle.cmd_terms.specs.declared.stages.outcome.Outcome.{Outcome}
+use Rattle.cmd_types.specs.declared.stages.outcome.Outcome.{Outcome}
 use Rattle.cmd_archive_push.specs.WalPath.{IsWalPath}
 use Rattle.program_run.specs.declared.order.Order.{Order}
 use Rattle.program_run.specs.declared.order.AheadOrder.{AheadOrder}

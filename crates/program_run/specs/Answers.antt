@@ -4,12 +4,12 @@ use Rattle.std.specs.List.{flat_map}
 use Rattle.base_model.specs.Text.{Text}
 use Rattle.options_read.specs.declared.usage.Usage.{Usage}
 use Rattle.options_read.specs.declared.usage.Usage.TheVariants.{CommandMissing, CommandUnknown, OptionUnknown, OptionRepeated, OptionValue, OptionMissing, OptionNotFor, ConfigSyntax, ParameterCount, ParameterUtf8, NoMemory as UsageNoMemory}
-use Rattle.cmd_terms.specs.declared.stages.object.Object.TheVariants.{Output}
-use Rattle.cmd_terms.specs.declared.stages.outcome.Outcome.{Outcome}
-use Rattle.cmd_terms.specs.declared.stages.outcome.Outcome.TheVariants.{Finished, Absent, FindingsFound}
-use Rattle.cmd_terms.specs.DisksEffect.{Reached, to_end, turned_back}
-use Rattle.cmd_terms.specs.Reached.{fails_early, back_if}
-use Rattle.cmd_terms.specs.StagesTexts.{shown, stage_status, stage_message, object_status, object_message}
+use Rattle.cmd_types.specs.declared.stages.object.Object.TheVariants.{Output}
+use Rattle.cmd_types.specs.declared.stages.outcome.Outcome.{Outcome}
+use Rattle.cmd_types.specs.declared.stages.outcome.Outcome.TheVariants.{Finished, Absent, FindingsFound}
+use Rattle.cmd_types.specs.DisksEffect.{Reached, to_end, turned_back}
+use Rattle.cmd_types.specs.Reached.{fails_early, back_if}
+use Rattle.cmd_types.specs.StagesTexts.{shown, stage_status, stage_message, object_status, object_message}
 use Rattle.cmd_stanza_create.specs.Texts.{create_status, create_message}
 use Rattle.cmd_stanza_create.specs.Creating.{create_early}
 use Rattle.cmd_archive_push_wait.specs.Texts.{queue_status, queue_message}

@@ -22,8 +22,8 @@ use Rattle.cmd_restore.specs.Fetching.{RecoveryType, FetchArguments, Configurati
 use Rattle.cmd_restore.specs.Fetching.Configuration.{Usual, Nowhere, Named}
 use Rattle.cmd_restore.specs.Fetching.RecoveryType.{Default as ToTheEnd, Without}
 use Rattle.expire_rules.specs.declared.rules.Rules.{Rules}
-use Rattle.cmd_terms.specs.declared.stages.fault.Unbuilt.{Unbuilt}
-use Rattle.cmd_terms.specs.declared.stages.fault.Unbuilt.TheVariants.{Bundles}
+use Rattle.cmd_types.specs.declared.stages.fault.Unbuilt.{Unbuilt}
+use Rattle.cmd_types.specs.declared.stages.fault.Unbuilt.TheVariants.{Bundles}
 
 -- ---- the configuration
 

@@ -7,12 +7,12 @@ use Rattle.base_disk.specs.Store.{ChangesOnly}
 use Rattle.base_model.specs.Text.{Text}
 use Rattle.repo_stanza.specs.Owned.{IsOfPairs}
 use Rattle.archive_store.specs.Still.{IsStill}
-use Rattle.base_traces.specs.Beside.{StaysBeside}
-use Rattle.cmd_terms.specs.declared.stages.object.Object.TheVariants.{Repo, Server, Clock as TheClock}
-use Rattle.cmd_terms.specs.declared.stages.halt.Halt.TheVariants.{Refused}
-use Rattle.cmd_terms.specs.declared.stages.outcome.Outcome.{Outcome}
-use Rattle.cmd_terms.specs.declared.stages.outcome.Outcome.TheVariants.{Finished}
-use Rattle.cmd_terms.specs.Plans.{Heals, AreHealed, HealsToLast, TakesLocks}
+use Rattle.base_crash_lists.specs.Beside.{StaysBeside}
+use Rattle.cmd_types.specs.declared.stages.object.Object.TheVariants.{Repo, Server, Clock as TheClock}
+use Rattle.cmd_types.specs.declared.stages.halt.Halt.TheVariants.{Refused}
+use Rattle.cmd_types.specs.declared.stages.outcome.Outcome.{Outcome}
+use Rattle.cmd_types.specs.declared.stages.outcome.Outcome.TheVariants.{Finished}
+use Rattle.cmd_types.specs.Plans.{Heals, AreHealed, HealsToLast, TakesLocks}
 use Rattle.base_model.specs.Log.{Done, KeepsRepository}
 use Rattle.base_model.specs.Repository.{Repository}
 use Rattle.base_model.specs.Walks.{IsSynced}
@@ -22,10 +22,10 @@ use Rattle.sha1.specs.Sha1.{sha1}
 use Rattle.cmd_archive_push.specs.LogFile.{known_file}
 use Rattle.cmd_archive_push.specs.WalPath.{IsWalPath, wal_path}
 use Rattle.cmd_archive_push_wait.specs.Leaving.{IsAcknowledged}
-use Rattle.cmd_terms.specs.DisksEffect.{DisksEffect, Takes, On, OnNone, DoesPart, DoesWhole, IsLookedAt}
-use Rattle.cmd_terms.specs.World.{World, Failed, AreLater}
-use Rattle.cmd_stages.specs.Stages.{StageCause}
-use Rattle.cmd_stages.specs.Taking.{MayTake}
+use Rattle.cmd_types.specs.DisksEffect.{DisksEffect, Takes, On, OnNone, DoesPart, DoesWhole, IsLookedAt}
+use Rattle.cmd_types.specs.World.{World, Failed, AreLater}
+use Rattle.cmd_setup.specs.Stages.{StageCause}
+use Rattle.cmd_setup.specs.Taking.{MayTake}
 use Rattle.cmd_stanza_create.specs.Talking.{Ended, Closes as CreateCloses}
 use Rattle.cmd_backup_online.specs.declared.fault.OnlineBackupFault.{OnlineBackupFault}
 use Rattle.cmd_backup_online.specs.declared.fault.OnlineBackupFault.TheVariants.{Take as BackupFault}
@@ -35,8 +35,8 @@ use Rattle.cmd_expire.specs.Pruning.{IsMoment}
 use Rattle.expire_rules.specs.declared.rules.Rules.{Rules}
 use Rattle.expire_make.specs.Expiry.{retention}
 use Rattle.base_model.specs.Steps.{Expire}
-use Rattle.cmd_terms.specs.declared.stages.plan.SyncScope.TheVariants.{Whole}
-use Rattle.cmd_terms.specs.Reached.{OnFinished}
+use Rattle.cmd_types.specs.declared.stages.plan.SyncScope.TheVariants.{Whole}
+use Rattle.cmd_types.specs.Reached.{OnFinished}
 use Rattle.program_run.specs.declared.fault.CommandFault.TheVariants.{Create, Queue, Drain, Take, BackupOnline, Examine, Prune, Rehearse}
 use Rattle.program_run.specs.declared.fault.Fault.{Fault}
 use Rattle.program_run.specs.declared.fault.Fault.TheVariants.{Usage, Stage, Command, FollowUp, Failed as ObjectFailed, NoMemory}

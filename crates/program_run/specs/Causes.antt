@@ -5,13 +5,13 @@ use Rattle.repo_stanza.specs.Owned.{IsOfPairs}
 use Rattle.base_model.specs.Text.{Text}
 use Rattle.options_read.specs.Settings.{Resolved}
 use Rattle.archive_store.specs.Still.{IsStill}
-use Rattle.base_traces.specs.Beside.{StaysBeside, KeepsOthers}
-use Rattle.cmd_terms.specs.declared.stages.fault.Unbuilt.{Unbuilt}
-use Rattle.cmd_terms.specs.declared.stages.fault.StageFault.TheVariants.{NotBuilt}
-use Rattle.cmd_terms.specs.declared.stages.object.Object.TheVariants.{Server, Config, Output}
-use Rattle.cmd_terms.specs.declared.stages.outcome.Outcome.{Outcome}
-use Rattle.cmd_terms.specs.DisksEffect.{On, OnWhole, Leads, Passes, PassesReceipts, EndsAtOne, turns_of}
-use Rattle.cmd_terms.specs.World.{World, Failed}
+use Rattle.base_crash_lists.specs.Beside.{StaysBeside, KeepsOthers}
+use Rattle.cmd_types.specs.declared.stages.fault.Unbuilt.{Unbuilt}
+use Rattle.cmd_types.specs.declared.stages.fault.StageFault.TheVariants.{NotBuilt}
+use Rattle.cmd_types.specs.declared.stages.object.Object.TheVariants.{Server, Config, Output}
+use Rattle.cmd_types.specs.declared.stages.outcome.Outcome.{Outcome}
+use Rattle.cmd_types.specs.DisksEffect.{On, OnWhole, Leads, Passes, PassesReceipts, EndsAtOne, turns_of}
+use Rattle.cmd_types.specs.World.{World, Failed}
 use Rattle.program_run.specs.declared.fault.Fault.{Fault}
 use Rattle.program_run.specs.declared.fault.Fault.TheVariants.{Stage, NoMemory}
 use Rattle.cmd_stanza_create.specs.Talking.{Ended, IsServerRefusal}

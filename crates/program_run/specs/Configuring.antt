@@ -6,9 +6,9 @@ use Rattle.options_read.specs.Faults.{Fault as Refusal}
 use Rattle.options_read.specs.Paths.{Path, nowhere, usual, named, path_of_arguments}
 use Rattle.options_read.specs.Settings.{Resolved}
 use Rattle.options_read.specs.Views.{Fails}
-use Rattle.cmd_terms.specs.declared.stages.object.Object.TheVariants.{Config}
-use Rattle.cmd_terms.specs.declared.stages.fault.StageFault.{StageFault}
-use Rattle.cmd_terms.specs.declared.stages.fault.StageFault.TheVariants.{ConfigMissing, ConfigLong}
+use Rattle.cmd_types.specs.declared.stages.object.Object.TheVariants.{Config}
+use Rattle.cmd_types.specs.declared.stages.fault.StageFault.{StageFault}
+use Rattle.cmd_types.specs.declared.stages.fault.StageFault.TheVariants.{ConfigMissing, ConfigLong}
 use Rattle.program_run.specs.declared.fault.Fault.{Fault}
 use Rattle.program_run.specs.declared.fault.Fault.TheVariants.{Usage, Stage, Command, FollowUp, Failed, NoMemory}
 use Rattle.program_run.specs.Asked.{config_limit, ArgumentsResolve}

@@ -1,7 +1,7 @@
 -- What was written.
 use Rattle.std.specs.Prelude.{◌≡◌, ◌⊎◌, ℕ, ◌++◌, take, Option, option_map}
 use Rattle.base_model.specs.Text.{Text}
-use Rattle.cmd_terms.specs.declared.stages.object.Object.TheVariants.{Output}
+use Rattle.cmd_types.specs.declared.stages.object.Object.TheVariants.{Output}
 use Rattle.program_run.specs.declared.fault.Fault.TheVariants.{Failed, NoMemory}
 use Rattle.program_run.specs.Answers.{Ending, refused, Answer, lines_of, error_line}
 

@@ -8,12 +8,12 @@ use Rattle.base_model.specs.Text.{Text}
 use Rattle.options_read.specs.declared.resolve.Command.{Command}
 use Rattle.options_read.specs.Commands.{IsCommand}
 use Rattle.options_read.specs.Settings.{Resolved}
-use Rattle.cmd_terms.specs.declared.stages.plan.Plan.{Plan}
-use Rattle.cmd_terms.specs.Plans.{AreHeld, first_lock, second_lock}
-use Rattle.cmd_terms.specs.World.{World}
-use Rattle.cmd_stages.specs.declared.ready.Ready.{Ready}
-use Rattle.cmd_stages.specs.Readies.{IsReady}
-use Rattle.cmd_stages.specs.Taking.{HoldsOnly}
+use Rattle.cmd_types.specs.declared.stages.plan.Plan.{Plan}
+use Rattle.cmd_types.specs.Plans.{AreHeld, first_lock, second_lock}
+use Rattle.cmd_types.specs.World.{World}
+use Rattle.cmd_setup.specs.declared.ready.Ready.{Ready}
+use Rattle.cmd_setup.specs.Readies.{IsReady}
+use Rattle.cmd_setup.specs.Taking.{HoldsOnly}
 use Rattle.program_run.specs.declared.order.Order.{Order}
 use Rattle.program_run.specs.declared.settings.Settings.{Settings}
 use Rattle.program_run.specs.Asked.{Request, Asked, Asks, MayAsk, requested}

@@ -17,25 +17,25 @@ use Rattle.base_model.specs.Repository.{Backup, Stanza}
 use Rattle.base_model.specs.Steps.{Command, StanzaCreate, Reading}
 use Rattle.base_model.specs.Now.{NowRepresents}
 use Rattle.repo_stanza.specs.declared.control.Control.{Control}
-use Rattle.cmd_terms.specs.declared.stages.outcome.Outcome.{Outcome}
-use Rattle.cmd_terms.specs.declared.stages.outcome.Outcome.TheVariants.{Finished}
-use Rattle.cmd_terms.specs.Cluster.{FolderShows, IsClusterOf}
-use Rattle.cmd_terms.specs.DisksEffect.{Manner, each, one, provided}
-use Rattle.cmd_terms.specs.World.{World}
+use Rattle.cmd_types.specs.declared.stages.outcome.Outcome.{Outcome}
+use Rattle.cmd_types.specs.declared.stages.outcome.Outcome.TheVariants.{Finished}
+use Rattle.cmd_types.specs.Cluster.{FolderShows, IsClusterOf}
+use Rattle.cmd_types.specs.DisksEffect.{Manner, each, one, provided}
+use Rattle.cmd_types.specs.World.{World}
 use Rattle.base_devices.specs.States.{ConnectionState, ClockState}
-use Rattle.archive_index.specs.Turns.{ProcessesState, Turned}
+use Rattle.archive_lookup.specs.Turns.{ProcessesState, Turned}
 use Rattle.archive_wait.specs.TurnsDone.{turns_of}
 use Rattle.cmd_stanza_create.specs.Server.{Server, socket_path}
 use Rattle.cmd_stanza_create.specs.Talking.{Asks, IsOf}
 use Rattle.cmd_stanza_create.specs.Creating.{IsCreated, CreateCause}
 use Rattle.cmd_archive_push.specs.Commands.{IsPushOf}
 use Rattle.cmd_archive_push.specs.Causes.{IsStored, IsLasting, PushCause}
-use Rattle.cmd_terms.specs.Reached.{OnFinished}
+use Rattle.cmd_types.specs.Reached.{OnFinished}
 use Rattle.cmd_archive_push.specs.WalPath.{IsWalPath, wal_path}
 use Rattle.cmd_archive_push.specs.WalCause.{WordCause}
 use Rattle.cmd_archive_push.specs.LogFile.{known_file}
 use Rattle.sha1.specs.Sha1.{sha1}
-use Rattle.archive_index.specs.Causes.{limit_of}
+use Rattle.archive_lookup.specs.Causes.{limit_of}
 use Rattle.base_model.specs.Names.{wal_text}
 use Rattle.cmd_archive_push_wait.specs.declared.fault.QueueFault.{QueueFault}
 use Rattle.cmd_archive_push_wait.specs.Received.{Received as WaitReceived, ReceivedCause}
@@ -62,7 +62,7 @@ use Rattle.cmd_restore.specs.Words.{ShowsSet, WordCause as SetCause}
 use Rattle.cmd_restore.specs.Restoring.{Before as BeforeRestore, Recovers, GivesBackup}
 use Rattle.cmd_restore.specs.Causes.{RestoreCommandCause}
 use Rattle.restore_make.specs.Finished.{IsFinished}
-use Rattle.restore_parts.specs.Clearing.{control_path, HasNone}
+use Rattle.restore_steps.specs.Clearing.{control_path, HasNone}
 use Rattle.cmd_info.specs.Reporting.{IsReported, ReportsStanza}
 use Rattle.cmd_verify.specs.Verifying.{VerifyCommandCause, IsVerified, EndsWithNone}
 use Rattle.expire_rules.specs.declared.rules.Rules.{Rules}
@@ -71,7 +71,7 @@ use Rattle.expire_make.specs.Losing.{MayExpire}
 use Rattle.cmd_archive_push_async.specs.Drained.{IsDrainOf, IsDrained, DrainCause}
 use Rattle.cmd_expire.specs.FollowUp.{AddsLines, IsFollowed, WasKnown}
 use Rattle.cmd_expire.specs.Faults.{ExpireCommandCause}
-use Rattle.cmd_rehearse_sample.specs.Having.{IsEmpty}
+use Rattle.base_sample.specs.Having.{IsEmpty}
 use Rattle.cmd_rehearse.specs.Causes.{RehearseCause}
 use Rattle.cmd_rehearse.specs.Commands.{IsRehearsal}
 use Rattle.cmd_rehearse.specs.Rehearsing.{IsRehearsed}

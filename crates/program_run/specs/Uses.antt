@@ -1,9 +1,9 @@
 -- What each command needs and uses of what it is given, and which commands a promise speaks of: a line for each.
 use Rattle.std.specs.Prelude.{◌≢◌, ℕ, Bool, true, false, Option, None, Some}
 use Rattle.base_model.specs.Text.{Text}
-use Rattle.cmd_terms.specs.declared.stages.plan.Plan.{Plan}
-use Rattle.cmd_terms.specs.declared.stages.plan.SyncScope.TheVariants.{Whole, Looked}
-use Rattle.cmd_terms.specs.declared.stages.plan.Pairs.TheVariants.{Unread, ReadArchive, HealArchive, ReadBoth}
+use Rattle.cmd_types.specs.declared.stages.plan.Plan.{Plan}
+use Rattle.cmd_types.specs.declared.stages.plan.SyncScope.TheVariants.{Whole, Looked}
+use Rattle.cmd_types.specs.declared.stages.plan.Pairs.TheVariants.{Unread, ReadArchive, HealArchive, ReadBoth}
 use Rattle.expire_rules.specs.declared.rules.Rules.{Rules}
 use Rattle.cmd_expire.specs.Pruning.{counts_days}
 use Rattle.program_run.specs.Asked.{Request, create, push, queue_file, drain, get, get_through, fetch_ahead, backup, backup_running, restore, report, examine, expire, rehearse}

@@ -13,7 +13,7 @@ use crate::server::server_of;
 use crate::settings::{Request, Settings};
 use cmd_expire::{kind_by, rules_of};
 use cmd_restore::{Configuration, FetchArguments, RecoveryType};
-use cmd_terms::{Pairs, Plan, SyncScope, Unbuilt};
+use cmd_types::{Pairs, Plan, SyncScope, Unbuilt};
 use expire_rules::Rules;
 use options_read::{Command, Options, RestoreWord};
 use options_table::Verb;

@@ -6,15 +6,15 @@ ghost use Rattle.options_read.specs.Commands.{IsCommand};
 ghost use Rattle.options_read.specs.Paths.{Path, path_of_arguments};
 ghost use Rattle.options_read.specs.Settings.{Resolved};
 ghost use Rattle.program_run.specs.Asked.{MayHave, ArgumentsResolve, config_limit};
-ghost use Rattle.cmd_terms.specs.declared.stages.object.Object.TheVariants.{Config as TheConfig};
-ghost use Rattle.cmd_terms.specs.Halts.{halt_of};
+ghost use Rattle.cmd_types.specs.declared.stages.object.Object.TheVariants.{Config as TheConfig};
+ghost use Rattle.cmd_types.specs.Halts.{halt_of};
 ghost use Rattle.program_run.specs.declared.fault.Fault.TheVariants.{Stage};
 ghost use Rattle.program_run.specs.Faults.{of_halt};
 ghost use Rattle.program_run.specs.Configuring.{SourceCause, ConfigCause};
 
 use crate::fault::Fault;
 use base_devices::{DeviceError, InputFiles};
-use cmd_terms::{Object, StageFault};
+use cmd_types::{Object, StageFault};
 use options_read::{Command, ConfigPath, config_path, resolve_arguments};
 use std::alloc::Global;
 

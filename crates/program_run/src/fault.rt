@@ -13,7 +13,7 @@ use cmd_expire::{ExpireCommandFault, FollowUpFault, after_status, expire_status}
 use cmd_rehearse::{RehearseFault, rehearse_status};
 use cmd_restore::{RestoreCommandFault, restore_status};
 use cmd_stanza_create::{CreateFault, create_status};
-use cmd_terms::{Halt, Object, Outcome, StageFault, object_status, stage_status};
+use cmd_types::{Halt, Object, Outcome, StageFault, object_status, stage_status};
 use cmd_verify::{VerifyCommandFault, verify_status};
 use options_read::Usage;
 use std::alloc::AllocError;

@@ -13,7 +13,7 @@ use cmd_expire::{after_message, expire_message};
 use cmd_rehearse::rehearse_message;
 use cmd_restore::restore_message;
 use cmd_stanza_create::create_message;
-use cmd_terms::{Object, bytes_of, object_message, push_shown, quoted, stage_message};
+use cmd_types::{Object, bytes_of, object_message, push_shown, quoted, stage_message};
 use cmd_verify::verify_message;
 use options_read::Usage;
 use std::alloc::{AllocError, Global};

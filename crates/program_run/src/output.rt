@@ -9,7 +9,7 @@ use crate::fault::{Fault, status};
 use crate::lines::{absent_line, deviating_lines, fault_lines, push_unknown};
 use base_devices::{DeviceError, OutputStream};
 use base_text::NoMemory;
-use cmd_terms::{Object, Outcome};
+use cmd_types::{Object, Outcome};
 use std::alloc::Global;
 
 // Reported where there is no memory for another line.

@@ -1,8 +1,8 @@
 // What is handed to the program.
 ghost use Rattle.std.specs.Prelude.{map};
-ghost use Rattle.cmd_terms.specs.World.{World};
+ghost use Rattle.cmd_types.specs.World.{World};
 
-use archive_index::OtherProcesses;
+use archive_lookup::OtherProcesses;
 use base_devices::{
     Clock, DataFolder, Disk, InputFiles, Link, Locks, OutputStream, Scheduler, ServerConnection,
 };

@@ -1,6 +1,6 @@
 // The commands' own parts, over all that is handed to the program: what the stages made ready goes to each.
 ghost use Rattle.std.specs.Prelude.{◌≡◌, ◌≤◌, ◌∷◌, [], None, OnOk, map, string_bytes};
-ghost use Rattle.cmd_terms.specs.Plans.{backup_lock};
+ghost use Rattle.cmd_types.specs.Plans.{backup_lock};
 ghost use Rattle.program_run.specs.Asked.{alone, create as asks_create, push as asks_push, get as asks_get, report as asks_report, examine as asks_examine, expire as asks_expire};
 ghost use Rattle.program_run.specs.CallEffect.{Acknowledges, CallEffect, Followed, PartEffect, SamePlaces};
 ghost use Rattle.program_run.specs.Modelled.{request_of, asked_of, AreWorkers, IsLeft};
@@ -15,7 +15,7 @@ use crate::fault::{
 use crate::order::{QueueOrder, RunningOrder};
 use crate::outside::{Modelled, Outside};
 use crate::settings::Settings;
-use archive_index::OtherProcesses;
+use archive_lookup::OtherProcesses;
 use base_devices::{
     Clock, DataFolder, Disk, InputFiles, Link, Locks, OutputStream, Scheduler, ServerConnection,
 };
@@ -29,9 +29,9 @@ use cmd_expire::{expire_after, expire_stanza};
 use cmd_info::report_stanza;
 use cmd_rehearse::{RehearseOrder, rehearse};
 use cmd_restore::{RecoverOrder, restore_backup};
-use cmd_stages::Ready;
+use cmd_setup::Ready;
 use cmd_stanza_create::{create_stanza, socket_path};
-use cmd_terms::Outcome;
+use cmd_types::Outcome;
 use cmd_verify::verify_stanza;
 use expire_rules::Rules;
 use options_read::OutputWord;

@@ -11,13 +11,13 @@ use crate::fault::{Fault, get_end};
 use crate::order::{AheadOrder, ThroughOrder};
 use crate::outside::{Modelled, Outside};
 use crate::settings::Settings;
-use archive_index::OtherProcesses;
+use archive_lookup::OtherProcesses;
 use base_devices::{
     Clock, DataFolder, Disk, InputFiles, Link, Locks, OutputStream, Scheduler, ServerConnection,
 };
 use cmd_archive_get_async::{fetch_after, get_ahead};
-use cmd_stages::Ready;
-use cmd_terms::Outcome;
+use cmd_setup::Ready;
+use cmd_types::Outcome;
 use std::alloc::Global;
 
 impl<

@@ -1,9 +1,9 @@
 // The stages of a command, over all that is handed to the program.
 ghost use Rattle.std.specs.Prelude.{◌≡◌, true, false, Some, None, OnOk, IfErr, [], ◌⊎◌, map};
-ghost use Rattle.cmd_terms.specs.Plans.{AreHeld};
-ghost use Rattle.cmd_terms.specs.Halts.{HaltCause, Never};
-ghost use Rattle.cmd_terms.specs.World.{Failed, AreRead};
-ghost use Rattle.cmd_stages.specs.Taking.{AreNames};
+ghost use Rattle.cmd_types.specs.Plans.{AreHeld};
+ghost use Rattle.cmd_types.specs.Halts.{HaltCause, Never};
+ghost use Rattle.cmd_types.specs.World.{Failed, AreRead};
+ghost use Rattle.cmd_setup.specs.Taking.{AreNames};
 ghost use Rattle.program_run.specs.Asked.{alone};
 ghost use Rattle.program_run.specs.CallEffect.{Acknowledges, PartEffect, CallEffect, ComesAfter, Brackets, SamePlaces, OpensPlaces, ArePlacesOpened, TakesAll, OnlyLocked};
 ghost use Rattle.program_run.specs.Kept.{KeepsFolder, KeepsInAndOut, KeepsLocked, KeepsSpool, KeepsWorkers};
@@ -16,14 +16,14 @@ use crate::fault::Fault;
 use crate::order::{Course, Order, course_of};
 use crate::outside::{Modelled, Outside};
 use crate::settings::Settings;
-use archive_index::OtherProcesses;
+use archive_lookup::OtherProcesses;
 use base_devices::{
     Clock, DataFolder, Disk, InputFiles, Link, Locks, OutputStream, Scheduler, ServerConnection,
 };
-use cmd_stages::{
+use cmd_setup::{
     LockNames, Ready, lock_names, open_disk, open_tree, prepare, release_locks, take_locks,
 };
-use cmd_terms::{Halt, Object, Outcome, Plan, StageFault};
+use cmd_types::{Halt, Object, Outcome, Plan, StageFault};
 use std::alloc::Global;
 
 // The data folder, where it is opened.

@@ -15,11 +15,11 @@ use crate::config::read_command;
 use crate::fault::Fault;
 use crate::output::answer;
 use crate::outside::{Modelled, Outside};
-use archive_index::OtherProcesses;
+use archive_lookup::OtherProcesses;
 use base_devices::{
     Clock, DataFolder, Disk, InputFiles, Link, Locks, OutputStream, Scheduler, ServerConnection,
 };
-use cmd_terms::StageFault;
+use cmd_types::StageFault;
 use options_read::Command;
 use std::alloc::Global;
 

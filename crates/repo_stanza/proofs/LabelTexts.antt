@@ -6,8 +6,8 @@ use Rattle.base_model.specs.declared.labels.BackupKind.{BackupKind}
 use Rattle.base_model.specs.declared.labels.BackupKind.TheVariants.{Full, Diff, Incr}
 use Rattle.base_model.specs.Dates.{stamp}
 use Rattle.base_model.specs.Names.{label_text, later_text, letter}
-use Rattle.archive_index.specs.Paths.{Lacks}
-use Rattle.archive_index.proofs.Cuts.{lacks_append}
+use Rattle.archive_lookup.specs.Paths.{Lacks}
+use Rattle.archive_lookup.proofs.Cuts.{lacks_append}
 
 digit : (n : ℕ) → 48 + n ≢ 47
 digit n e = omega (arith, e)

@@ -16,12 +16,12 @@ use Rattle.base_model.specs.Text.{Text, ◌⫽◌, In}
 use Rattle.base_model.specs.Names.{archive_folder, backup_folder, label_folder, label_text, id_text, archive_text}
 use Rattle.base_model.specs.InfoFiles.{IsLabel}
 use Rattle.base_model.specs.Represents.{IsArchivePlace, IsArchiveFile}
-use Rattle.archive_index.specs.Paths.{Lacks, IsReadAs, below_folder, below_id}
-use Rattle.archive_index.specs.declared.stored.paths.StoredName.{StoredName}
-use Rattle.archive_index.proofs.Cuts.{divided, undivided}
-use Rattle.archive_index.proofs.OnePath.{stripped, unstripped, below_after}
-use Rattle.archive_index.proofs.Picked.{each_after}
-use Rattle.archive_index.proofs.Looked.{pair_of, found_at, held_at, found_order}
+use Rattle.archive_lookup.specs.Paths.{Lacks, IsReadAs, below_folder, below_id}
+use Rattle.archive_lookup.specs.declared.stored.paths.StoredName.{StoredName}
+use Rattle.archive_lookup.proofs.Cuts.{divided, undivided}
+use Rattle.archive_lookup.proofs.OnePath.{stripped, unstripped, below_after}
+use Rattle.archive_lookup.proofs.Picked.{each_after}
+use Rattle.archive_lookup.proofs.Looked.{pair_of, found_at, held_at, found_order}
 use Rattle.repo_stanza.specs.declared.control.Control.{Control}
 use Rattle.repo_stanza.specs.declared.fault.StanzaFault.{StanzaFault}
 use Rattle.repo_stanza.specs.declared.fault.StanzaFault.TheVariants.{InfoDamaged, HistoryDiffers, StanzaMismatch, ArchiveLost, FilesFound, Disk, NoMemory}

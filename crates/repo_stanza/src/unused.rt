@@ -7,13 +7,13 @@ ghost use Rattle.base_model.specs.InfoFiles.{IsLabel};
 ghost use Rattle.base_model.specs.Names.{archive_folder, backup_folder};
 ghost use Rattle.base_model.specs.Represents.{IsArchiveFile};
 ghost use Rattle.base_model.specs.Text.{Text, ◌⫽◌};
-ghost use Rattle.archive_index.specs.Paths.{Lacks};
+ghost use Rattle.archive_lookup.specs.Paths.{Lacks};
 ghost use Rattle.repo_stanza.specs.Pairs.{LacksStanza};
 ghost use Rattle.repo_stanza.specs.Unused.{IsInLabel, IsUnused, HasNone, FindsNone, FindsFirst};
 ghost use Rattle.repo_stanza.specs.Causes.{FoundCause, UnusedCause, IfLost};
 
 use crate::fault::StanzaFault;
-use archive_index::read_path;
+use archive_lookup::read_path;
 use base_devices::{Disk, Found};
 use repo_names::read_label;
 use std::alloc::Global;

@@ -16,11 +16,11 @@ use Rattle.worker_pool.specs.Run.{JobsFault}
 use Rattle.worker_pool.specs.declared.dispatch.fault.Lost.{Lost}
 use Rattle.worker_pool.specs.declared.dispatch.fault.DispatchFault.{DispatchFault}
 use Rattle.worker_pool.specs.declared.dispatch.fault.DispatchFault.TheVariants as dispatch
-use Rattle.restore_parts.specs.Clearing.{HasFile}
-use Rattle.restore_parts.specs.declared.contents.files.Wanted.{Wanted}
-use Rattle.restore_parts.specs.declared.contents.files.Filed.{Filed}
-use Rattle.restore_parts.specs.Files.{temporary_path, is_wanted, wanted_of}
-use Rattle.restore_parts.proofs.Listing.{got, either_is, some_within}
+use Rattle.restore_steps.specs.Clearing.{HasFile}
+use Rattle.restore_steps.specs.declared.contents.files.Wanted.{Wanted}
+use Rattle.restore_steps.specs.declared.contents.files.Filed.{Filed}
+use Rattle.restore_steps.specs.Files.{temporary_path, is_wanted, wanted_of}
+use Rattle.restore_steps.proofs.Listing.{got, either_is, some_within}
 use Rattle.restore_make.specs.declared.fault.FillFault.{FillFault}
 use Rattle.restore_make.specs.declared.fault.FillFault.TheVariants as faults
 use Rattle.worker_pool.specs.Digests.{IsWhole}

@@ -8,7 +8,7 @@ use Rattle.base_devices.specs.declared.tree.Node.TheVariants.{File}
 use Rattle.base_devices.specs.DataFolder.{Nodes, Held, file, folder, link, other, file_bytes, IsTreeListing}
 use Rattle.base_model.specs.Text.{Text, In}
 use Rattle.base_model.specs.Values.{FileEntry, Manifest}
-use Rattle.restore_parts.specs.Clearing.{control_path}
+use Rattle.restore_steps.specs.Clearing.{control_path}
 use Rattle.restore_make.specs.Options.{Options}
 use Rattle.restore_make.specs.Entries.{AreOf}
 use Rattle.restore_make.specs.Kept.{IsKept, IsShown, MarksAlike, AreFilesOf, KeepsAlike}

@@ -17,10 +17,10 @@ use Rattle.worker_pool.specs.declared.dispatch.fault.DispatchFault.{DispatchFaul
 use Rattle.worker_pool.proofs.Going.{some_of, is_some_at}
 use Rattle.worker_pool.specs.Digests.{AreDigests, IsEndBy, IsWhole, AreEnds as ReadItem}
 use Rattle.worker_pool.proofs.Digests.{digested_as, whole_end}
-use Rattle.restore_parts.proofs.Paths.{take_whole}
-use Rattle.restore_parts.proofs.Listing.{map_get}
-use Rattle.restore_parts.specs.Sources.{IsEntry, source}
-use Rattle.restore_parts.proofs.Fitting.{fits_one}
+use Rattle.restore_steps.proofs.Paths.{take_whole}
+use Rattle.restore_steps.proofs.Listing.{map_get}
+use Rattle.restore_steps.specs.Sources.{IsEntry, source}
+use Rattle.restore_steps.proofs.Fitting.{fits_one}
 use Rattle.restore_make.specs.declared.candidates.Candidate.{Candidate}
 use Rattle.restore_make.specs.declared.fault.FillFault.{FillFault}
 use Rattle.restore_make.specs.declared.fault.FillFault.TheVariants as faults

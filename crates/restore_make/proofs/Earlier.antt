@@ -16,7 +16,7 @@ use Rattle.worker_pool.specs.Going.{IsSame}
 use Rattle.worker_pool.specs.Payloads.{AllRead}
 use Rattle.worker_pool.specs.declared.dispatch.fault.Lost.{Lost}
 use Rattle.worker_pool.proofs.Reading.{all_at}
-use Rattle.restore_parts.specs.Sources.{source}
+use Rattle.restore_steps.specs.Sources.{source}
 use Rattle.restore_make.specs.Options.{Options}
 use Rattle.worker_pool.specs.Digests.{IsDigestedBy}
 use Rattle.restore_make.specs.Settings.{HasAdded}

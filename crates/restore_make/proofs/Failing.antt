@@ -9,7 +9,7 @@ use Rattle.worker_protocol.specs.Frames.{Item}
 use Rattle.worker_pool.specs.Reads.{UnreadBy}
 use Rattle.worker_pool.specs.Going.{IsSame}
 use Rattle.worker_pool.specs.declared.dispatch.fault.Lost.{Lost}
-use Rattle.restore_parts.specs.Sources.{source}
+use Rattle.restore_steps.specs.Sources.{source}
 use Rattle.restore_make.specs.declared.fault.FillFault.{FillFault}
 use Rattle.restore_make.specs.declared.fault.FillFault.TheVariants as faults
 use Rattle.worker_pool.specs.Left.{IsLeft}

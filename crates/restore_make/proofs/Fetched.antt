@@ -10,13 +10,13 @@ use Rattle.base_model.specs.Text.{Text}
 use Rattle.base_model.specs.Values.{FileEntry}
 use Rattle.worker_protocol.specs.Frames.{Item, Job}
 use Rattle.worker_pool.specs.declared.dispatch.fault.Lost.{Lost}
-use Rattle.restore_parts.specs.declared.contents.files.Wanted.{Wanted}
-use Rattle.restore_parts.specs.Files.{temporary_path}
-use Rattle.restore_parts.specs.Apart.{AreApart}
-use Rattle.restore_parts.specs.Keeping.{IsNoneOf}
-use Rattle.restore_parts.specs.Clearing.{HasFile}
-use Rattle.restore_parts.proofs.Nodes.{set_other, set_same}
-use Rattle.restore_parts.specs.Sources.{source, reading, IsEntry}
+use Rattle.restore_steps.specs.declared.contents.files.Wanted.{Wanted}
+use Rattle.restore_steps.specs.Files.{temporary_path}
+use Rattle.restore_steps.specs.Apart.{AreApart}
+use Rattle.restore_steps.specs.Keeping.{IsNoneOf}
+use Rattle.restore_steps.specs.Clearing.{HasFile}
+use Rattle.restore_steps.proofs.Nodes.{set_other, set_same}
+use Rattle.restore_steps.specs.Sources.{source, reading, IsEntry}
 use Rattle.restore_make.specs.declared.fault.FillFault.{FillFault}
 use Rattle.restore_make.specs.declared.fault.FillFault.TheVariants as faults
 use Rattle.restore_make.specs.Written.{IsJobOf, AreJobsOf, IsReadOf, IsFetched}

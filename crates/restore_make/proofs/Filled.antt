@@ -13,11 +13,11 @@ use Rattle.worker_protocol.specs.Frames.{Item, Job}
 use Rattle.worker_pool.specs.Reads.{UnreadBy}
 use Rattle.worker_pool.specs.Run.{AllLost, begun}
 use Rattle.worker_pool.specs.declared.dispatch.fault.Lost.{Lost}
-use Rattle.restore_parts.specs.Clearing.{control_path, HasFile}
-use Rattle.restore_parts.specs.declared.contents.files.Wanted.{Wanted}
-use Rattle.restore_parts.specs.Files.{temporary_path}
-use Rattle.restore_parts.specs.Keeping.{IsNoneOf, HaveFolders}
-use Rattle.restore_parts.specs.Sources.{source, reading}
+use Rattle.restore_steps.specs.Clearing.{control_path, HasFile}
+use Rattle.restore_steps.specs.declared.contents.files.Wanted.{Wanted}
+use Rattle.restore_steps.specs.Files.{temporary_path}
+use Rattle.restore_steps.specs.Keeping.{IsNoneOf, HaveFolders}
+use Rattle.restore_steps.specs.Sources.{source, reading}
 use Rattle.restore_make.specs.declared.fault.FillFault.{FillFault}
 use Rattle.restore_make.specs.declared.fault.FillFault.TheVariants as faults
 use Rattle.restore_make.specs.Written.{IsReadOf, IsFetched, AllFetched}
@@ -29,7 +29,7 @@ use Rattle.restore_make.proofs.ReadJobs.{at_in, in_at, entry_at, wanted_of_entry
 use Rattle.restore_make.proofs.ReadEntries.{in_read, marked_in, ordinary_off}
 use Rattle.restore_make.proofs.Names.{control_lasts}
 use Rattle.worker_pool.proofs.Links.{unsteady_loss}
-use Rattle.restore_parts.proofs.Listing.{some_within}
+use Rattle.restore_steps.proofs.Listing.{some_within}
 
 pub one_left : (left : List LinkState) (now : LinkState) → map (λ (s : LinkState). Some s) left ≡ Some now ∷ [] → left ≡ now ∷ []
 one_left [] now e = cc

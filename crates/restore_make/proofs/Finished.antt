@@ -15,10 +15,10 @@ use Rattle.base_model.specs.Text.{Text, In}
 use Rattle.base_model.specs.Values.{FileEntry, Manifest}
 use Rattle.base_model.specs.ManifestText.{IsManifest}
 use Rattle.worker_pool.specs.declared.dispatch.fault.Lost.{Lost}
-use Rattle.restore_parts.specs.Files.{temporary_path}
-use Rattle.restore_parts.specs.Clearing.{control_path, is_bare, HasNone}
-use Rattle.restore_parts.proofs.Nodes.{set_other, set_same}
-use Rattle.restore_parts.proofs.Ordered.{one_name}
+use Rattle.restore_steps.specs.Files.{temporary_path}
+use Rattle.restore_steps.specs.Clearing.{control_path, is_bare, HasNone}
+use Rattle.restore_steps.proofs.Nodes.{set_other, set_same}
+use Rattle.restore_steps.proofs.Ordered.{one_name}
 use Rattle.restore_make.specs.Listed.{is_folder, is_control_node, IsListedBut, IsPlain}
 use Rattle.restore_make.specs.Options.{Options, is_added}
 use Rattle.restore_make.specs.Kept.{marked, IsKept}

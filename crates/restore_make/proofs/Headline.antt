@@ -20,17 +20,17 @@ use Rattle.base_model.specs.Represents.{IsManifestOf, IsEntryOf}
 use Rattle.worker_protocol.specs.Frames.{Item}
 use Rattle.worker_pool.specs.Reads.{Reads, ReadBy, SumsBy, IsSumOf, IsPayload, file_of}
 use Rattle.worker_pool.specs.Payloads.{AllRead}
-use Rattle.restore_parts.specs.Clearing.{HasFile}
+use Rattle.restore_steps.specs.Clearing.{HasFile}
 use Rattle.base_model.specs.Restored.Recovery.{ToTheEnd, Nothing}
 use Rattle.base_model.specs.Restored.{Recovery, conf_path, signal_path, with_block, contents, IsRestored}
-use Rattle.restore_parts.proofs.Paths.{take_whole}
+use Rattle.restore_steps.proofs.Paths.{take_whole}
 use Rattle.restore_make.specs.Options.{Options, is_added}
 use Rattle.restore_make.specs.Entries.{AreOf}
 use Rattle.restore_make.specs.Kept.{in_folder, IsKept, AreFilesOf}
 use Rattle.restore_make.specs.Settings.{WasHeld, HasSettings, HasAdded}
 use Rattle.restore_make.proofs.Names.{other_path, own_path}
 use Rattle.restore_make.specs.Written.{IsReadOf}
-use Rattle.restore_parts.specs.Sources.{source}
+use Rattle.restore_steps.specs.Sources.{source}
 use Rattle.restore_make.specs.Finished.{HasEntry, HasCome, IsFinished, AreKnown, Restores}
 use Rattle.restore_make.proofs.Plain.{in_paths, path_in}
 

@@ -16,7 +16,7 @@ use Rattle.worker_pool.specs.Reads.{AllEnd, EndsAs}
 use Rattle.worker_pool.specs.Run.{EndedBy, AllDone}
 use Rattle.worker_pool.proofs.Going.{some_of}
 use Rattle.worker_pool.specs.declared.dispatch.fault.Lost.{Lost}
-use Rattle.restore_parts.specs.Sources.{source, reading}
+use Rattle.restore_steps.specs.Sources.{source, reading}
 use Rattle.restore_make.specs.declared.fault.FillFault.{FillFault}
 use Rattle.restore_make.specs.declared.fault.FillFault.TheVariants as faults
 use Rattle.restore_make.specs.declared.candidates.Candidate.{Candidate}

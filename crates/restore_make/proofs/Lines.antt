@@ -10,8 +10,8 @@ use Rattle.base_model.specs.Restored.{conf_path, signal_path, line_end, settings
 use Rattle.base_model.specs.Values.{FileEntry}
 use Rattle.restore_make.specs.Settings.{HoldsConf, HasSettings}
 use Rattle.base_model.specs.Text.{Text}
-use Rattle.restore_parts.specs.Clearing.{HasFile}
-use Rattle.restore_parts.proofs.Nodes.{set_same}
+use Rattle.restore_steps.specs.Clearing.{HasFile}
+use Rattle.restore_steps.proofs.Nodes.{set_same}
 
 -- ---- the last line
 

@@ -11,7 +11,7 @@ use Rattle.worker_protocol.specs.declared.sinks.ItemEnd.{ItemEnd}
 use Rattle.worker_pool.proofs.Going.{some_of}
 use Rattle.worker_pool.specs.Digests.{IsWhole, is_equal}
 use Rattle.worker_pool.proofs.Digests.{whole_of, equal_of}
-use Rattle.restore_parts.proofs.Listing.{get_set_other, either_is, some_within}
+use Rattle.restore_steps.proofs.Listing.{get_set_other, either_is, some_within}
 use Rattle.restore_make.specs.declared.candidates.Candidate.{Candidate}
 use Rattle.restore_make.specs.Options.{Options}
 use Rattle.restore_make.specs.Entries.{AreOf}

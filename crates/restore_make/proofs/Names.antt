@@ -6,8 +6,8 @@ use Rattle.base_devices.specs.Crash.{IsTemporary}
 use Rattle.base_model.specs.Restored.{Recovery, conf_path, signal_path}
 use Rattle.base_model.specs.Restored.Recovery.{ToTheEnd, Nothing}
 use Rattle.base_model.specs.Text.{Text}
-use Rattle.restore_parts.specs.Clearing.{control_path}
-use Rattle.restore_parts.specs.Files.{temporary_path}
+use Rattle.restore_steps.specs.Clearing.{control_path}
+use Rattle.restore_steps.specs.Files.{temporary_path}
 use Rattle.restore_make.specs.Options.{is_added}
 
 is_temporary : (p : Text) → IsTemporary (temporary_path p)

@@ -16,8 +16,8 @@ use Rattle.base_model.specs.Restored.Recovery.{Nothing}
 use Rattle.base_model.specs.Text.{Text, In}
 use Rattle.base_model.specs.Values.{FileEntry, Manifest}
 use Rattle.base_model.specs.ManifestText.{IsManifest, IsFileEntry, IsFolder}
-use Rattle.restore_parts.specs.Files.{temporary_path}
-use Rattle.restore_parts.specs.Clearing.{control_path, HasFile, is_bare, Bares, has_path, stays, without, left_at, with_folders}
+use Rattle.restore_steps.specs.Files.{temporary_path}
+use Rattle.restore_steps.specs.Clearing.{control_path, HasFile, is_bare, Bares, has_path, stays, without, left_at, with_folders}
 use Rattle.restore_make.specs.Options.{Options, is_ordinary}
 use Rattle.restore_make.specs.Entries.{IsFilled, Fills}
 use Rattle.restore_make.specs.Kept.{marked, IsAlike, AllAlike, IsKept}
@@ -25,9 +25,9 @@ use Rattle.restore_make.specs.Listed.{IsListedBut, IsPlain}
 use Rattle.restore_make.proofs.Names.{lasts}
 use Rattle.restore_make.proofs.Shown.{in_contains}
 use Rattle.restore_make.proofs.ReadEntries.{not_true, is_false, ordinary_some, ordinary_off, marked_in, one_mark}
-use Rattle.restore_parts.proofs.Cleared.{cleared, without_at, none_left, folder_made, folder_apart}
-use Rattle.restore_parts.proofs.Ordered.{one_name}
-use Rattle.restore_parts.proofs.Paths.{in_has}
+use Rattle.restore_steps.proofs.Cleared.{cleared, without_at, none_left, folder_made, folder_apart}
+use Rattle.restore_steps.proofs.Ordered.{one_name}
+use Rattle.restore_steps.proofs.Paths.{in_has}
 
 -- no path of these is the one that is looked for
 none_found : (ps : List Text) (q : Text) → ¬ In q ps → has_path ps q ≡ false

@@ -5,8 +5,8 @@ use Rattle.base_devices.specs.DataFolder.{Nodes, IsPlaced}
 use Rattle.base_model.specs.ManifestText.{IsManifest, HasItsFolders}
 use Rattle.base_model.specs.Text.{Text, In}
 use Rattle.base_model.specs.Values.{FileEntry, Manifest}
-use Rattle.restore_parts.specs.Clearing.{without, with_folders, HaveTheirFolders, ArePlaced}
-use Rattle.restore_parts.proofs.Cleared.{folder_made}
+use Rattle.restore_steps.specs.Clearing.{without, with_folders, HaveTheirFolders, ArePlaced}
+use Rattle.restore_steps.proofs.Cleared.{folder_made}
 use Rattle.restore_make.proofs.Plain.{in_paths, path_in}
 
 pub have_folders : (m : Manifest) → IsManifest m → HaveTheirFolders m

@@ -14,12 +14,12 @@ use Rattle.base_model.specs.ManifestText.{IsManifest}
 use Rattle.base_model.specs.Restored.{Recovery, conf_path, signal_path}
 use Rattle.base_model.specs.Text.{Text, In, ◌⫽◌}
 use Rattle.base_model.specs.Values.{FileEntry, Manifest}
-use Rattle.restore_parts.specs.declared.contents.files.Wanted.{Wanted}
-use Rattle.restore_parts.specs.Files.{temporary_path}
-use Rattle.restore_parts.specs.Keeping.{IsFolderAt, HaveFolders}
-use Rattle.restore_parts.specs.Clearing.{control_path, without, with_folders, IsListed}
-use Rattle.restore_parts.proofs.Cleared.{folder_made}
-use Rattle.restore_parts.proofs.Ordered.{one_name}
+use Rattle.restore_steps.specs.declared.contents.files.Wanted.{Wanted}
+use Rattle.restore_steps.specs.Files.{temporary_path}
+use Rattle.restore_steps.specs.Keeping.{IsFolderAt, HaveFolders}
+use Rattle.restore_steps.specs.Clearing.{control_path, without, with_folders, IsListed}
+use Rattle.restore_steps.proofs.Cleared.{folder_made}
+use Rattle.restore_steps.proofs.Ordered.{one_name}
 use Rattle.restore_make.specs.Entries.{IsBeside, Fills, reads_of}
 use Rattle.restore_make.specs.Finished.{waiting_path, HasEntry}
 use Rattle.restore_make.specs.Kept.{marked}

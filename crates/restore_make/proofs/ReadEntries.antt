@@ -8,8 +8,8 @@ use Rattle.base_devices.specs.Order.{are_in_order}
 use Rattle.base_model.specs.Restored.{Recovery}
 use Rattle.base_model.specs.Text.{Text, In}
 use Rattle.base_model.specs.Values.{FileEntry}
-use Rattle.restore_parts.specs.Clearing.{control_path}
-use Rattle.restore_parts.proofs.Ordered.{one_name}
+use Rattle.restore_steps.specs.Clearing.{control_path}
+use Rattle.restore_steps.proofs.Ordered.{one_name}
 use Rattle.restore_make.specs.Options.{is_added, is_ordinary}
 use Rattle.restore_make.specs.Kept.{mark_at, marked}
 use Rattle.restore_make.specs.Entries.{is_read, reads_of}

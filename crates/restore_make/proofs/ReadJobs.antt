@@ -16,12 +16,12 @@ use Rattle.worker_protocol.specs.declared.frames.frames.JobKind.TheVariants.{Rea
 use Rattle.worker_protocol.specs.declared.frames.frames.Job as rust_job
 use Rattle.worker_protocol.specs.Frames.{Item, Job, FitsJob}
 use Rattle.worker_protocol.specs.Views.{job_of}
-use Rattle.restore_parts.proofs.Ordered.{tail_order}
-use Rattle.restore_parts.specs.declared.contents.files.Wanted.{Wanted}
-use Rattle.restore_parts.specs.Files.{temporary_path}
-use Rattle.restore_parts.specs.Apart.{AreApart}
-use Rattle.restore_parts.proofs.Listing.{map_get, some_within}
-use Rattle.restore_parts.specs.Sources.{source, reading}
+use Rattle.restore_steps.proofs.Ordered.{tail_order}
+use Rattle.restore_steps.specs.declared.contents.files.Wanted.{Wanted}
+use Rattle.restore_steps.specs.Files.{temporary_path}
+use Rattle.restore_steps.specs.Apart.{AreApart}
+use Rattle.restore_steps.proofs.Listing.{map_get, some_within}
+use Rattle.restore_steps.specs.Sources.{source, reading}
 use Rattle.restore_make.specs.Written.{IsJobOf, AreJobsOf}
 use Rattle.restore_make.specs.Entries.{is_read, read_one, reads_of, Want, want_of, want_in}
 use Rattle.restore_make.proofs.Names.{lasts}

@@ -9,14 +9,14 @@ use Rattle.base_model.specs.Restored.Recovery.{Nothing}
 use Rattle.base_model.specs.Text.{Text, In}
 use Rattle.base_model.specs.Values.{FileEntry, Manifest}
 use Rattle.base_model.specs.ManifestText.{IsManifest}
-use Rattle.restore_parts.specs.Clearing.{control_path, is_bare, Bares, without, with_folders}
+use Rattle.restore_steps.specs.Clearing.{control_path, is_bare, Bares, without, with_folders}
 use Rattle.restore_make.specs.Options.{Options}
 use Rattle.restore_make.specs.Entries.{reads_of, IsFilled, Fills}
 use Rattle.restore_make.specs.Kept.{marked}
 use Rattle.worker_pool.specs.Left.{IsLeft}
 use Rattle.restore_make.specs.Finished.{Rebuilds}
 use Rattle.worker_pool.specs.declared.dispatch.fault.Lost.{Lost}
-use Rattle.restore_parts.specs.Sources.{source}
+use Rattle.restore_steps.specs.Sources.{source}
 use Rattle.restore_make.proofs.Links.{read_before}
 use Rattle.restore_make.specs.Listed.{IsListedBut, IsPlain, IsPrepared}
 use Rattle.restore_make.proofs.Names.{control_lasts}

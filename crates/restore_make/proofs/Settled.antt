@@ -11,8 +11,8 @@ use Rattle.base_model.specs.Restored.Recovery.{ToTheEnd, Nothing}
 use Rattle.base_model.specs.Text.{Text}
 use Rattle.base_model.specs.Values.{FileEntry, Manifest}
 use Rattle.worker_pool.specs.declared.dispatch.fault.Lost.{Lost}
-use Rattle.restore_parts.specs.Files.{temporary_path}
-use Rattle.restore_parts.specs.Sources.{source}
+use Rattle.restore_steps.specs.Files.{temporary_path}
+use Rattle.restore_steps.specs.Sources.{source}
 use Rattle.restore_make.specs.Options.{Options, is_added}
 use Rattle.restore_make.specs.Settings.{WasHeld, HasSettings}
 use Rattle.restore_make.specs.Listed.{IsPlain}

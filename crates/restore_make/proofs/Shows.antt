@@ -16,9 +16,9 @@ use Rattle.base_model.specs.Values.{FileEntry, file_entry_of}
 use Rattle.backup_plan.proofs.Lists.{of_map}
 use Rattle.backup_plan.proofs.Searched.{found, absent}
 use Rattle.backup_plan.proofs.Sought.{name_of}
-use Rattle.restore_parts.proofs.Bare.{in_left, in_split}
-use Rattle.restore_parts.proofs.Ordered.{one_name}
-use Rattle.restore_parts.proofs.Listing.{map_get}
+use Rattle.restore_steps.proofs.Bare.{in_left, in_split}
+use Rattle.restore_steps.proofs.Ordered.{one_name}
+use Rattle.restore_steps.proofs.Listing.{map_get}
 use Rattle.restore_make.specs.declared.candidates.Candidate.{Candidate}
 use Rattle.restore_make.specs.Options.{is_ordinary}
 use Rattle.restore_make.specs.Kept.{IsShown}

@@ -17,14 +17,14 @@ use Rattle.worker_protocol.specs.declared.sinks.ItemEnd.{ItemEnd}
 use Rattle.worker_protocol.specs.declared.sinks.ItemEnd.TheVariants.{Whole, Vanished}
 use Rattle.worker_pool.specs.Reads.{AllEnd}
 use Rattle.worker_pool.specs.Run.{EndedBy, AllDone}
-use Rattle.restore_parts.specs.Clearing.{HasFile}
-use Rattle.restore_parts.specs.declared.contents.files.Wanted.{Wanted}
-use Rattle.restore_parts.specs.declared.contents.files.Filed.{Filed}
-use Rattle.restore_parts.specs.Files.{temporary_path, bytes_at, is_right, known_by, held_by, done_by, kept_of, wanted_of, IsInPlace, AllTidy}
+use Rattle.restore_steps.specs.Clearing.{HasFile}
+use Rattle.restore_steps.specs.declared.contents.files.Wanted.{Wanted}
+use Rattle.restore_steps.specs.declared.contents.files.Filed.{Filed}
+use Rattle.restore_steps.specs.Files.{temporary_path, bytes_at, is_right, known_by, held_by, done_by, kept_of, wanted_of, IsInPlace, AllTidy}
 use Rattle.worker_pool.specs.Digests.{IsWhole}
 use Rattle.restore_make.specs.Written.{IsJobOf, AreJobsOf, IsReadOf, IsWritten, AllWritten}
-use Rattle.restore_parts.proofs.Listing.{map_get, some_within}
-use Rattle.restore_parts.specs.Apart.{HasOneItem}
+use Rattle.restore_steps.proofs.Listing.{map_get, some_within}
+use Rattle.restore_steps.specs.Apart.{HasOneItem}
 
 -- a file that is in its place has the bytes that are known of it
 held_file : (path bytes : Text) (nodes : Option Nodes) → IsInPlace path nodes → IfSome (bytes_at path nodes) (λ t. t ≡ bytes) → IfSome nodes (λ g. HasFile path bytes g × (g (temporary_path path) ≡ None))

@@ -8,10 +8,10 @@ use Rattle.base_model.specs.declared.labels.Label.{Label}
 use Rattle.base_model.specs.Restored.{Recovery}
 use Rattle.base_model.specs.Text.{Text, In}
 use Rattle.base_model.specs.Values.{FileEntry}
-use Rattle.restore_parts.specs.declared.contents.files.Wanted.{Wanted}
-use Rattle.restore_parts.specs.Files.{temporary_path}
-use Rattle.restore_parts.specs.Clearing.{HasFile}
-use Rattle.restore_parts.specs.Sources.{source}
+use Rattle.restore_steps.specs.declared.contents.files.Wanted.{Wanted}
+use Rattle.restore_steps.specs.Files.{temporary_path}
+use Rattle.restore_steps.specs.Clearing.{HasFile}
+use Rattle.restore_steps.specs.Sources.{source}
 use Rattle.restore_make.specs.Options.{is_ordinary}
 use Rattle.restore_make.specs.Written.{IsReadOf}
 

@@ -18,10 +18,10 @@ use Rattle.worker_pool.specs.Run.{AllLost, UnreadLeaves, begun}
 use Rattle.worker_pool.specs.declared.dispatch.fault.Lost.{Lost}
 use Rattle.worker_pool.specs.declared.dispatch.fault.DispatchFault.{DispatchFault}
 use Rattle.worker_pool.specs.declared.dispatch.fault.DispatchFault.TheVariants as dispatch
-use Rattle.restore_parts.specs.declared.contents.files.Wanted.{Wanted}
-use Rattle.restore_parts.specs.declared.contents.files.Filed.{Filed}
-use Rattle.restore_parts.specs.Files.{is_wanted}
-use Rattle.restore_parts.specs.Sources.{source}
+use Rattle.restore_steps.specs.declared.contents.files.Wanted.{Wanted}
+use Rattle.restore_steps.specs.declared.contents.files.Filed.{Filed}
+use Rattle.restore_steps.specs.Files.{is_wanted}
+use Rattle.restore_steps.specs.Sources.{source}
 use Rattle.restore_make.specs.declared.fault.FillFault.{FillFault}
 use Rattle.restore_make.specs.declared.fault.FillFault.TheVariants as faults
 use Rattle.restore_make.specs.Written.{IsReadOf}

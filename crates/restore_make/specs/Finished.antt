@@ -13,9 +13,9 @@ use Rattle.base_model.specs.Restored.Recovery.{Nothing}
 use Rattle.base_model.specs.Represents.{IsManifestOf}
 use Rattle.worker_pool.specs.Payloads.{AllRead}
 use Rattle.worker_pool.specs.declared.dispatch.fault.Lost.{Lost}
-use Rattle.restore_parts.specs.Files.{temporary_path}
-use Rattle.restore_parts.specs.Clearing.{control_path, HasFile}
-use Rattle.restore_parts.specs.Sources.{source}
+use Rattle.restore_steps.specs.Files.{temporary_path}
+use Rattle.restore_steps.specs.Clearing.{control_path, HasFile}
+use Rattle.restore_steps.specs.Sources.{source}
 use Rattle.restore_make.specs.Options.{Options, is_added}
 use Rattle.restore_make.specs.Written.{IsReadOf}
 use Rattle.restore_make.specs.Entries.{AreOf}

@@ -7,8 +7,8 @@ use Rattle.base_devices.specs.declared.tree.Node.TheVariants.{File, Folder, Link
 use Rattle.base_model.specs.Restored.{Recovery}
 use Rattle.base_model.specs.Text.{Text, In, ◌⫽◌}
 use Rattle.base_model.specs.Values.{FileEntry, Manifest}
-use Rattle.restore_parts.specs.Keeping.{IsFolderAt}
-use Rattle.restore_parts.specs.Clearing.{control_path, HasFile, is_bare, Bares, without, with_folders}
+use Rattle.restore_steps.specs.Keeping.{IsFolderAt}
+use Rattle.restore_steps.specs.Clearing.{control_path, HasFile, is_bare, Bares, without, with_folders}
 use Rattle.restore_make.specs.Options.{Options, is_added, is_ordinary}
 use Rattle.restore_make.specs.Entries.{IsFilled, IsBeside}
 use Rattle.restore_make.specs.Kept.{marked, IsKept}

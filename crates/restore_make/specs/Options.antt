@@ -5,7 +5,7 @@ use Rattle.base_model.specs.Restored.{Recovery, conf_path, signal_path}
 use Rattle.base_model.specs.Restored.Recovery.{ToTheEnd, Nothing}
 use Rattle.base_model.specs.Text.{Text}
 use Rattle.base_model.specs.Values.{FileEntry}
-use Rattle.restore_parts.specs.Clearing.{control_path}
+use Rattle.restore_steps.specs.Clearing.{control_path}
 use Rattle.restore_make.specs.declared.options.Recovery as rust
 use Rattle.restore_make.specs.declared.options.Recovery.TheVariants as of_rust
 use Rattle.restore_make.specs.declared.options.RestoreOptions.{RestoreOptions}

@@ -8,8 +8,8 @@ use Rattle.base_model.specs.Restored.{Recovery, conf_path, signal_path, with_blo
 use Rattle.base_model.specs.Restored.Recovery.{ToTheEnd, Nothing}
 use Rattle.base_model.specs.Text.{Text, In}
 use Rattle.base_model.specs.Values.{FileEntry}
-use Rattle.restore_parts.specs.Clearing.{HasFile}
-use Rattle.restore_parts.specs.Sources.{source}
+use Rattle.restore_steps.specs.Clearing.{HasFile}
+use Rattle.restore_steps.specs.Sources.{source}
 use Rattle.restore_make.specs.declared.fault.FillFault.{FillFault}
 use Rattle.restore_make.specs.declared.fault.FillFault.TheVariants as faults
 use Rattle.worker_pool.specs.declared.digest_runs.memory_keeper.ReadItem.{ReadItem}

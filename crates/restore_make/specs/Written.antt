@@ -9,10 +9,10 @@ use Rattle.worker_protocol.specs.declared.frames.frames.JobKind.TheVariants.{Rea
 use Rattle.worker_protocol.specs.Frames.{Item, Job}
 use Rattle.worker_pool.specs.Reads.{ReadBy}
 use Rattle.worker_pool.specs.Digests.{IsWhole}
-use Rattle.restore_parts.specs.Clearing.{HasFile}
-use Rattle.restore_parts.specs.declared.contents.files.Wanted.{Wanted}
-use Rattle.restore_parts.specs.declared.contents.files.Filed.{Filed}
-use Rattle.restore_parts.specs.Files.{temporary_path, is_wanted}
+use Rattle.restore_steps.specs.Clearing.{HasFile}
+use Rattle.restore_steps.specs.declared.contents.files.Wanted.{Wanted}
+use Rattle.restore_steps.specs.declared.contents.files.Filed.{Filed}
+use Rattle.restore_steps.specs.Files.{temporary_path, is_wanted}
 
 -- the job reads this item alone, which is one of the repository and has the size that is requested
 pub record IsJobOf (w : Wanted) (j : Job) : Type 0 where

@@ -5,7 +5,7 @@ ghost use Rattle.std.specs.Cmp.Lexicographic.{slice_cmp};
 ghost use Rattle.base_devices.specs.Order.{are_in_order};
 ghost use Rattle.base_model.specs.Text.{In};
 ghost use Rattle.base_model.specs.Values.{FileEntry as Entry, file_entry_of};
-ghost use Rattle.restore_parts.specs.Clearing.{seen_of};
+ghost use Rattle.restore_steps.specs.Clearing.{seen_of};
 ghost use Rattle.restore_make.specs.Options.{recovery_of};
 ghost use Rattle.restore_make.specs.Digested.{is_like, IsPlaceOf, IsLike, IsCandidateBy, AddsCandidate, AreCandidates, HasCandidates};
 

@@ -7,9 +7,9 @@ ghost use Rattle.base_model.specs.Text.{Text, In};
 ghost use Rattle.base_model.specs.Values.{FileEntry as Entry, file_entry_of};
 ghost use Rattle.options_table.specs.Values.{is_stanza};
 ghost use Rattle.worker_pool.specs.Run.{AreReady};
-ghost use Rattle.restore_parts.specs.Files.{temporary_path};
-ghost use Rattle.restore_parts.specs.Clearing.{control_path, StaysNone};
-ghost use Rattle.restore_parts.specs.Sources.{IsEntry};
+ghost use Rattle.restore_steps.specs.Files.{temporary_path};
+ghost use Rattle.restore_steps.specs.Clearing.{control_path, StaysNone};
+ghost use Rattle.restore_steps.specs.Sources.{IsEntry};
 ghost use Rattle.restore_make.specs.Finished.{waiting_path, HasEntry, IsAway};
 ghost use Rattle.restore_make.specs.Faults.{FillFails, Renames};
 
@@ -17,7 +17,7 @@ use crate::fault::FillFault;
 use crate::file_writes::write_files;
 use base_devices::{DataFolder, Link, Scheduler};
 use base_model::{FileEntry, Label};
-use restore_parts::{Wanted, is_control, source_job};
+use restore_steps::{Wanted, is_control, source_job};
 use std::alloc::{AllocError, Global};
 use worker_pool::Lost;
 

@@ -5,7 +5,7 @@ ghost use Rattle.base_model.specs.Values.{FileEntry as Entry, file_entry_of};
 ghost use Rattle.base_model.specs.declared.labels.Label as labels;
 ghost use Rattle.worker_protocol.specs.Views.{job_of};
 ghost use Rattle.worker_pool.specs.Run.{AreReady};
-ghost use Rattle.restore_parts.specs.Sources.{IsEntry};
+ghost use Rattle.restore_steps.specs.Sources.{IsEntry};
 ghost use Rattle.restore_make.specs.Kept.{digesting};
 ghost use Rattle.restore_make.specs.Digested.{file_of, AreEnds, NamesCandidate};
 ghost use Rattle.worker_pool.specs.Left.{IsLeft};

@@ -6,13 +6,13 @@ ghost use Rattle.worker_protocol.specs.Frames.{FitsJob};
 ghost use Rattle.worker_protocol.specs.Views.{job_of};
 ghost use Rattle.worker_pool.specs.Counts.{ReadsRise};
 ghost use Rattle.worker_pool.specs.Run.{AddsLosses, JobsFault, AreReady};
-ghost use Rattle.restore_parts.specs.Apart.{AreApart};
-ghost use Rattle.restore_parts.specs.Keeping.{IsNoneOf, HaveFolders};
+ghost use Rattle.restore_steps.specs.Apart.{AreApart};
+ghost use Rattle.restore_steps.specs.Keeping.{IsNoneOf, HaveFolders};
 ghost use Rattle.restore_make.specs.Written.{AreJobsOf, AllWritten};
 ghost use Rattle.worker_pool.specs.Left.{IsLeft};
 
 use base_devices::{DataFolder, Link, Scheduler};
-use restore_parts::{FileKeeper, Filed, Wanted};
+use restore_steps::{FileKeeper, Filed, Wanted};
 use std::alloc::Global;
 use worker_pool::{DispatchFault, Lost, run_jobs};
 use worker_protocol::Job;

@@ -1,11 +1,11 @@
 // The result of files, by their names.
 ghost use Rattle.std.specs.Prelude.{◌≡◌, ◌<◌, ℕ, Some, true, false, length, slice_get, IfOk, OnOk, IfErr, IfSome, IfNone};
-ghost use Rattle.restore_parts.specs.Files.{is_wanted};
+ghost use Rattle.restore_steps.specs.Files.{is_wanted};
 ghost use Rattle.restore_make.specs.Written.{AllRight};
 ghost use Rattle.restore_make.specs.Faults.{ShowsDamage, ShowsWrong, HasItsFile, Names};
 
 use crate::fault::FillFault;
-use restore_parts::{Filed, Wanted};
+use restore_steps::{Filed, Wanted};
 use std::alloc::{AllocError, Global};
 use worker_pool::DispatchFault;
 use worker_protocol::ItemEnd;

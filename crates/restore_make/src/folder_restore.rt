@@ -8,7 +8,7 @@ ghost use Rattle.base_model.specs.ManifestText.{IsManifest};
 ghost use Rattle.base_model.specs.Values.{manifest_of};
 ghost use Rattle.options_table.specs.Values.{is_stanza};
 ghost use Rattle.worker_pool.specs.Run.{AreReady};
-ghost use Rattle.restore_parts.specs.Clearing.{control_path, seen_of, HasNone, StaysNone};
+ghost use Rattle.restore_steps.specs.Clearing.{control_path, seen_of, HasNone, StaysNone};
 ghost use Rattle.restore_make.specs.Listed.{is_control_node, IsListedBut, HasFolders};
 ghost use Rattle.restore_make.specs.Options.{Options, options_of};
 ghost use Rattle.restore_make.specs.Finished.{IsFinished, Finishes, Completes, PutsAll, Restores};
@@ -22,7 +22,7 @@ use crate::options::RestoreOptions;
 use crate::settings::add_settings;
 use base_devices::{DataFolder, DeviceError, FolderEntry, Link, Node, Scheduler};
 use base_model::Manifest;
-use restore_parts::is_control;
+use restore_steps::is_control;
 use std::alloc::Global;
 use worker_pool::Lost;
 

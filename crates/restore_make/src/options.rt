@@ -4,7 +4,7 @@ ghost use Rattle.base_model.specs.Values.{file_entry_of};
 ghost use Rattle.restore_make.specs.Options.{recovery_of, is_added, is_ordinary};
 
 use base_model::FileEntry;
-use restore_parts::is_control;
+use restore_steps::is_control;
 
 /// The file of a server's own settings.
 pub(crate) const CONF: &str = "postgresql.auto.conf";

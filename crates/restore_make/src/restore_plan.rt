@@ -5,7 +5,7 @@ ghost use Rattle.base_model.specs.Text.{In};
 ghost use Rattle.base_model.specs.Values.{FileEntry as Entry, file_entry_of};
 ghost use Rattle.options_table.specs.Values.{is_stanza};
 ghost use Rattle.worker_protocol.specs.Views.{job_of};
-ghost use Rattle.restore_parts.specs.Sources.{IsEntry, reading};
+ghost use Rattle.restore_steps.specs.Sources.{IsEntry, reading};
 ghost use Rattle.restore_make.specs.Options.{recovery_of};
 ghost use Rattle.restore_make.specs.Kept.{mark_at, marked};
 ghost use Rattle.restore_make.specs.Entries.{is_read, read_one, reads_of, want_of, want_in};
@@ -13,7 +13,7 @@ ghost use Rattle.restore_make.specs.Entries.{is_read, read_one, reads_of, want_o
 use crate::options::{Recovery, is_ordinary};
 use base_model::{FileEntry, Label};
 use base_text::NoMemory;
-use restore_parts::{Wanted, source_job};
+use restore_steps::{Wanted, source_job};
 use std::alloc::Global;
 use worker_protocol::Job;
 

@@ -1,8 +1,8 @@
 // A stanza, the data folder of a running server with one worker, and a backup of it.
 ghost use Rattle.std.specs.Prelude.{◌≡◌, ◌<◌, ◌^◌, IfOk, map, vec_len};
-ghost use Rattle.cmd_stages.specs.Readies.{IsArchiveOf, IsBackupOf};
-ghost use Rattle.cmd_terms.specs.declared.stages.plan.Pairs.TheVariants.{ReadBoth};
-ghost use Rattle.cmd_terms.specs.Plans.{AreHeld};
+ghost use Rattle.cmd_setup.specs.Readies.{IsArchiveOf, IsBackupOf};
+ghost use Rattle.cmd_types.specs.declared.stages.plan.Pairs.TheVariants.{ReadBoth};
+ghost use Rattle.cmd_types.specs.Plans.{AreHeld};
 ghost use Rattle.worker_pool.specs.Run.{AreReady};
 
 use crate::others::Storing;
@@ -15,8 +15,8 @@ use cmd_backup_offline::OfflineOrder;
 use cmd_backup_online::{
     OnlineBackupFault, OnlineOrder, back_up_online, online_backup_message, online_backup_status,
 };
-use cmd_stages::{lock_names, prepare, take_locks};
-use cmd_terms::{Halt, Outcome, Pairs, Plan, StageFault, SyncScope};
+use cmd_setup::{lock_names, prepare, take_locks};
+use cmd_types::{Halt, Outcome, Pairs, Plan, StageFault, SyncScope};
 use memory_devices::{MemClock, MemConnection, MemDataFolder, MemDisk, MemLocks, MemNode};
 use memory_workers::{MemLink, MemScheduler};
 use repo_stanza::{Control, create};

@@ -1,7 +1,7 @@
 // Other processes that store a segment in one of their steps.
 ghost use Rattle.std.specs.Prelude.{◌≡◌, None};
 
-use archive_index::{OtherProcesses, TurnError};
+use archive_lookup::{OtherProcesses, TurnError};
 use base_devices::{DeviceError, Disk};
 
 /// They look at the spool, make a file of this name in the step with this number, the first being 1, and nothing is

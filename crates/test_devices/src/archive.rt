@@ -1,6 +1,6 @@
 // Files of the archive by hand, as pgBackRest lays them out, with digests of `sha1sum`.
 use crate::same::{same, well};
-use archive_index::{ArchiveFault, Stored, all};
+use archive_lookup::{ArchiveFault, Stored, all};
 use archive_store::{get, present};
 use base_model::{ArchiveId, ArchiveName, Segment};
 use base_text::{NoMemory, Sum};

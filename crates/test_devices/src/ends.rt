@@ -1,6 +1,6 @@
 // The ends of archives by hand.
 use crate::same::{same, well};
-use archive_index::{ArchiveFault, ends};
+use archive_lookup::{ArchiveFault, ends};
 use base_model::ArchiveId;
 use memory_devices::MemDisk;
 use repo_names::segment_text;

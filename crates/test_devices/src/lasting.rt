@@ -4,7 +4,7 @@ use crate::disk::disk_of;
 use crate::images::kept_then;
 use crate::pushes::SYSTEM;
 use crate::same::{same, well};
-use archive_index::ArchiveFault;
+use archive_lookup::ArchiveFault;
 use archive_store::{Pushed, push};
 use memory_devices::MemDisk;
 use std::alloc::Global;

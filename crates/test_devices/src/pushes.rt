@@ -7,7 +7,7 @@ use crate::archive::{
     got, known,
 };
 use crate::same::{same, well};
-use archive_index::{ArchiveFault, all};
+use archive_lookup::{ArchiveFault, all};
 use archive_store::{ByteSource, Prefix, PushFault, Pushed, push, push_from};
 use base_devices::{DeviceError, NotThere};
 use base_model::ArchiveName;

@@ -1,7 +1,7 @@
 // A segment that is listed, and isn't there any more when it is read.
 use crate::archive::{ID, WHOLE};
 use crate::same::{same, well};
-use archive_index::ArchiveFault;
+use archive_lookup::ArchiveFault;
 use archive_store::{get, present};
 use base_devices::{DeviceError, Disk, Found, NotThere};
 use std::alloc::Global;

@@ -1,7 +1,7 @@
 // Other processes that push a segment in one of their steps.
 ghost use Rattle.std.specs.Prelude.{◌≡◌, None};
 
-use archive_index::{OtherProcesses, TurnError};
+use archive_lookup::{OtherProcesses, TurnError};
 use archive_store::push;
 use base_devices::{DeviceError, Disk};
 use base_model::{ArchiveId, ArchiveName, Segment};

@@ -5,7 +5,7 @@ use crate::pushing::{ID, Pushing};
 use crate::same::{same, well};
 use crate::talks::whole;
 use adapters_process::Others;
-use archive_index::OtherProcesses;
+use archive_lookup::OtherProcesses;
 use archive_wait::{AwaitFault, await_segments};
 use base_devices::DeviceError;
 use base_model::{Segment, WalPart};

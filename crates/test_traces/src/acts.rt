@@ -1,7 +1,7 @@
 // Calls of the program on one data folder, and what a list of them leaves.
 use memory_devices::{MemClock, MemConnection, MemDataFolder, MemDisk, MemInputFiles, MemNode};
 use memory_processes::{MemProcesses, OtherTurn};
-use program_trace::{Act, CrashPoint, Disks, Left, PlayFault, Workers, play};
+use program_crashes::{Act, CrashPoint, Disks, Left, PlayFault, Workers, play};
 use std::alloc::{AllocError, Global};
 
 // A control file as one of system 6917529027641081857 begins.

@@ -2,7 +2,7 @@
 use crate::acts::{act, file, folder, nodes, played, stop_at};
 use crate::same::{same, well};
 use memory_devices::MemDataFolder;
-use program_trace::{Act, PlayFault};
+use program_crashes::{Act, PlayFault};
 use std::alloc::{AllocError, Global};
 use std::process::Abort;
 

@@ -4,7 +4,7 @@ use crate::same::{same, well};
 use base_model::{ArchiveId, Segment};
 use memory_devices::{MemConnection, MemDataFolder};
 use memory_processes::{OtherPush, OtherTurn};
-use program_trace::{Act, PlayFault, play};
+use program_crashes::{Act, PlayFault, play};
 use std::alloc::{AllocError, Global};
 
 const CREATE: &str =

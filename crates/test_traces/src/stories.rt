@@ -1,7 +1,7 @@
 // Lists of calls and crashes.
 use crate::acts::{act, played, restore, stop_at};
 use crate::same::{same, well};
-use program_trace::{Act, Disks, PlayFault};
+use program_crashes::{Act, Disks, PlayFault};
 use std::alloc::Global;
 use std::process::Abort;
 

@@ -1,7 +1,7 @@
 // Other processes, of which nothing is known here.
 ghost use Rattle.std.specs.Prelude.{◌≡◌, None};
 
-use archive_index::{OtherProcesses, TurnError};
+use archive_lookup::{OtherProcesses, TurnError};
 use base_devices::{DeviceError, Disk};
 use std::io::ErrorKind;
 use std::process::{Child, Command, Stdio};

@@ -4,7 +4,7 @@ ghost use Rattle.cmd_archive_get_async.specs.Fetching.{halt_of_spool};
 
 use base_disk::StoreFault;
 use cmd_archive_get::GetFault;
-use cmd_terms::{Halt, Object};
+use cmd_types::{Halt, Object};
 
 /// The fault that a fault of the spool becomes.
 pub(crate) fn of_spool(fault: StoreFault) -> Halt<GetFault>

@@ -3,9 +3,9 @@ ghost use Rattle.std.specs.Prelude.{◌≡◌, ◌<◌, ℕ, true, false, None, 
 ghost use Rattle.base_devices.specs.Cause.{Rises};
 ghost use Rattle.base_devices.specs.States.{Looks};
 ghost use Rattle.base_devices.specs.declared.disk.Found.{Found};
-ghost use Rattle.cmd_terms.specs.declared.stages.object.Object.TheVariants.{Spool as TheSpool};
-ghost use Rattle.cmd_terms.specs.Halts.{HaltCause, Never, Only};
-ghost use Rattle.archive_index.specs.Listing.{sum_after};
+ghost use Rattle.cmd_types.specs.declared.stages.object.Object.TheVariants.{Spool as TheSpool};
+ghost use Rattle.cmd_types.specs.Halts.{HaltCause, Never, Only};
+ghost use Rattle.archive_lookup.specs.Listing.{sum_after};
 ghost use Rattle.cmd_archive_get_async.specs.Taking.{IsAhead};
 
 use crate::ahead::names::{ahead_folder, ahead_prefix};
@@ -13,7 +13,7 @@ use base_devices::{Disk, Found};
 use base_model::Segment;
 use base_text::Sum;
 use cmd_archive_get::GetFault;
-use cmd_terms::{Halt, Object, halted};
+use cmd_types::{Halt, Object, halted};
 use std::alloc::Global;
 
 // The sum after the prefix of a name.

@@ -3,8 +3,8 @@ ghost use Rattle.std.specs.Prelude.{◌≡◌, IfOk, IfErr};
 ghost use Rattle.base_devices.specs.Cause.{Rises};
 ghost use Rattle.base_devices.specs.Content.{SameBut};
 ghost use Rattle.base_devices.specs.States.{Looks, Works};
-ghost use Rattle.cmd_terms.specs.Halts.{HaltCause, Never};
-ghost use Rattle.cmd_terms.specs.Risen.{none, rose_in};
+ghost use Rattle.cmd_types.specs.Halts.{HaltCause, Never};
+ghost use Rattle.cmd_types.specs.Risen.{none, rose_in};
 ghost use Rattle.cmd_archive_get_async.specs.Fetching.{CopiedTo};
 
 use crate::ahead::fault::of_spool;
@@ -12,7 +12,7 @@ use base_devices::Disk;
 use base_disk::{add_stage, start_stage};
 use base_text::Sum;
 use cmd_archive_get::GetFault;
-use cmd_terms::{Halt, Object, halted};
+use cmd_types::{Halt, Object, halted};
 use sha1::Sha1;
 use std::alloc::Global;
 

@@ -3,9 +3,9 @@ ghost use Rattle.std.specs.List.{starts_with};
 ghost use Rattle.std.specs.Prelude.{◌≡◌, ◌≤◌, [], IfErr, OnOk, IsTrue, nat_eq, option_map, string_bytes};
 ghost use Rattle.base_devices.specs.Cause.{Rises};
 ghost use Rattle.base_devices.specs.States.{Frame, Looks};
-ghost use Rattle.base_traces.specs.Beside.{StaysBeside};
-ghost use Rattle.cmd_terms.specs.declared.stages.object.Object.TheVariants.{Spool as TheSpool};
-ghost use Rattle.cmd_terms.specs.Halts.{HaltCause, Never, Only};
+ghost use Rattle.base_crash_lists.specs.Beside.{StaysBeside};
+ghost use Rattle.cmd_types.specs.declared.stages.object.Object.TheVariants.{Spool as TheSpool};
+ghost use Rattle.cmd_types.specs.Halts.{HaltCause, Never, Only};
 ghost use Rattle.archive_spool.specs.Marks.{GivesMarks};
 ghost use Rattle.cmd_archive_get.specs.Getting.{ChangesPath};
 ghost use Rattle.cmd_archive_get.specs.Serving.{AreStoredAt};
@@ -21,7 +21,7 @@ use base_disk::{StoreFault, read_whole};
 use base_model::Segment;
 use base_text::Sum;
 use cmd_archive_get::{GetFault, Passed, pass_on, put_file};
-use cmd_terms::{Halt, Object};
+use cmd_types::{Halt, Object};
 use std::alloc::Global;
 
 // Puts the bytes at a name of the spool at a path of the data folder, where they have this sum. They are read whole.

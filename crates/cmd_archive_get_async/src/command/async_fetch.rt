@@ -5,10 +5,10 @@ ghost use Rattle.base_devices.specs.States.{Frame, Looks};
 ghost use Rattle.base_model.specs.InfoFiles.{IsArchiveInfo};
 ghost use Rattle.base_model.specs.Names.{segment_text};
 ghost use Rattle.base_model.specs.Values.{archive_info_of};
-ghost use Rattle.base_traces.specs.Beside.{StaysBeside};
-ghost use Rattle.cmd_terms.specs.Current.{HasValue};
-ghost use Rattle.cmd_terms.specs.Halts.{HaltCause};
-ghost use Rattle.cmd_terms.specs.Risen.{none, rose_in};
+ghost use Rattle.base_crash_lists.specs.Beside.{StaysBeside};
+ghost use Rattle.cmd_types.specs.Current.{HasValue};
+ghost use Rattle.cmd_types.specs.Halts.{HaltCause};
+ghost use Rattle.cmd_types.specs.Risen.{none, rose_in};
 ghost use Rattle.archive_spool.specs.Marks.{GivesMarks};
 ghost use Rattle.cmd_archive_get_async.specs.Fetching.{most_ahead, AheadCause};
 ghost use Rattle.cmd_archive_get_async.specs.Names.{ChangesAhead};
@@ -16,11 +16,11 @@ ghost use Rattle.cmd_archive_get_async.specs.FollowUp.{FollowUpCause, FetchedBy,
 
 use crate::ahead::fetch_ahead;
 use crate::command::following::size_of;
-use archive_index::Stored;
+use archive_lookup::Stored;
 use base_devices::Disk;
 use base_model::{ArchiveInfo, ArchiveName, Segment};
 use cmd_archive_get::{GetFault, find_file};
-use cmd_terms::{Halt, Outcome};
+use cmd_types::{Halt, Outcome};
 use repo_names::read_segment;
 use repo_stanza::Control;
 use std::alloc::Global;

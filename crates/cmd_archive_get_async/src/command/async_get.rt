@@ -9,13 +9,13 @@ ghost use Rattle.base_model.specs.Now.{NowRepresents};
 ghost use Rattle.base_model.specs.Repository.{Stanza};
 ghost use Rattle.base_model.specs.Values.{archive_info_of};
 ghost use Rattle.base_model.specs.Walks.{IsSynced};
-ghost use Rattle.base_traces.specs.Beside.{StaysBeside};
-ghost use Rattle.cmd_terms.specs.Cluster.{FolderShows};
-ghost use Rattle.cmd_terms.specs.Current.{HasValue};
-ghost use Rattle.cmd_terms.specs.Halts.{HaltCause};
-ghost use Rattle.cmd_terms.specs.Reached.{reached_by};
-ghost use Rattle.cmd_terms.specs.Risen.{none, rose_in};
-ghost use Rattle.cmd_terms.specs.DisksEffect.{OnNone, PairAlike};
+ghost use Rattle.base_crash_lists.specs.Beside.{StaysBeside};
+ghost use Rattle.cmd_types.specs.Cluster.{FolderShows};
+ghost use Rattle.cmd_types.specs.Current.{HasValue};
+ghost use Rattle.cmd_types.specs.Halts.{HaltCause};
+ghost use Rattle.cmd_types.specs.Reached.{reached_by};
+ghost use Rattle.cmd_types.specs.Risen.{none, rose_in};
+ghost use Rattle.cmd_types.specs.DisksEffect.{OnNone, PairAlike};
 ghost use Rattle.archive_spool.specs.Marks.{GivesMarks};
 ghost use Rattle.cmd_archive_get.specs.Getting.{get_early, served_path, ChangesPath, GivenBy};
 ghost use Rattle.cmd_archive_get_async.specs.Following.{QuietOthers};
@@ -23,11 +23,11 @@ ghost use Rattle.cmd_archive_get_async.specs.Getting.{FollowsUp, GetAheadCause, 
 
 use crate::command::following::follow;
 use crate::command::served_segment::serve_ahead;
-use archive_index::OtherProcesses;
+use archive_lookup::OtherProcesses;
 use base_devices::{DataFolder, Disk};
 use base_model::{ArchiveInfo, ArchiveName};
 use cmd_archive_get::{GetFault, GetOrder, get_file};
-use cmd_terms::{Halt, Outcome};
+use cmd_types::{Halt, Outcome};
 use repo_stanza::Control;
 use std::alloc::Global;
 

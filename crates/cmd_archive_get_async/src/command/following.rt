@@ -2,16 +2,16 @@
 ghost use Rattle.std.specs.Prelude.{◌≡◌, ◌≤◌, map, IfOk, IfErr, IfSome, IfNone, string_bytes};
 ghost use Rattle.base_devices.specs.Cause.{Rises};
 ghost use Rattle.base_devices.specs.States.{Looks};
-ghost use Rattle.cmd_terms.specs.declared.stages.object.Object.TheVariants.{Spool as TheSpool};
-ghost use Rattle.cmd_terms.specs.Halts.{HaltCause, Never, Only};
+ghost use Rattle.cmd_types.specs.declared.stages.object.Object.TheVariants.{Spool as TheSpool};
+ghost use Rattle.cmd_types.specs.Halts.{HaltCause, Never, Only};
 ghost use Rattle.cmd_archive_get_async.specs.Following.{HasNoneAfter, HasSize, IsFollowing, Follows, Starts, QuietOthers};
 
 use crate::ahead::has_ahead;
-use archive_index::OtherProcesses;
+use archive_lookup::OtherProcesses;
 use base_devices::{DeviceError, Disk};
 use base_model::{SegSize, Segment};
 use cmd_archive_get::GetFault;
-use cmd_terms::Halt;
+use cmd_types::Halt;
 use repo_names::{next, read_seg_size, segments_per_log};
 use std::alloc::Global;
 

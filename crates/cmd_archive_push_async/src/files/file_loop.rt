@@ -3,9 +3,9 @@ ghost use Rattle.std.specs.Prelude.{◌≡◌, ◌+◌, ◌<◌, ◌^◌, Some, 
 ghost use Rattle.base_devices.specs.Cause.{Rises};
 ghost use Rattle.base_devices.specs.States.{Frame, LooksAt};
 ghost use Rattle.base_devices.specs.DataFolder.{Nodes};
-ghost use Rattle.archive_index.specs.Stored.{ChangesArchive};
-ghost use Rattle.cmd_terms.specs.Halts.{HaltCause};
-ghost use Rattle.cmd_terms.specs.Risen.{rose_in};
+ghost use Rattle.archive_lookup.specs.Stored.{ChangesArchive};
+ghost use Rattle.cmd_types.specs.Halts.{HaltCause};
+ghost use Rattle.cmd_types.specs.Risen.{rose_in};
 ghost use Rattle.cmd_archive_push_async.specs.Draining.{Drains, end_of};
 ghost use Rattle.cmd_archive_push_async.specs.Paired.{KeepsPair};
 ghost use Rattle.cmd_archive_push_async.specs.Ends.{EndCauseOf, three};
@@ -17,7 +17,7 @@ use archive_spool::clear_marks;
 use base_devices::{DataFolder, Disk};
 use base_model::{ArchiveId, ArchiveName};
 use cmd_archive_push::PushFault;
-use cmd_terms::Halt;
+use cmd_types::Halt;
 use std::alloc::Global;
 
 impl Drained {

@@ -4,14 +4,14 @@ ghost use Rattle.base_devices.specs.Cause.{Rises};
 ghost use Rattle.base_devices.specs.Content.{LiesDirectlyIn};
 ghost use Rattle.base_devices.specs.Moments.{SyncsFolders};
 ghost use Rattle.base_devices.specs.States.{Looks};
-ghost use Rattle.cmd_terms.specs.declared.stages.object.Object.TheVariants.{Spool as TheSpool};
-ghost use Rattle.cmd_terms.specs.Halts.{HaltCause, Never, Only};
+ghost use Rattle.cmd_types.specs.declared.stages.object.Object.TheVariants.{Spool as TheSpool};
+ghost use Rattle.cmd_types.specs.Halts.{HaltCause, Never, Only};
 ghost use Rattle.cmd_archive_push_async.specs.Whole.{marks_folder};
 
 use crate::files::push_marks::Drained;
 use base_devices::Disk;
 use cmd_archive_push::PushFault;
-use cmd_terms::{Halt, Object, halted};
+use cmd_types::{Halt, Object, halted};
 use std::alloc::Global;
 
 /// Syncs the names of marks, and returns again what was drained.

@@ -5,9 +5,9 @@ ghost use Rattle.base_devices.specs.Crash.{NowChanges, AllOf, FirstOf};
 ghost use Rattle.base_devices.specs.States.{Frame};
 ghost use Rattle.base_model.specs.Represents.{IsWalName};
 ghost use Rattle.base_model.specs.Text.{Text};
-ghost use Rattle.archive_index.specs.Stored.{ChangesArchive};
-ghost use Rattle.cmd_terms.specs.declared.stages.object.Object.TheVariants.{Spool as TheSpool};
-ghost use Rattle.cmd_terms.specs.Halts.{HaltCause, Never, Only};
+ghost use Rattle.archive_lookup.specs.Stored.{ChangesArchive};
+ghost use Rattle.cmd_types.specs.declared.stages.object.Object.TheVariants.{Spool as TheSpool};
+ghost use Rattle.cmd_types.specs.Halts.{HaltCause, Never, Only};
 ghost use Rattle.archive_spool.specs.Marks.{GivesMarks};
 ghost use Rattle.cmd_archive_push_async.specs.Ends.{halt_of_spool};
 ghost use Rattle.cmd_archive_push_async.specs.Fates.{kept_of, marks_of, IsCountOf};
@@ -19,7 +19,7 @@ use base_devices::Disk;
 use base_disk::StoreFault;
 use base_model::ArchiveName;
 use cmd_archive_push::{PushFault, push_status};
-use cmd_terms::{Halt, Object};
+use cmd_types::{Halt, Object};
 use std::alloc::Global;
 
 /// What a drain did: how many files it stored, and how many were refused for their content.

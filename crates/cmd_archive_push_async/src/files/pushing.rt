@@ -8,9 +8,9 @@ ghost use Rattle.base_model.specs.Now.{NowRepresents};
 ghost use Rattle.base_model.specs.Repository.{Stanza};
 ghost use Rattle.base_model.specs.Represents.{IsArchivePlace};
 ghost use Rattle.base_model.specs.Text.{Text};
-ghost use Rattle.archive_index.specs.Stored.{ChangesArchive};
-ghost use Rattle.cmd_terms.specs.Halts.{HaltCause};
-ghost use Rattle.cmd_terms.specs.Risen.{rose_in};
+ghost use Rattle.archive_lookup.specs.Stored.{ChangesArchive};
+ghost use Rattle.cmd_types.specs.Halts.{HaltCause};
+ghost use Rattle.cmd_types.specs.Risen.{rose_in};
 ghost use Rattle.cmd_archive_push.specs.LogFile.{known_file, IsOpened};
 ghost use Rattle.cmd_archive_push.specs.WalPath.{wal_path};
 ghost use Rattle.archive_spool.specs.Marks.{named};
@@ -25,7 +25,7 @@ use base_devices::{DataFolder, Disk};
 use base_model::{ArchiveId, ArchiveName};
 use base_text::Sum;
 use cmd_archive_push::{LogFile, PushFault, content_text, of_store};
-use cmd_terms::Halt;
+use cmd_types::Halt;
 use std::alloc::Global;
 
 /// The result of a push: the file was stored with this sum, or refused for its content, with this line.

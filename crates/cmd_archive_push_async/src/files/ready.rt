@@ -2,9 +2,9 @@
 ghost use Rattle.std.specs.Prelude.{◌≡◌, IfOk, IfErr, IfSome, IfNone};
 ghost use Rattle.base_devices.specs.Cause.{Rises};
 ghost use Rattle.base_devices.specs.States.{LooksAt};
-ghost use Rattle.archive_index.specs.Listing.{Picks};
-ghost use Rattle.cmd_terms.specs.declared.stages.object.Object.TheVariants.{TheDataFolder as TheFolder};
-ghost use Rattle.cmd_terms.specs.Halts.{HaltCause, Never, Only};
+ghost use Rattle.archive_lookup.specs.Listing.{Picks};
+ghost use Rattle.cmd_types.specs.declared.stages.object.Object.TheVariants.{TheDataFolder as TheFolder};
+ghost use Rattle.cmd_types.specs.Halts.{HaltCause, Never, Only};
 ghost use Rattle.cmd_archive_push_async.specs.Ready.{AreReady, ShowsReady, PassesReady, is_file};
 
 use archive_spool::name_between;
@@ -12,7 +12,7 @@ use base_devices::{DataFolder, FolderEntry, Node};
 use base_model::ArchiveName;
 use base_text::NoMemory;
 use cmd_archive_push::PushFault;
-use cmd_terms::{Halt, Object, halted};
+use cmd_types::{Halt, Object, halted};
 use std::alloc::Global;
 
 fn is_file(node: Node) -> bool

@@ -3,9 +3,9 @@ ghost use Rattle.std.specs.Prelude.{◌≡◌, Some, IfErr, OnOk};
 ghost use Rattle.base_devices.specs.Cause.{Rises};
 ghost use Rattle.base_devices.specs.States.{Frame, LooksAt};
 ghost use Rattle.base_devices.specs.DataFolder.{Nodes};
-ghost use Rattle.archive_index.specs.Stored.{ChangesArchive};
-ghost use Rattle.cmd_terms.specs.Halts.{HaltCause};
-ghost use Rattle.cmd_terms.specs.Risen.{rose_in};
+ghost use Rattle.archive_lookup.specs.Stored.{ChangesArchive};
+ghost use Rattle.cmd_types.specs.Halts.{HaltCause};
+ghost use Rattle.cmd_types.specs.Risen.{rose_in};
 ghost use Rattle.cmd_archive_push_async.specs.Draining.{end_of};
 ghost use Rattle.cmd_archive_push_async.specs.Paired.{KeepsPair};
 ghost use Rattle.cmd_archive_push_async.specs.Ends.{three};
@@ -18,7 +18,7 @@ use crate::files::ready::ready_names;
 use base_devices::{DataFolder, Disk};
 use base_model::ArchiveId;
 use cmd_archive_push::PushFault;
-use cmd_terms::Halt;
+use cmd_types::Halt;
 use std::alloc::Global;
 
 /// Stores each file of the log that is ready and that the data folder has, in byte order of their names, and marks in

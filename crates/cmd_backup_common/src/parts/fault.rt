@@ -7,7 +7,7 @@ use crate::drafts::SecondFault;
 use backup_make::MakeFault;
 use backup_plan::PlanFault;
 use base_model::Label;
-use cmd_terms::{Halt, Object};
+use cmd_types::{Halt, Object};
 use repo_manifest::manifest_name;
 use repo_stanza::{Identity, StanzaFault, backup_info_name};
 use std::alloc::Global;

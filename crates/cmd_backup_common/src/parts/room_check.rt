@@ -3,12 +3,12 @@ ghost use Rattle.std.specs.Prelude.{◌≡◌, ◌<◌, ◌≤◌, IfOk, IfErr, 
 ghost use Rattle.base_model.specs.InfoFiles.{IsArchiveInfo, IsBackupInfo};
 ghost use Rattle.base_model.specs.Values.{archive_info_of, backup_info_of};
 ghost use Rattle.repo_stanza.specs.Judging.{Validates, IsOf};
-ghost use Rattle.cmd_terms.specs.Halts.{HaltCause};
+ghost use Rattle.cmd_types.specs.Halts.{HaltCause};
 ghost use Rattle.cmd_backup_common.specs.Beginning.{most_backups, FitCause, RoomCause};
 
 use crate::parts::fault::{BackupFault, of_stanza};
 use base_model::{ArchiveInfo, BackupInfo};
-use cmd_terms::Halt;
+use cmd_types::Halt;
 use repo_stanza::{Control, fit_list};
 
 /// This many backups are listed at most.

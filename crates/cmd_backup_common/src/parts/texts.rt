@@ -4,7 +4,7 @@ ghost use Rattle.cmd_backup_common.specs.Texts.{backup_status, backup_message};
 
 use crate::parts::fault::BackupFault;
 use base_text::NoMemory;
-use cmd_terms::{bytes_of, history_text, long_text, mismatch_text, quoted};
+use cmd_types::{bytes_of, history_text, long_text, mismatch_text, quoted};
 use std::alloc::Global;
 
 /// The status of a refusal.

@@ -3,14 +3,14 @@ ghost use Rattle.std.specs.Prelude.{◌≡◌, ◌<◌, ◌^◌, [], map, take, 
 ghost use Rattle.worker_protocol.specs.Frames.{FitsRoots};
 ghost use Rattle.worker_protocol.specs.Views.{roots_of};
 ghost use Rattle.worker_pool.specs.Run.{AreReady, Left};
-ghost use Rattle.cmd_terms.specs.Halts.{HaltCause};
+ghost use Rattle.cmd_types.specs.Halts.{HaltCause};
 ghost use Rattle.cmd_backup_common.specs.Beginning.{LostCause};
 
 use crate::parts::fault::BackupFault;
 use crate::parts::making::count_of;
 use crate::parts::order::TakeOrder;
 use base_devices::Link;
-use cmd_terms::Halt;
+use cmd_types::Halt;
 use std::alloc::{AllocError, Global};
 use worker_pool::{DispatchFault, Lost, setup};
 use worker_protocol::Roots;

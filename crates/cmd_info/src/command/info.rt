@@ -7,19 +7,19 @@ ghost use Rattle.base_model.specs.Now.{NowRepresents};
 ghost use Rattle.base_model.specs.Repository.{Stanza};
 ghost use Rattle.base_model.specs.Values.{archive_info_of, backup_info_of};
 ghost use Rattle.repo_stanza.specs.Pairs.{HavePairs};
-ghost use Rattle.archive_index.specs.Ends.{AreEnds};
-ghost use Rattle.cmd_terms.specs.declared.stages.object.Object.TheVariants.{Repo};
-ghost use Rattle.cmd_terms.specs.Current.{id_kept};
-ghost use Rattle.cmd_terms.specs.Halts.{HaltCause, Never, Only};
+ghost use Rattle.archive_lookup.specs.Ends.{AreEnds};
+ghost use Rattle.cmd_types.specs.declared.stages.object.Object.TheVariants.{Repo};
+ghost use Rattle.cmd_types.specs.Current.{id_kept};
+ghost use Rattle.cmd_types.specs.Halts.{HaltCause, Never, Only};
 ghost use Rattle.cmd_info.specs.Reporting.{report_by, named, HaveEnds, IsReported, ReportsStanza};
-ghost use Rattle.cmd_terms.specs.Reached.{OnFinished};
+ghost use Rattle.cmd_types.specs.Reached.{OnFinished};
 
 use crate::report::{ArchivedName, Report, report_json, report_text};
-use archive_index::{ArchiveFault, ends};
+use archive_lookup::{ArchiveFault, ends};
 use base_devices::Disk;
 use base_model::{ArchiveId, ArchiveInfo, ArchiveName, BackupInfo, ClusterId, Segment};
 use base_text::NoMemory;
-use cmd_terms::{Halt, Object, Outcome, StageFault};
+use cmd_types::{Halt, Object, Outcome, StageFault};
 use options_read::OutputWord;
 use std::alloc::{AllocError, Global};
 

@@ -3,7 +3,7 @@ ghost use Rattle.std.specs.Prelude.{◌≡◌};
 ghost use Rattle.cmd_verify.specs.Verifying.{of_verify};
 
 use crate::findings::VerifyFault;
-use cmd_terms::{Halt, Object};
+use cmd_types::{Halt, Object};
 
 /// Why a repository isn't examined.
 #[derive(Debug, Drop)]

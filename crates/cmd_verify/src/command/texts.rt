@@ -4,7 +4,7 @@ ghost use Rattle.cmd_verify.specs.Texts.{verify_status, verify_message};
 
 use crate::command::fault::VerifyCommandFault;
 use base_text::NoMemory;
-use cmd_terms::bytes_of;
+use cmd_types::bytes_of;
 use std::alloc::Global;
 
 /// The status of a refusal.

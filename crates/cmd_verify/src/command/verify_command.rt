@@ -7,15 +7,15 @@ ghost use Rattle.base_model.specs.InfoFiles.{IsBackupText, IsBackupInfo};
 ghost use Rattle.base_model.specs.Names.{backup_info};
 ghost use Rattle.base_model.specs.Pair.{PairIs};
 ghost use Rattle.base_model.specs.Values.{backup_info_of};
-ghost use Rattle.cmd_terms.specs.declared.stages.object.Object.TheVariants.{Repo};
-ghost use Rattle.cmd_terms.specs.Halts.{HaltCause, Only};
+ghost use Rattle.cmd_types.specs.declared.stages.object.Object.TheVariants.{Repo};
+ghost use Rattle.cmd_types.specs.Halts.{HaltCause, Only};
 ghost use Rattle.cmd_verify.specs.Verifying.{finding_line, VerifyCommandCause, IsVerified, EndsWithNone, EndsBy};
 
 use crate::command::fault::{VerifyCommandFault, of_verify};
 use crate::findings::{Finding, verify};
 use base_devices::Disk;
 use base_model::BackupInfo;
-use cmd_terms::{Halt, Outcome};
+use cmd_types::{Halt, Outcome};
 use std::alloc::{AllocError, Global};
 
 // Adds the line of a finding.

@@ -2,7 +2,7 @@
 ghost use Rattle.std.specs.Prelude.{◌≡◌, ◌≤◌, IfOk, IfSome, IsSomeAnd, OnOk, IsErrOf, length, string_bytes};
 ghost use Rattle.base_devices.specs.Cause.{HasCause, Rises};
 ghost use Rattle.base_model.specs.Text.{Text};
-ghost use Rattle.archive_index.specs.Stored.{AreStored, IsStoredFile};
+ghost use Rattle.archive_lookup.specs.Stored.{AreStored, IsStoredFile};
 ghost use Rattle.cmd_verify.specs.Adding.{Adds, OfSome};
 ghost use Rattle.cmd_verify.specs.Archived.{HasOther};
 ghost use Rattle.cmd_verify.specs.Findings.{FileDeviates};
@@ -12,7 +12,7 @@ ghost use Rattle.base_devices.specs.States.{Looks};
 use crate::findings::finding::{Finding, LookFault, Mark};
 use crate::findings::place_sum::{Lies, deviation, sum_at};
 use crate::findings::seconds::tell_seconds;
-use archive_index::Stored;
+use archive_lookup::Stored;
 use base_devices::{DeviceError, Disk};
 use base_text::Sum;
 use std::alloc::Global;

@@ -1,5 +1,5 @@
 // What deviates in a repository.
-use archive_index::ArchiveFault;
+use archive_lookup::ArchiveFault;
 use base_devices::DeviceError;
 use base_text::NoMemory;
 use std::alloc::{AllocError, AllocFailed};

@@ -6,7 +6,7 @@ ghost use Rattle.base_model.specs.InfoFiles.{IsLabel};
 ghost use Rattle.base_model.specs.ManifestText.{IsWalPart, IsManifest};
 ghost use Rattle.base_model.specs.Names.{label_folder};
 ghost use Rattle.base_model.specs.Values.{manifest_of};
-ghost use Rattle.archive_index.specs.Stored.{AreStored};
+ghost use Rattle.archive_lookup.specs.Stored.{AreStored};
 ghost use Rattle.cmd_verify.specs.Findings.{SpanDeviates};
 ghost use Rattle.base_model.specs.Text.{In};
 ghost use Rattle.cmd_verify.specs.Adding.{Adds};
@@ -14,7 +14,7 @@ ghost use Rattle.cmd_verify.specs.Gaps.{IsNear, IsWhole, HasWhole, IsGap, Gaps};
 ghost use Rattle.cmd_verify.specs.What.{Gap, Shows};
 
 use crate::findings::finding::{Finding, FindingKind};
-use archive_index::Stored;
+use archive_lookup::Stored;
 use base_model::{ArchiveId, ArchiveName, Label, Manifest, Segment, Span, WalPart};
 use base_text::NoMemory;
 use repo_names::{label_text, next, segment_text};

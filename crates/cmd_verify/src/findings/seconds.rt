@@ -2,14 +2,14 @@
 ghost use Rattle.std.specs.Prelude.{◌≡◌, false, IfOk, IsTrue, OnOk, string_bytes};
 ghost use Rattle.base_model.specs.Text.{Text};
 ghost use Rattle.base_devices.specs.Content.{Content};
-ghost use Rattle.archive_index.specs.Stored.{AreStored};
+ghost use Rattle.archive_lookup.specs.Stored.{AreStored};
 ghost use Rattle.cmd_verify.specs.Adding.{Adds};
 ghost use Rattle.cmd_verify.specs.Archived.{FollowsAlike, SecondDeviates};
 ghost use Rattle.cmd_verify.specs.Findings.{segment_of};
 ghost use Rattle.cmd_verify.specs.What.{Second, Shows};
 
 use crate::findings::finding::{Finding, FindingKind};
-use archive_index::Stored;
+use archive_lookup::Stored;
 use base_model::{ArchiveName, Segment};
 use base_text::NoMemory;
 use repo_names::segment_text;

@@ -4,7 +4,7 @@ use crate::prefetched::following::fetch_after;
 use crate::prefetched::same::{same, well};
 use cmd_archive_get::GetFault;
 use cmd_archive_get_async::has_ahead;
-use cmd_terms::Halt;
+use cmd_types::Halt;
 use memory_devices::MemDisk;
 use std::alloc::Global;
 use std::process::Abort;

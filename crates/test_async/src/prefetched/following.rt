@@ -2,7 +2,7 @@
 use crate::prefetched::devices::{ID, segment};
 use cmd_archive_get::GetFault;
 use cmd_archive_get_async::fetch_ahead;
-use cmd_terms::Halt;
+use cmd_types::Halt;
 use memory_devices::MemDisk;
 use repo_names::{read_seg_size, segments_per_log};
 use std::alloc::Global;

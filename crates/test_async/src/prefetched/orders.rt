@@ -3,7 +3,7 @@ use crate::prefetched::devices::segment;
 use crate::prefetched::same::{same, well};
 use cmd_archive_get::GetFault;
 use cmd_archive_get_async::fetch_order;
-use cmd_terms::Halt;
+use cmd_types::Halt;
 
 #[test]
 fn an_order_names_a_segment(rt: HostRuntime) {

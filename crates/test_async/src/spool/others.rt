@@ -1,14 +1,14 @@
 // Other processes in memory: a drain, where it was started, after some steps in which nothing is done.
 ghost use Rattle.std.specs.Prelude.{◌≡◌, None};
-ghost use Rattle.cmd_terms.specs.declared.stages.halt.Halt.TheVariants.{Failed as HasFailed};
-ghost use Rattle.cmd_terms.specs.declared.stages.object.Object.TheVariants.{Repo as TheRepo, Spool as TheSpool};
+ghost use Rattle.cmd_types.specs.declared.stages.halt.Halt.TheVariants.{Failed as HasFailed};
+ghost use Rattle.cmd_types.specs.declared.stages.object.Object.TheVariants.{Repo as TheRepo, Spool as TheSpool};
 
 use crate::spool::devices::{ID, SYSTEM};
-use archive_index::{OtherProcesses, TurnError};
+use archive_lookup::{OtherProcesses, TurnError};
 use base_devices::DeviceError;
 use cmd_archive_push::PushFault;
 use cmd_archive_push_async::drain;
-use cmd_terms::{Halt, Object};
+use cmd_types::{Halt, Object};
 use memory_devices::{MemDataFolder, MemDisk};
 use std::alloc::Global;
 

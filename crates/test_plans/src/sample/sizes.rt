@@ -3,7 +3,7 @@ ghost use Rattle.std.specs.Prelude.{◌≤◌};
 
 use crate::sample::same::{same, well};
 use base_devices::{DataFolder, DeviceError, Node};
-use cmd_rehearse_sample::{FolderFault, grow_cluster, make_cluster, spoil_cluster};
+use base_sample::{FolderFault, grow_cluster, make_cluster, spoil_cluster};
 use memory_devices::MemDataFolder;
 use std::alloc::Global;
 use std::process::Abort;

@@ -1,6 +1,6 @@
 use Rattle.std.proofs.Common.{◌++◌}
 use Rattle.base_model.specs.Names.{wal_text}
-use Rattle.archive_index.proofs.OnePath.{unstripped}
+use Rattle.archive_lookup.proofs.OnePath.{unstripped}
 use Rattle.archive_spool.proofs.Middle.{no_end, between_value, between_none}
 use Rattle.archive_spool.proofs.between.name_between.Goals as goal
 

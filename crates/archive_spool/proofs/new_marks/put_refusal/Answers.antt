@@ -2,7 +2,7 @@ use Rattle.std.proofs.Common.{[], ◌∷◌, refl}
 use Rattle.std.proofs.lemmas.Result.{on_ok_weaker}
 use Rattle.base_disk.proofs.Changes.{only_none}
 use Rattle.base_devices.proofs.Nows.{now_none}
-use Rattle.archive_index.specs.Turns.{refusal_name}
+use Rattle.archive_lookup.specs.Turns.{refusal_name}
 use Rattle.archive_spool.specs.Marks.{refusal_text}
 use Rattle.archive_spool.proofs.Marked.{refusal_marks, marks_still, temporary_is, refusal_stays, part_as, whole_as, only_as}
 use Rattle.archive_spool.proofs.new_marks.put_refusal.Goals as goal

@@ -1,5 +1,5 @@
 use Rattle.std.proofs.Common.{rules, ◌<◌, ◌^◌}
-use Rattle.archive_index.proofs.OnePath.{number_none}
+use Rattle.archive_lookup.proofs.OnePath.{number_none}
 use Rattle.archive_spool.proofs.refusals.read_code.Goals as goal
 
 pub returns-clause-none : goal.returns-clause-none

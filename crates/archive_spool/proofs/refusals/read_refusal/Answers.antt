@@ -2,8 +2,8 @@ use Rattle.std.proofs.Common.{◌≡◌, Bool, true, false, Option, Some, None, 
 use Rattle.std.specs.Prelude.{decimal, if◌then◌else◌}
 use Rattle.std.specs.Str.{is_utf8}
 use Rattle.base_model.specs.Text.{Text}
-use Rattle.archive_index.specs.Paths.{Lacks}
-use Rattle.archive_index.proofs.Cuts.{divided, undivided, decimal_lacks}
+use Rattle.archive_lookup.specs.Paths.{Lacks}
+use Rattle.archive_lookup.proofs.Cuts.{divided, undivided, decimal_lacks}
 use Rattle.archive_spool.proofs.refusals.read_refusal.Goals as goal
 
 none_some : (text : Text) (b : Bool) → b ≡ true → ◌≡◌ {A = Option Text} None (if b then Some text else None) → ⊥

@@ -1,6 +1,6 @@
 use Rattle.std.proofs.Common.{◌+◌, sym}
 use Rattle.std.proofs.lemmas.List.{take_rest}
-use Rattle.archive_index.proofs.Cuts.{cut_some, cut_none}
+use Rattle.archive_lookup.proofs.Cuts.{cut_some, cut_none}
 use Rattle.archive_spool.proofs.refusals.split_line.Goals as goal
 
 pub returns-in_err-at-clause-none : goal.returns-in_err-at-clause-none

@@ -7,10 +7,10 @@ use Rattle.base_model.specs.Now.{NowRepresents}
 use Rattle.base_model.specs.Repository.{Stanza}
 use Rattle.base_model.specs.Text.{In}
 use Rattle.base_model.specs.Walks.{IsSynced}
-use Rattle.archive_index.specs.declared.stored.fault.ArchiveFault.TheVariants.{NotFound}
-use Rattle.archive_index.specs.Causes.{IsUnarchived}
+use Rattle.archive_lookup.specs.declared.stored.fault.ArchiveFault.TheVariants.{NotFound}
+use Rattle.archive_lookup.specs.Causes.{IsUnarchived}
 use Rattle.archive_store.specs.Pushes.{IsPathOf}
-use Rattle.archive_index.specs.Stored.{archived_file}
+use Rattle.archive_lookup.specs.Stored.{archived_file}
 use Rattle.archive_store.proofs.Got.{answer_archived, answer_none, answered, stop_answers}
 use Rattle.archive_store.proofs.PushedEach.{after_alike}
 use Rattle.archive_store.proofs.file_lookup.get.Goals as goal

@@ -1,7 +1,7 @@
 use Rattle.archive_store.proofs.PushedEach.{settles_paths, looked_alike}
 use Rattle.archive_store.proofs.Got.{present_cause, finds_one, err_by}
 use Rattle.base_devices.specs.Cause.{Rises}
-use Rattle.archive_index.specs.Causes.{PresentCause}
+use Rattle.archive_lookup.specs.Causes.{PresentCause}
 use Rattle.archive_store.proofs.file_lookup.present.Goals as goal
 
 pub returns-in_err-look_synced-clause-cause : goal.returns-in_err-look_synced-clause-cause

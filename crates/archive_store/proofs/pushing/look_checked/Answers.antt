@@ -1,7 +1,7 @@
 use Rattle.base_devices.specs.Cause.{Rises}
 use Rattle.repo_names.specs.Header.{BeginsWith}
 use Rattle.base_model.specs.Text.{Text}
-use Rattle.archive_index.specs.Causes.{PushCause}
+use Rattle.archive_lookup.specs.Causes.{PushCause}
 use Rattle.archive_store.proofs.Got.{err_by}
 use Rattle.archive_store.proofs.Placed.{push_cause}
 use Rattle.archive_store.proofs.PushedEach.{settles_paths}

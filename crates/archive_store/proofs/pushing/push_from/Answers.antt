@@ -2,7 +2,7 @@ use Rattle.std.proofs.Common.{refl}
 use Rattle.sha1.specs.Sha1.{sha1}
 use Rattle.base_devices.specs.Cause.{Rises}
 use Rattle.archive_store.specs.declared.fault.PushFault.TheVariants.{Archive}
-use Rattle.archive_index.specs.declared.stored.stored_lookup.Look.TheVariants.{Free, One, Two}
+use Rattle.archive_lookup.specs.declared.stored.stored_lookup.Look.TheVariants.{Free, One, Two}
 use Rattle.archive_store.specs.Pushing.{PushFromCause}
 use Rattle.archive_store.proofs.Got.{err_by}
 use Rattle.archive_store.proofs.Placed.{temporary_of, lies_of, lasting_of, looks_as, one_only, one_some}

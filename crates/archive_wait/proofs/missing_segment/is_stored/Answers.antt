@@ -3,9 +3,9 @@ use Rattle.std.specs.Prelude.{IfSome}
 use Rattle.base_devices.specs.Cause.{Rises}
 use Rattle.base_devices.specs.Content.{Content}
 use Rattle.base_model.specs.declared.wal.ArchiveName.TheVariants.{Segment as Whole}
-use Rattle.archive_index.specs.declared.stored.files.Stored.{Stored}
-use Rattle.archive_index.specs.Causes.{PresentCause}
-use Rattle.archive_index.specs.Stored.{Finds}
+use Rattle.archive_lookup.specs.declared.stored.files.Stored.{Stored}
+use Rattle.archive_lookup.specs.Causes.{PresentCause}
+use Rattle.archive_lookup.specs.Stored.{Finds}
 use Rattle.archive_wait.proofs.Held.{found_lasts}
 use Rattle.archive_wait.proofs.missing_segment.is_stored.Goals as goal
 

@@ -1,10 +1,10 @@
 use Rattle.std.proofs.Common.{string_bytes, length, map, ap, arith, subst, sym, ◌∙◌}
 use Rattle.std.proofs.lemmas.List.{length-map}
 use Rattle.worker_protocol.specs.Views.{job_of}
-use Rattle.backup_files.specs.Keeping.{progress_of, IsPlan, Agrees}
-use Rattle.backup_files.specs.Keeper.{names_of, progress_in}
-use Rattle.backup_files.proofs.Fresh.{fresh_keeps, fresh_agrees}
-use Rattle.backup_files.proofs.Places.{sealed_placed}
+use Rattle.backup_sink.specs.Keeping.{progress_of, IsPlan, Agrees}
+use Rattle.backup_sink.specs.Keeper.{names_of, progress_in}
+use Rattle.backup_sink.proofs.Fresh.{fresh_keeps, fresh_agrees}
+use Rattle.backup_sink.proofs.Places.{sealed_placed}
 use Rattle.backup_make.proofs.Unreads.{unread_of, job_within, item_within, unread_item}
 use Rattle.backup_make.proofs.backup_bytes.store.Goals as goal
 

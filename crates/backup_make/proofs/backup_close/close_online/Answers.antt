@@ -1,5 +1,5 @@
 use Rattle.std.proofs.Common.{◌≡◌, option_map, Some, subst}
-use Rattle.backup_files.specs.Relation.{touches_same}
+use Rattle.backup_sink.specs.Relation.{touches_same}
 use Rattle.base_devices.specs.Content.{Content, at}
 use Rattle.base_model.specs.Text.{Text}
 use Rattle.backup_make.specs.Draft.{stanza_of, is_own_of, label_name}

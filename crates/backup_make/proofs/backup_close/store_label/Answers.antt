@@ -1,8 +1,8 @@
 use Rattle.std.proofs.Common.{◌≡◌, ◌∙◌, ◌++◌, codes, subst, sym, option_map, ap, Some}
 use Rattle.base_devices.specs.Content.{Name, Content, SameBut, at}
 use Rattle.base_devices.specs.Moments.{GrowsBy}
-use Rattle.backup_files.specs.Relation.{touches_one}
-use Rattle.backup_files.specs.Sealed.{IsSealedAt}
+use Rattle.backup_sink.specs.Relation.{touches_one}
+use Rattle.backup_sink.specs.Sealed.{IsSealedAt}
 use Rattle.backup_make.specs.Draft.{is_own_of, label_name}
 use Rattle.backup_make.proofs.LabelFile.{named, no_slash_in, label_own}
 use Rattle.backup_make.proofs.backup_close.store_label.Goals as goal

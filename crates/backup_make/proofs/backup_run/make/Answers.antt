@@ -2,10 +2,10 @@ use Rattle.std.proofs.Common.{List, None, map, subst}
 use Rattle.std.specs.Prelude.{IfSome}
 use Rattle.std.proofs.lemmas.Result.{err_from_is_err_and, on_ok_weaker}
 use Rattle.base_devices.specs.Links.{LinkState}
-use Rattle.backup_files.specs.declared.keeper.EndedItem.{EndedItem}
+use Rattle.backup_sink.specs.declared.keeper.EndedItem.{EndedItem}
 use Rattle.repo_stanza.specs.Pairs.{AgreeAt}
-use Rattle.base_traces.specs.Beside.{StaysBeside}
-use Rattle.base_traces.proofs.Stays.{beside_on}
+use Rattle.base_crash_lists.specs.Beside.{StaysBeside}
+use Rattle.base_crash_lists.proofs.Stays.{beside_on}
 use Rattle.backup_make.specs.declared.draft.Draft.{Draft}
 use Rattle.backup_make.specs.Draft.{stanza_of, main_of}
 use Rattle.backup_make.specs.Made.{OutcomeOf}

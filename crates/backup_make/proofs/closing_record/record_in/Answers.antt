@@ -4,8 +4,8 @@ use Rattle.std.specs.Prelude.{◌<◌, ◌^◌}
 use Rattle.base_model.specs.declared.labels.Label.{Label}
 use Rattle.base_model.specs.declared.wal.WalPart.{WalPart}
 use Rattle.base_model.specs.Values.{file_entry_of, backup_info_of}
-use Rattle.backup_files.specs.declared.keeper.EndedItem.{EndedItem}
-use Rattle.backup_files.specs.Keeping.{total}
+use Rattle.backup_sink.specs.declared.keeper.EndedItem.{EndedItem}
+use Rattle.backup_sink.specs.Keeping.{total}
 use Rattle.backup_plan.specs.declared.values.Choice.{Choice}
 use Rattle.backup_record.specs.declared.manifest_record.Head.{Head}
 use Rattle.backup_record.specs.Bounds.{KeepsBounds, MayFollow}

@@ -7,9 +7,9 @@ use Rattle.worker_protocol.specs.Views.{job_of}
 use Rattle.base_devices.specs.Content.{Name}
 use Rattle.worker_pool.specs.Payloads.{AllByFile}
 use Rattle.worker_pool.specs.Run.{AllDone}
-use Rattle.backup_files.specs.declared.keeper.EndedItem.{EndedItem}
-use Rattle.backup_files.specs.Keeping.{IsPlan, progress_of}
-use Rattle.backup_files.specs.Keeper.{names_of, progress_in, stored_in}
+use Rattle.backup_sink.specs.declared.keeper.EndedItem.{EndedItem}
+use Rattle.backup_sink.specs.Keeping.{IsPlan, progress_of}
+use Rattle.backup_sink.specs.Keeper.{names_of, progress_in, stored_in}
 use Rattle.backup_record.specs.Naming.{names_in}
 use Rattle.backup_make.specs.Stored.{AreNames, Stored}
 use Rattle.backup_make.proofs.Drafted.{few_jobs, all_fit, names_plan, names_same, stored_as}

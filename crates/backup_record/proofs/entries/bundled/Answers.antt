@@ -1,6 +1,6 @@
 use Rattle.std.proofs.Common.{◌≡◌, ◌+◌, ◌-◌, map, option_map, ℕ, Option, Some, sym, ◌∙◌, ap, subst}
 use Rattle.std.specs.Prelude.{IfOk}
-use Rattle.backup_files.specs.declared.keeper.EndedItem.{EndedItem}
+use Rattle.backup_sink.specs.declared.keeper.EndedItem.{EndedItem}
 use Rattle.base_model.specs.Values.{file_entry_of}
 use Rattle.backup_plan.specs.Views.{taken_of}
 use Rattle.backup_record.specs.Ends.{end_at, bytes_before}

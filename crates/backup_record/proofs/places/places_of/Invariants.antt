@@ -1,6 +1,6 @@
 use Rattle.std.proofs.Common.{◌≡◌, ◌++◌, map, drop, ◌<◌, ◌^◌}
 use Rattle.std.specs.List.{AllByRecursion}
-use Rattle.backup_files.specs.Keeping.{total}
+use Rattle.backup_sink.specs.Keeping.{total}
 use Rattle.backup_record.specs.Sums.{sums}
 use Rattle.backup_record.proofs.places.places_of.Given as goal
 

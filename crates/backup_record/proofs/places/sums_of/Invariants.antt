@@ -1,5 +1,5 @@
 use Rattle.std.proofs.Common.{◌≡◌, ◌++◌, ◌+◌, ◌<◌, ◌^◌, drop}
-use Rattle.backup_files.specs.Keeping.{total}
+use Rattle.backup_sink.specs.Keeping.{total}
 use Rattle.backup_record.specs.Sums.{sums}
 use Rattle.backup_record.proofs.places.sums_of.Given as goal
 

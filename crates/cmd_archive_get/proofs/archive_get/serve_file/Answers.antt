@@ -2,7 +2,7 @@ use Rattle.std.proofs.Common.{rules, subst, IfErr, List}
 use Rattle.base_devices.specs.Cause.{Rises}
 use Rattle.base_model.specs.declared.clusters.ClusterId.{ClusterId}
 use Rattle.base_model.specs.Values.{archive_info_of}
-use Rattle.cmd_terms.specs.Halts.{HaltCause}
+use Rattle.cmd_types.specs.Halts.{HaltCause}
 use Rattle.cmd_archive_get.specs.Getting.{HasSame, FetchCause}
 use Rattle.cmd_archive_get.specs.Serving.{RoseIn, Puts, AreFoundIn, IsAbsentIn, SearchCause}
 use Rattle.cmd_archive_get.proofs.Left.{puts_sought}

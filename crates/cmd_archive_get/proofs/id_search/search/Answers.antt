@@ -2,12 +2,12 @@ use Rattle.std.proofs.Common.{rules, arith, inl, refl, ◌≡◌, ◌++◌, ◌�
 use Rattle.std.specs.Prelude.{IfSome}
 use Rattle.base_devices.specs.Content.{Content}
 use Rattle.base_devices.specs.Cause.{Rises}
-use Rattle.archive_index.specs.Stored.{StoresNone}
-use Rattle.cmd_terms.specs.Current.{id_kept}
+use Rattle.archive_lookup.specs.Stored.{StoresNone}
+use Rattle.cmd_types.specs.Current.{id_kept}
 use Rattle.cmd_archive_get.specs.Getting.{IsSame, FoundIn}
 use Rattle.cmd_archive_get.specs.Serving.{RoseIn, AreBytes, AreBytesUnder, IsUnstoredUnder, Puts, UnderCause, SearchCause, IsLeft}
 use Rattle.base_devices.proofs.States.{looks_on}
-use Rattle.cmd_terms.specs.Halts.{HaltCause}
+use Rattle.cmd_types.specs.Halts.{HaltCause}
 use Rattle.cmd_archive_get.proofs.Stops.{handed_on}
 use Rattle.cmd_archive_get.proofs.Left.{left_prefix, left_back, puts_handed}
 use Rattle.cmd_archive_get.proofs.Passes.{goes_as}

@@ -1,5 +1,5 @@
 use Rattle.std.proofs.Common.{rules, refl}
-use Rattle.cmd_terms.specs.Current.{id_kept}
+use Rattle.cmd_types.specs.Current.{id_kept}
 use Rattle.cmd_archive_get.specs.Getting.{IsSame}
 use Rattle.cmd_archive_get.proofs.Left.{puts_left, puts_under}
 use Rattle.cmd_archive_get.proofs.id_search.serve_under.Goals as goal

@@ -4,7 +4,7 @@ use Rattle.base_devices.specs.Cause.{Rises}
 use Rattle.base_devices.specs.Content.{Content}
 use Rattle.base_model.specs.declared.clusters.ClusterId.{ClusterId}
 use Rattle.base_model.specs.Values.{archive_info_of}
-use Rattle.cmd_terms.specs.Halts.{HaltCause}
+use Rattle.cmd_types.specs.Halts.{HaltCause}
 use Rattle.cmd_archive_get.specs.Getting.{HasSame, FetchCause}
 use Rattle.cmd_archive_get.specs.Looking.{FindsIn}
 use Rattle.cmd_archive_get.specs.Serving.{IsLeft, RoseIn, SearchCause}

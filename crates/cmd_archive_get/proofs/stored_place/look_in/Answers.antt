@@ -3,8 +3,8 @@ use Rattle.std.specs.Prelude.{IfSome}
 use Rattle.base_devices.specs.Content.{Content}
 use Rattle.base_devices.specs.Cause.{Rises}
 use Rattle.base_devices.proofs.States.{looks_on}
-use Rattle.cmd_terms.specs.Halts.{HaltCause}
-use Rattle.archive_index.specs.declared.stored.files.Stored.{Stored}
+use Rattle.cmd_types.specs.Halts.{HaltCause}
+use Rattle.archive_lookup.specs.declared.stored.files.Stored.{Stored}
 use Rattle.cmd_archive_get.specs.Looking.{FindsUnder}
 use Rattle.cmd_archive_get.specs.Serving.{RoseIn, UnderCause, SearchCause, IsLeft}
 use Rattle.cmd_archive_get.proofs.Stops.{stops_as}

@@ -1,5 +1,5 @@
 use Rattle.std.proofs.Common.{rules, refl}
-use Rattle.cmd_terms.specs.Current.{id_kept}
+use Rattle.cmd_types.specs.Current.{id_kept}
 use Rattle.cmd_archive_get.specs.Getting.{IsSame}
 use Rattle.cmd_archive_get.proofs.LookedFor.{finds_left, under_finds}
 use Rattle.cmd_archive_get.proofs.stored_place.look_under.Goals as goal

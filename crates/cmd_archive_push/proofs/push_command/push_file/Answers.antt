@@ -1,6 +1,6 @@
 use Rattle.base_model.specs.Values.{archive_info_of}
 use Rattle.archive_store.specs.Still.{still_self}
-use Rattle.cmd_terms.proofs.Besides.{still_beside}
+use Rattle.cmd_types.proofs.Besides.{still_beside}
 use Rattle.cmd_archive_push.proofs.Doings.{none_did, asked_on}
 use Rattle.cmd_archive_push.proofs.Opened.{unopened_ends}
 use Rattle.cmd_archive_push.proofs.push_command.push_file.Goals as goal

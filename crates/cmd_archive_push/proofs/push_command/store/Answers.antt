@@ -1,5 +1,5 @@
 use Rattle.std.proofs.Common.{◌∙◌, ap}
-use Rattle.cmd_terms.proofs.Besides.{archive_beside}
+use Rattle.cmd_types.proofs.Besides.{archive_beside}
 use Rattle.cmd_archive_push.specs.Outcomes.{pushed_lines}
 use Rattle.cmd_archive_push.proofs.Doings.{halt_did, memory_did, end_did}
 use Rattle.cmd_archive_push.proofs.Logged.{opened_read}

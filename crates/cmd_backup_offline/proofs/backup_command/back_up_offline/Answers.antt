@@ -3,16 +3,16 @@ use Rattle.std.specs.Prelude.{Result, Ok, Err}
 use Rattle.base_devices.specs.Cause.{Rises}
 use Rattle.base_model.specs.Values.{FileEntry, backup_info_of, file_entry_of, manifest_of}
 use Rattle.backup_plan.specs.Views.{seen_of}
-use Rattle.base_traces.proofs.Stays.{rests_beside, beside_on}
+use Rattle.base_crash_lists.proofs.Stays.{rests_beside, beside_on}
 use Rattle.archive_store.specs.Still.{rests_none}
-use Rattle.cmd_terms.specs.declared.stages.halt.Halt.{Halt}
-use Rattle.cmd_terms.specs.declared.stages.outcome.Outcome.{Outcome}
-use Rattle.cmd_terms.specs.declared.stages.object.Object.TheVariants as objects
-use Rattle.cmd_terms.specs.declared.stages.plan.SyncScope.TheVariants.{Whole}
-use Rattle.cmd_terms.specs.Halts.{HaltCause, Only}
-use Rattle.cmd_terms.specs.Reached.{reached_by}
-use Rattle.cmd_terms.specs.DisksEffect.{On, one, RepoEffect}
-use Rattle.cmd_terms.proofs.Counts.{rises_from}
+use Rattle.cmd_types.specs.declared.stages.halt.Halt.{Halt}
+use Rattle.cmd_types.specs.declared.stages.outcome.Outcome.{Outcome}
+use Rattle.cmd_types.specs.declared.stages.object.Object.TheVariants as objects
+use Rattle.cmd_types.specs.declared.stages.plan.SyncScope.TheVariants.{Whole}
+use Rattle.cmd_types.specs.Halts.{HaltCause, Only}
+use Rattle.cmd_types.specs.Reached.{reached_by}
+use Rattle.cmd_types.specs.DisksEffect.{On, one, RepoEffect}
+use Rattle.cmd_types.proofs.Counts.{rises_from}
 use Rattle.cmd_backup_common.specs.declared.parts.fault.BackupFault.{BackupFault}
 use Rattle.cmd_backup_common.specs.Causes.{Before}
 use Rattle.cmd_backup_common.specs.PartsFaults.{backup_early}

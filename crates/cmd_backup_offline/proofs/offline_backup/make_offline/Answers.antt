@@ -5,11 +5,11 @@ use Rattle.base_devices.specs.declared.tree.FolderEntry as rust_seen
 use Rattle.base_model.specs.Text.{Text}
 use Rattle.base_model.specs.Values.{backup_info_of, file_entry_of}
 use Rattle.backup_plan.specs.Views.{seen_of}
-use Rattle.base_traces.specs.Beside.{StaysBeside}
-use Rattle.base_traces.proofs.Stays.{rests_beside, beside_on}
-use Rattle.cmd_terms.specs.Halts.{HaltCause}
-use Rattle.cmd_terms.specs.Reached.{OnFinished}
-use Rattle.cmd_terms.proofs.Counts.{rises_from}
+use Rattle.base_crash_lists.specs.Beside.{StaysBeside}
+use Rattle.base_crash_lists.proofs.Stays.{rests_beside, beside_on}
+use Rattle.cmd_types.specs.Halts.{HaltCause}
+use Rattle.cmd_types.specs.Reached.{OnFinished}
+use Rattle.cmd_types.proofs.Counts.{rises_from}
 use Rattle.cmd_backup_common.specs.Making.{MakeCause}
 use Rattle.cmd_backup_common.proofs.Beginnings.{halt_as, ends_with, err_as}
 use Rattle.cmd_backup_common.proofs.Makings.{Either}

@@ -1,6 +1,6 @@
 use Rattle.base_devices.specs.Cause.{Rises}
-use Rattle.cmd_terms.specs.declared.stages.object.Object.TheVariants as objects
-use Rattle.cmd_terms.specs.Risen.{none, rose_in}
+use Rattle.cmd_types.specs.declared.stages.object.Object.TheVariants as objects
+use Rattle.cmd_types.specs.Risen.{none, rose_in}
 use Rattle.cmd_backup_online.proofs.Gatherings.{stop_halts}
 use Rattle.cmd_backup_online.proofs.listing.list_folder.Goals as goal
 

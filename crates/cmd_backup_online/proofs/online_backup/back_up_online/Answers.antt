@@ -7,8 +7,8 @@ use Rattle.base_devices.specs.DataFolder.{Nodes}
 use Rattle.base_model.specs.declared.labels.BackupKind.{BackupKind}
 use Rattle.base_model.specs.Text.{Text}
 use Rattle.base_model.specs.Values.{FileEntry, archive_info_of, backup_info_of, file_entry_of, manifest_of}
-use Rattle.base_traces.specs.Beside.{StaysBeside}
-use Rattle.base_traces.proofs.Stays.{rests_beside, beside_on}
+use Rattle.base_crash_lists.specs.Beside.{StaysBeside}
+use Rattle.base_crash_lists.proofs.Stays.{rests_beside, beside_on}
 use Rattle.repo_stanza.specs.declared.control.Control.{Control}
 use Rattle.repo_stanza.specs.Pairs.{AgreeAt}
 use Rattle.backup_make.specs.Draft.{main_of}
@@ -18,11 +18,11 @@ use Rattle.backup_make.proofs.After.{leaves_after}
 use Rattle.backup_make.proofs.Labels.{apart}
 use Rattle.backup_make.proofs.Parts.{published}
 use Rattle.server_talk.specs.Telling.{starting}
-use Rattle.archive_index.specs.Turns.{Account}
-use Rattle.cmd_terms.specs.declared.stages.halt.Halt.{Halt}
-use Rattle.cmd_terms.specs.declared.stages.outcome.Outcome.{Outcome}
-use Rattle.cmd_terms.specs.Halts.{HaltCause}
-use Rattle.cmd_terms.proofs.Counts.{rises_from}
+use Rattle.archive_lookup.specs.Turns.{Account}
+use Rattle.cmd_types.specs.declared.stages.halt.Halt.{Halt}
+use Rattle.cmd_types.specs.declared.stages.outcome.Outcome.{Outcome}
+use Rattle.cmd_types.specs.Halts.{HaltCause}
+use Rattle.cmd_types.proofs.Counts.{rises_from}
 use Rattle.cmd_backup_common.proofs.Beginnings.{ends_with, halt_as, err_as}
 use Rattle.cmd_backup_common.proofs.Links.{left_comes}
 use Rattle.cmd_backup_common.proofs.Takings.{used_few}

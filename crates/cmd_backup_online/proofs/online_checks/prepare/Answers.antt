@@ -1,8 +1,8 @@
 use Rattle.std.proofs.Common.{map, take, ◌∙◌, ap}
 use Rattle.base_devices.specs.Cause.{Rises}
 use Rattle.base_model.specs.Values.{archive_info_of, backup_info_of}
-use Rattle.cmd_terms.specs.Halts.{HaltCause}
-use Rattle.cmd_terms.proofs.Counts.{rises_from}
+use Rattle.cmd_types.specs.Halts.{HaltCause}
+use Rattle.cmd_types.proofs.Counts.{rises_from}
 use Rattle.cmd_backup_common.proofs.Beginnings.{ends_with}
 use Rattle.cmd_backup_common.proofs.Makings.{Either}
 use Rattle.cmd_backup_offline.specs.Faults.{of_backup}

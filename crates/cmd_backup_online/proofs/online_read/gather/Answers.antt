@@ -5,7 +5,7 @@ use Rattle.base_devices.specs.declared.tree.FolderEntry as rust_seen
 use Rattle.base_devices.specs.DataFolder.{IsTreeListing}
 use Rattle.base_model.specs.Values.{backup_info_of, file_entry_of}
 use Rattle.backup_plan.specs.Views.{seen_of}
-use Rattle.cmd_terms.specs.Halts.{HaltCause}
+use Rattle.cmd_types.specs.Halts.{HaltCause}
 use Rattle.cmd_backup_common.proofs.Beginnings.{ends_with}
 use Rattle.worker_pool.specs.declared.dispatch.fault.Lost.{Lost}
 use Rattle.cmd_backup_online.specs.Drafting.{IsDraftFrom}

@@ -2,8 +2,8 @@ use Rattle.std.proofs.Common.{map}
 use Rattle.base_devices.specs.Cause.{Rises}
 use Rattle.base_model.specs.Values.{backup_info_of, file_entry_of}
 use Rattle.server_talk.specs.Causes.{StopCause}
-use Rattle.cmd_terms.specs.declared.stages.object.Object.TheVariants as objects
-use Rattle.cmd_terms.specs.Halts.{HaltCause, Only}
+use Rattle.cmd_types.specs.declared.stages.object.Object.TheVariants as objects
+use Rattle.cmd_types.specs.Halts.{HaltCause, Only}
 use Rattle.cmd_backup_common.proofs.Beginnings.{ends_with, halt_as}
 use Rattle.backup_make.specs.Staged.{fetched_draft}
 use Rattle.cmd_backup_online.specs.Gathering.{Begun}

@@ -1,7 +1,7 @@
 use Rattle.std.proofs.Math.Nat.{le_refl}
 use Rattle.std.proofs.Common.{◌∙◌, arith, map, take, refl, sym, subst, Result, Ok, Err, Option}
 use Rattle.archive_store.specs.Still.{IsStill, still_on}
-use Rattle.base_traces.proofs.Stays.{rests_beside, beside_on}
+use Rattle.base_crash_lists.proofs.Stays.{rests_beside, beside_on}
 use Rattle.backup_lemmas.proofs.Reading.{no_files}
 use Rattle.cmd_backup_offline.specs.Faults.{offline_early}
 use Rattle.cmd_rehearse.specs.Advancing.{Advances}
@@ -11,8 +11,8 @@ use Rattle.cmd_rehearse.proofs.Pushes.{err_as}
 use Rattle.cmd_rehearse.proofs.Taken.{taken_stops, taken_well, after_rests}
 use Rattle.base_devices.specs.Cause.{Rises}
 use Rattle.base_devices.specs.Content.{Content}
-use Rattle.cmd_terms.specs.declared.stages.object.Object.TheVariants.{Repo}
-use Rattle.cmd_terms.specs.Halts.{HaltCause, Only}
+use Rattle.cmd_types.specs.declared.stages.object.Object.TheVariants.{Repo}
+use Rattle.cmd_types.specs.Halts.{HaltCause, Only}
 use Rattle.cmd_backup_common.specs.Causes.{Before}
 use Rattle.cmd_backup_common.proofs.Beginnings.{halt_as, ends_with}
 use Rattle.cmd_rehearse.specs.Causes.{LostCause, StepCause, Fails}

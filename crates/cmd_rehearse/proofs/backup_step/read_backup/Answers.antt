@@ -8,8 +8,8 @@ use Rattle.base_model.specs.Names.{backup_info}
 use Rattle.base_model.specs.Values.{backup_info_of}
 use Rattle.repo_info.specs.BackupForm.{IsBackupForm}
 use Rattle.repo_pair.specs.Causes.{PairCause}
-use Rattle.cmd_terms.specs.declared.stages.object.Object.TheVariants.{Repo}
-use Rattle.cmd_terms.specs.Halts.{HaltCause, Only}
+use Rattle.cmd_types.specs.declared.stages.object.Object.TheVariants.{Repo}
+use Rattle.cmd_types.specs.Halts.{HaltCause, Only}
 use Rattle.cmd_rehearse.specs.Causes.{LostCause}
 use Rattle.cmd_rehearse.proofs.Causing.{pair_lost}
 use Rattle.cmd_rehearse.proofs.backup_step.read_backup.Goals as goal

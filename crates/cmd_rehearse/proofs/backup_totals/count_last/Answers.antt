@@ -13,8 +13,8 @@ use Rattle.base_model.specs.Names.{backup_info, manifest_name}
 use Rattle.base_model.specs.Pair.{PairIs}
 use Rattle.base_model.specs.Values.{Manifest, backup_info_of, manifest_of, file_entry_of}
 use Rattle.backup_record.specs.Making.{size_of}
-use Rattle.cmd_terms.specs.declared.stages.object.Object.TheVariants.{Repo}
-use Rattle.cmd_terms.specs.Halts.{HaltCause, Only}
+use Rattle.cmd_types.specs.declared.stages.object.Object.TheVariants.{Repo}
+use Rattle.cmd_types.specs.Halts.{HaltCause, Only}
 use Rattle.cmd_backup_common.proofs.Beginnings.{halt_as, ends_with}
 use Rattle.cmd_backup_common.proofs.Causes.{if_both}
 use Rattle.cmd_backup_offline.specs.Basing.{base_label, ReadsBase, BaseCause}

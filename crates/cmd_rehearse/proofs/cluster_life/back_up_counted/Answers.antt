@@ -4,13 +4,13 @@ use Rattle.std.specs.Prelude.{IfOk}
 use Rattle.base_devices.specs.Cause.{Rises}
 use Rattle.base_devices.specs.Content.{Content}
 use Rattle.archive_store.specs.Still.{rests_none}
-use Rattle.base_traces.proofs.Stays.{rests_beside, beside_on}
+use Rattle.base_crash_lists.proofs.Stays.{rests_beside, beside_on}
 use Rattle.backup_lemmas.proofs.Reading.{no_files}
-use Rattle.cmd_terms.specs.declared.stages.halt.Halt.{Halt}
-use Rattle.cmd_terms.specs.declared.stages.halt.Halt.TheVariants.{NoMemory}
-use Rattle.cmd_terms.specs.declared.stages.object.Object.TheVariants.{Repo}
-use Rattle.cmd_terms.specs.Halts.{HaltCause, Only}
-use Rattle.cmd_terms.specs.Plans.{archive_lock, backup_lock}
+use Rattle.cmd_types.specs.declared.stages.halt.Halt.{Halt}
+use Rattle.cmd_types.specs.declared.stages.halt.Halt.TheVariants.{NoMemory}
+use Rattle.cmd_types.specs.declared.stages.object.Object.TheVariants.{Repo}
+use Rattle.cmd_types.specs.Halts.{HaltCause, Only}
+use Rattle.cmd_types.specs.Plans.{archive_lock, backup_lock}
 use Rattle.cmd_backup_common.proofs.Beginnings.{halt_as, ends_with, err_as as under_err}
 use Rattle.cmd_rehearse.specs.declared.fault.StepFault.{StepFault}
 use Rattle.cmd_rehearse.specs.Advancing.{Advances}

@@ -3,10 +3,10 @@ use Rattle.std.proofs.Common.{Result, Ok, Err}
 use Rattle.std.specs.Prelude.{IfOk}
 use Rattle.base_devices.specs.Cause.{Rises}
 use Rattle.base_model.specs.Steps.{Expire}
-use Rattle.base_traces.proofs.Stays.{beside_on}
-use Rattle.cmd_terms.specs.declared.stages.halt.Halt.{Halt}
-use Rattle.cmd_terms.specs.declared.stages.object.Object.TheVariants.{Repo}
-use Rattle.cmd_terms.specs.Halts.{HaltCause, Only}
+use Rattle.base_crash_lists.proofs.Stays.{beside_on}
+use Rattle.cmd_types.specs.declared.stages.halt.Halt.{Halt}
+use Rattle.cmd_types.specs.declared.stages.object.Object.TheVariants.{Repo}
+use Rattle.cmd_types.specs.Halts.{HaltCause, Only}
 use Rattle.cmd_backup_common.proofs.Beginnings.{halt_as, ends_with as ends_by}
 use Rattle.cmd_rehearse.specs.declared.backup_totals.Amount.{Amount}
 use Rattle.cmd_rehearse.specs.declared.backup_totals.Counted.TheVariants.{Own}

@@ -1,11 +1,11 @@
 use Rattle.std.proofs.Math.Nat.{le_refl}
 use Rattle.std.proofs.Common.{◌*◌, Result}
 use Rattle.base_devices.specs.Cause.{Rises}
-use Rattle.base_traces.proofs.Stays.{beside_on}
+use Rattle.base_crash_lists.proofs.Stays.{beside_on}
 use Rattle.backup_lemmas.proofs.Reading.{no_files}
-use Rattle.cmd_terms.specs.declared.stages.halt.Halt.{Halt}
-use Rattle.cmd_terms.specs.declared.stages.object.Object.TheVariants.{Repo}
-use Rattle.cmd_terms.specs.Halts.{HaltCause, Only}
+use Rattle.cmd_types.specs.declared.stages.halt.Halt.{Halt}
+use Rattle.cmd_types.specs.declared.stages.object.Object.TheVariants.{Repo}
+use Rattle.cmd_types.specs.Halts.{HaltCause, Only}
 use Rattle.cmd_backup_common.proofs.Beginnings.{halt_as, ends_with, err_as as under_err}
 use Rattle.base_model.specs.declared.labels.BackupKind.TheVariants.{Full}
 use Rattle.cmd_rehearse.specs.declared.backup_totals.Counted.TheVariants.{Own}

@@ -2,11 +2,11 @@ use Rattle.std.proofs.Math.Nat.{le_refl}
 use Rattle.std.proofs.Common.{arith, refl, sym, subst, Result, Ok, Err}
 use Rattle.std.specs.Prelude.{IfOk}
 use Rattle.base_devices.specs.Cause.{Rises}
-use Rattle.base_traces.proofs.Stays.{beside_on}
+use Rattle.base_crash_lists.proofs.Stays.{beside_on}
 use Rattle.backup_lemmas.proofs.Reading.{no_files}
-use Rattle.cmd_terms.specs.declared.stages.halt.Halt.{Halt}
-use Rattle.cmd_terms.specs.declared.stages.object.Object.TheVariants.{TheDataFolder}
-use Rattle.cmd_terms.specs.Halts.{HaltCause, Only}
+use Rattle.cmd_types.specs.declared.stages.halt.Halt.{Halt}
+use Rattle.cmd_types.specs.declared.stages.object.Object.TheVariants.{TheDataFolder}
+use Rattle.cmd_types.specs.Halts.{HaltCause, Only}
 use Rattle.cmd_backup_common.proofs.Beginnings.{halt_as, ends_with}
 use Rattle.cmd_rehearse.specs.declared.backup_totals.Amount.{Amount}
 use Rattle.cmd_rehearse.specs.declared.backup_totals.Counted.TheVariants.{Own}

@@ -1,10 +1,10 @@
 use Rattle.std.proofs.Math.Nat.{le_refl}
 use Rattle.std.proofs.Common.{Result, Ok, Err}
 use Rattle.std.specs.Prelude.{IfOk}
-use Rattle.base_traces.proofs.Stays.{beside_on}
+use Rattle.base_crash_lists.proofs.Stays.{beside_on}
 use Rattle.backup_lemmas.proofs.Reading.{no_files}
-use Rattle.cmd_terms.specs.declared.stages.halt.Halt.{Halt}
-use Rattle.cmd_terms.specs.Halts.{HaltCause}
+use Rattle.cmd_types.specs.declared.stages.halt.Halt.{Halt}
+use Rattle.cmd_types.specs.Halts.{HaltCause}
 use Rattle.cmd_backup_common.proofs.Beginnings.{halt_as, ends_with}
 use Rattle.cmd_rehearse.specs.declared.backup_totals.Amount.{Amount}
 use Rattle.cmd_rehearse.specs.declared.backup_totals.Counted.TheVariants.{Filled}

@@ -1,9 +1,9 @@
 use Rattle.std.proofs.Common.{◌≡◌, List, arith, length, sym, subst}
 use Rattle.base_devices.specs.Cause.{Rises}
-use Rattle.archive_index.specs.declared.stored.files.Stored.{Stored}
-use Rattle.archive_index.specs.Stored.{AreStored}
-use Rattle.cmd_terms.specs.declared.stages.object.Object.TheVariants.{Repo}
-use Rattle.cmd_terms.specs.Halts.{HaltCause, Only}
+use Rattle.archive_lookup.specs.declared.stored.files.Stored.{Stored}
+use Rattle.archive_lookup.specs.Stored.{AreStored}
+use Rattle.cmd_types.specs.declared.stages.object.Object.TheVariants.{Repo}
+use Rattle.cmd_types.specs.Halts.{HaltCause, Only}
 use Rattle.cmd_backup_common.proofs.Causes.{if_as}
 use Rattle.cmd_rehearse.specs.Causes.{StepCause}
 use Rattle.cmd_rehearse.proofs.Causing.{all_fails}

@@ -3,8 +3,8 @@ use Rattle.std.proofs.Common.{arith, refl, sym, subst, Option}
 use Rattle.base_devices.specs.Cause.{Rises}
 use Rattle.base_devices.specs.Content.{Content}
 use Rattle.base_devices.proofs.States.{looks_on}
-use Rattle.cmd_terms.specs.declared.stages.object.Object.TheVariants.{Repo, TheDataFolder}
-use Rattle.cmd_terms.specs.Halts.{HaltCause, Only}
+use Rattle.cmd_types.specs.declared.stages.object.Object.TheVariants.{Repo, TheDataFolder}
+use Rattle.cmd_types.specs.Halts.{HaltCause, Only}
 use Rattle.cmd_backup_common.proofs.Beginnings.{halt_as, ends_with, err_as as under_err}
 use Rattle.cmd_rehearse.specs.Causes.{StepCause, FailsBoth}
 use Rattle.cmd_rehearse.proofs.Ends.{ends_over}

@@ -3,8 +3,8 @@ use Rattle.std.proofs.Common.{map, take, refl, sym, subst}
 use Rattle.std.specs.Prelude.{None, true}
 use Rattle.base_devices.specs.Cause.{Rises}
 use Rattle.base_devices.proofs.States.{looks_on}
-use Rattle.cmd_terms.specs.declared.stages.object.Object.TheVariants.{Repo}
-use Rattle.cmd_terms.specs.Halts.{HaltCause, Only}
+use Rattle.cmd_types.specs.declared.stages.object.Object.TheVariants.{Repo}
+use Rattle.cmd_types.specs.Halts.{HaltCause, Only}
 use Rattle.cmd_backup_common.proofs.Beginnings.{halt_as, ends_with}
 use Rattle.cmd_restore.specs.Fetching.{options_by}
 use Rattle.cmd_restore.specs.Fetching.RecoveryType.{Without}

@@ -2,10 +2,10 @@ use Rattle.std.proofs.Math.Nat.{le_refl}
 use Rattle.std.proofs.Common.{refl, sym, subst, Result, Ok, Err, Option}
 use Rattle.std.specs.Prelude.{IfOk}
 use Rattle.base_devices.specs.Content.{Content}
-use Rattle.base_traces.proofs.Stays.{rests_beside, beside_on}
-use Rattle.cmd_terms.specs.declared.stages.halt.Halt.{Halt}
-use Rattle.cmd_terms.specs.declared.stages.outcome.Outcome.{Outcome}
-use Rattle.cmd_terms.specs.Halts.{HaltCause}
+use Rattle.base_crash_lists.proofs.Stays.{rests_beside, beside_on}
+use Rattle.cmd_types.specs.declared.stages.halt.Halt.{Halt}
+use Rattle.cmd_types.specs.declared.stages.outcome.Outcome.{Outcome}
+use Rattle.cmd_types.specs.Halts.{HaltCause}
 use Rattle.cmd_backup_common.proofs.Beginnings.{halt_as, ends_with}
 use Rattle.cmd_rehearse.specs.declared.fault.StepFault.{StepFault}
 use Rattle.cmd_rehearse.specs.declared.cluster_life.Lived.{Lived}

@@ -3,16 +3,16 @@ use Rattle.std.proofs.Common.{◌≡◌, refl, sym, subst, Result, Ok, Err, Opti
 use Rattle.std.specs.Prelude.{IfOk}
 use Rattle.base_devices.specs.Cause.{Rises}
 use Rattle.base_devices.specs.Content.{Content}
-use Rattle.base_traces.proofs.Stays.{rests_beside, beside_on}
+use Rattle.base_crash_lists.proofs.Stays.{rests_beside, beside_on}
 use Rattle.backup_lemmas.proofs.Reading.{no_files}
-use Rattle.cmd_terms.specs.declared.stages.object.Object.TheVariants.{Repo}
-use Rattle.cmd_terms.specs.declared.stages.plan.SyncScope.TheVariants.{Whole}
-use Rattle.cmd_terms.specs.Halts.{HaltCause, Only}
-use Rattle.cmd_terms.specs.Reached.{reached_by}
-use Rattle.cmd_terms.specs.DisksEffect.{RepoEffect}
+use Rattle.cmd_types.specs.declared.stages.object.Object.TheVariants.{Repo}
+use Rattle.cmd_types.specs.declared.stages.plan.SyncScope.TheVariants.{Whole}
+use Rattle.cmd_types.specs.Halts.{HaltCause, Only}
+use Rattle.cmd_types.specs.Reached.{reached_by}
+use Rattle.cmd_types.specs.DisksEffect.{RepoEffect}
 use Rattle.cmd_backup_common.proofs.Beginnings.{halt_as, ends_with}
-use Rattle.cmd_terms.specs.declared.stages.halt.Halt.{Halt}
-use Rattle.cmd_terms.specs.declared.stages.outcome.Outcome.{Outcome}
+use Rattle.cmd_types.specs.declared.stages.halt.Halt.{Halt}
+use Rattle.cmd_types.specs.declared.stages.outcome.Outcome.{Outcome}
 use Rattle.cmd_rehearse.specs.declared.fault.RehearseFault.{RehearseFault}
 use Rattle.cmd_rehearse.specs.Causes.{PrefixCause, ExistsCause, RehearseCause, Fails}
 use Rattle.cmd_rehearse.specs.Commands.{rehearsed, keeps_one}

@@ -1,14 +1,14 @@
 use Rattle.std.proofs.Common.{◌∙◌, ap, arith, refl, sym, subst}
 use Rattle.base_model.specs.Steps.{ArchivePush}
 use Rattle.archive_store.specs.Still.{rests_none}
-use Rattle.cmd_terms.specs.declared.stages.plan.SyncScope.TheVariants.{Whole}
-use Rattle.cmd_terms.proofs.Doing.{rests_part}
-use Rattle.cmd_terms.proofs.Besides.{archive_beside}
+use Rattle.cmd_types.specs.declared.stages.plan.SyncScope.TheVariants.{Whole}
+use Rattle.cmd_types.proofs.Doing.{rests_part}
+use Rattle.cmd_types.proofs.Besides.{archive_beside}
 use Rattle.cmd_rehearse.specs.Commands.{segment_named}
 use Rattle.cmd_rehearse.proofs.Pushes.{pushed_part, pushed_whole, pushed_current, segment_fits}
 use Rattle.base_devices.specs.Cause.{Rises}
-use Rattle.cmd_terms.specs.declared.stages.object.Object.TheVariants.{Repo}
-use Rattle.cmd_terms.specs.Halts.{HaltCause, Only}
+use Rattle.cmd_types.specs.declared.stages.object.Object.TheVariants.{Repo}
+use Rattle.cmd_types.specs.Halts.{HaltCause, Only}
 use Rattle.cmd_rehearse.specs.Causes.{StepCause}
 use Rattle.cmd_rehearse.specs.Faults.{of_push}
 use Rattle.cmd_rehearse.proofs.Causing.{push_fails}

@@ -2,15 +2,15 @@ use Rattle.std.proofs.Common.{◌≡◌, ◌+◌, ◌∙◌, ◌≤◌, ℕ, suc
 use Rattle.std.proofs.Math.Nat.{le_refl}
 use Rattle.base_model.specs.Steps.{ArchivePush}
 use Rattle.archive_store.specs.Still.{rests_none}
-use Rattle.base_traces.proofs.Stays.{rests_beside, beside_on}
-use Rattle.cmd_terms.specs.declared.stages.plan.SyncScope.TheVariants.{Whole}
-use Rattle.cmd_terms.specs.DisksEffect.{DoesPart, DoesWhole}
+use Rattle.base_crash_lists.proofs.Stays.{rests_beside, beside_on}
+use Rattle.cmd_types.specs.declared.stages.plan.SyncScope.TheVariants.{Whole}
+use Rattle.cmd_types.specs.DisksEffect.{DoesPart, DoesWhole}
 use Rattle.cmd_rehearse.specs.Advancing.{Advances}
 use Rattle.cmd_rehearse.specs.Commands.{pushed, segment_named}
 use Rattle.cmd_rehearse.proofs.Pushes.{Advanced, nothing_pushed, one_part, one_more, pushes_stop, err_as}
 use Rattle.base_devices.specs.Cause.{Rises}
-use Rattle.cmd_terms.specs.declared.stages.object.Object.TheVariants.{Repo}
-use Rattle.cmd_terms.specs.Halts.{HaltCause, Only}
+use Rattle.cmd_types.specs.declared.stages.object.Object.TheVariants.{Repo}
+use Rattle.cmd_types.specs.Halts.{HaltCause, Only}
 use Rattle.cmd_backup_common.proofs.Beginnings.{halt_as, ends_with}
 use Rattle.cmd_rehearse.specs.Causes.{StepCause, PushesCause}
 use Rattle.cmd_rehearse.proofs.Failing.{only_in}

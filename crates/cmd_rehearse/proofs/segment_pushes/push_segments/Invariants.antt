@@ -2,8 +2,8 @@ use Rattle.std.proofs.Common.{◌≡◌, IfSome}
 use Rattle.std.specs.Prelude.{IsSome}
 use Rattle.base_devices.specs.States.{Frame}
 use Rattle.base_model.specs.declared.clusters.ClusterId.{ClusterId}
-use Rattle.base_traces.specs.Beside.{StaysBeside}
-use Rattle.cmd_terms.specs.Current.{HasCurrent, id_kept}
+use Rattle.base_crash_lists.specs.Beside.{StaysBeside}
+use Rattle.cmd_types.specs.Current.{HasCurrent, id_kept}
 use Rattle.cmd_rehearse.specs.Commands.{pushed}
 use Rattle.cmd_rehearse.proofs.Pushes.{Advanced}
 use Rattle.cmd_rehearse.proofs.segment_pushes.push_segments.Given as goal

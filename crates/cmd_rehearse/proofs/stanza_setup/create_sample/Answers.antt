@@ -1,8 +1,8 @@
 use Rattle.std.proofs.Common.{subst, sym}
 use Rattle.base_devices.specs.Cause.{Rises}
-use Rattle.cmd_terms.specs.declared.stages.object.Object.TheVariants.{Repo}
-use Rattle.cmd_terms.specs.Halts.{HaltCause, Only}
-use Rattle.cmd_terms.proofs.Besides.{pairs_beside}
+use Rattle.cmd_types.specs.declared.stages.object.Object.TheVariants.{Repo}
+use Rattle.cmd_types.specs.Halts.{HaltCause, Only}
+use Rattle.cmd_types.proofs.Besides.{pairs_beside}
 use Rattle.cmd_rehearse.specs.Causes.{StepCause}
 use Rattle.cmd_rehearse.proofs.Causing.{create_fails}
 use Rattle.cmd_rehearse.proofs.stanza_setup.create_sample.Goals as goal

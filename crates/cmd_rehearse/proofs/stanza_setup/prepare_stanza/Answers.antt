@@ -3,17 +3,17 @@ use Rattle.std.proofs.Common.{◌*◌, arith, sym, subst, Result, Ok, Err, Optio
 use Rattle.std.specs.Prelude.{IfSome}
 use Rattle.base_devices.specs.Content.{Content}
 use Rattle.base_model.specs.Values.{archive_info_of}
-use Rattle.base_traces.proofs.Stays.{rests_beside, beside_on}
-use Rattle.cmd_terms.specs.Current.{HasCurrent}
-use Rattle.cmd_terms.specs.declared.stages.halt.Halt.{Halt}
+use Rattle.base_crash_lists.proofs.Stays.{rests_beside, beside_on}
+use Rattle.cmd_types.specs.Current.{HasCurrent}
+use Rattle.cmd_types.specs.declared.stages.halt.Halt.{Halt}
 use Rattle.cmd_rehearse.specs.declared.fault.StepFault.{StepFault}
 use Rattle.cmd_rehearse.specs.Advancing.{Advances}
 use Rattle.cmd_rehearse.specs.Commands.{created, prepared, pushed}
 use Rattle.cmd_rehearse.proofs.Advanced.{first_stops, goes_on, still_on}
 use Rattle.cmd_rehearse.proofs.Pushes.{err_as, has_current}
 use Rattle.base_devices.specs.Cause.{Rises}
-use Rattle.cmd_terms.specs.declared.stages.object.Object.TheVariants.{Repo}
-use Rattle.cmd_terms.specs.Halts.{HaltCause, Only}
+use Rattle.cmd_types.specs.declared.stages.object.Object.TheVariants.{Repo}
+use Rattle.cmd_types.specs.Halts.{HaltCause, Only}
 use Rattle.cmd_backup_common.proofs.Beginnings.{halt_as, ends_with, err_as as under_err}
 use Rattle.cmd_rehearse.specs.Causes.{LostCause, StepCause, PushesCause, PrefixCause}
 use Rattle.cmd_rehearse.proofs.Causing.{lost_step}

@@ -8,8 +8,8 @@ use Rattle.base_model.specs.Names.{archive_info}
 use Rattle.base_model.specs.Values.{archive_info_of}
 use Rattle.repo_info.specs.ArchiveForm.{IsArchiveForm}
 use Rattle.repo_pair.specs.Causes.{PairCause}
-use Rattle.cmd_terms.specs.declared.stages.object.Object.TheVariants.{Repo}
-use Rattle.cmd_terms.specs.Halts.{HaltCause, Only}
+use Rattle.cmd_types.specs.declared.stages.object.Object.TheVariants.{Repo}
+use Rattle.cmd_types.specs.Halts.{HaltCause, Only}
 use Rattle.cmd_rehearse.specs.Causes.{LostCause}
 use Rattle.cmd_rehearse.proofs.Causing.{pair_lost}
 use Rattle.cmd_rehearse.proofs.stanza_setup.read_archive.Goals as goal

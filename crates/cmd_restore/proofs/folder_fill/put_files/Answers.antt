@@ -2,8 +2,8 @@ use Rattle.std.proofs.Common.{◌≡◌, ◌<◌, ◌^◌, List, map, length, su
 use Rattle.base_devices.specs.Cause.{Rises}
 use Rattle.base_model.specs.Values.{manifest_of}
 use Rattle.worker_pool.specs.declared.dispatch.fault.Lost.{Lost}
-use Rattle.cmd_terms.specs.declared.stages.object.Object.TheVariants.{TheDataFolder}
-use Rattle.cmd_terms.specs.Halts.{HaltCause, Only}
+use Rattle.cmd_types.specs.declared.stages.object.Object.TheVariants.{TheDataFolder}
+use Rattle.cmd_types.specs.Halts.{HaltCause, Only}
 use Rattle.cmd_restore.specs.Filling.{FillCause}
 use Rattle.cmd_restore.proofs.Links.{fill_cause}
 use Rattle.cmd_restore.proofs.folder_fill.put_files.Goals as goal

@@ -1,5 +1,5 @@
 use Rattle.std.proofs.Common.{rules, ◌≡◌, ◌∙◌, inr, sym, Bool, map, Some, slice_get, true, false, string_bytes}
-use Rattle.restore_parts.specs.Clearing.{seen_of}
+use Rattle.restore_steps.specs.Clearing.{seen_of}
 use Rattle.cmd_restore.specs.Looking.{version_path, IsListed}
 use Rattle.cmd_restore.proofs.Listings.{path_in, path_not_in, first_shown}
 use Rattle.cmd_restore.proofs.folder_listing.check_holding.Goals.{else-delta-via-then-delta+else-has_cluster, else-delta-via-else-delta}

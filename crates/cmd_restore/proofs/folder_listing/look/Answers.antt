@@ -1,9 +1,9 @@
 use Rattle.std.proofs.Common.{List, map, subst}
 use Rattle.base_devices.specs.Cause.{Rises}
 use Rattle.base_devices.specs.declared.tree.FolderEntry.{FolderEntry}
-use Rattle.restore_parts.specs.Clearing.{seen_of}
-use Rattle.cmd_terms.specs.declared.stages.object.Object.TheVariants.{TheDataFolder}
-use Rattle.cmd_terms.specs.Halts.{HaltCause, Only}
+use Rattle.restore_steps.specs.Clearing.{seen_of}
+use Rattle.cmd_types.specs.declared.stages.object.Object.TheVariants.{TheDataFolder}
+use Rattle.cmd_types.specs.Halts.{HaltCause, Only}
 use Rattle.cmd_restore.specs.Looking.{IsSeenOpen, FolderCause, SeenCause}
 use Rattle.cmd_restore.proofs.Halts.{halt_as, ends_with, none_failed}
 use Rattle.cmd_restore.proofs.Listings.{opened, seen_cause}

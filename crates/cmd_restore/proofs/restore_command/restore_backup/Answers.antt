@@ -4,9 +4,9 @@ use Rattle.base_devices.specs.Cause.{Rises}
 use Rattle.base_devices.specs.DataFolder.{Nodes}
 use Rattle.base_model.specs.Values.{backup_info_of, manifest_of}
 use Rattle.restore_make.specs.Finished.{IsFinished}
-use Rattle.cmd_terms.specs.declared.stages.object.Object.TheVariants.{TheDataFolder}
-use Rattle.cmd_terms.specs.Halts.{HaltCause, Only}
-use Rattle.cmd_terms.specs.Risen.{none, rose_in}
+use Rattle.cmd_types.specs.declared.stages.object.Object.TheVariants.{TheDataFolder}
+use Rattle.cmd_types.specs.Halts.{HaltCause, Only}
+use Rattle.cmd_types.specs.Risen.{none, rose_in}
 use Rattle.cmd_restore.specs.Causes.{RestoreCommandCause}
 use Rattle.cmd_restore.specs.Choosing.{IsChosen}
 use Rattle.cmd_restore.specs.Fetching.{recovery_type, options_by}

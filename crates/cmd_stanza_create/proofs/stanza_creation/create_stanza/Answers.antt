@@ -4,7 +4,7 @@ use Rattle.base_model.specs.Steps.{StanzaCreate}
 use Rattle.repo_stanza.specs.ControlFile.{first_cluster}
 use Rattle.repo_stanza.specs.Owned.{IsOfPairs}
 use Rattle.base_disk.proofs.Changes.{only_none}
-use Rattle.cmd_terms.specs.Reached.{reached_by}
+use Rattle.cmd_types.specs.Reached.{reached_by}
 use Rattle.cmd_stanza_create.specs.Server.{server_view}
 use Rattle.cmd_stanza_create.specs.Talking.{Closes}
 use Rattle.cmd_stanza_create.specs.Creating.{create_early}

@@ -1,7 +1,7 @@
 use Rattle.std.proofs.Common.{sym, subst}
 use Rattle.repo_stanza.specs.declared.fault.StanzaFault.{StanzaFault}
-use Rattle.cmd_terms.specs.declared.stages.object.Object.TheVariants.{Repo}
-use Rattle.cmd_terms.specs.declared.stages.halt.Halt.TheVariants.{Refused, Failed, NoMemory}
+use Rattle.cmd_types.specs.declared.stages.object.Object.TheVariants.{Repo}
+use Rattle.cmd_types.specs.declared.stages.halt.Halt.TheVariants.{Refused, Failed, NoMemory}
 use Rattle.cmd_stanza_create.specs.declared.fault.CreateFault.TheVariants.{InfoDamaged, HistoryDiffers, StanzaMismatch, ArchiveLost, FilesFound}
 use Rattle.cmd_stanza_create.specs.Creating.{IsStanzaFault, Damaged, Differs, Mismatch, Lost, Found, Unsaid, Broken, Starved}
 use Rattle.cmd_stanza_create.proofs.stanza_creation.of_stanza.Goals as goal

@@ -1,10 +1,10 @@
 use Rattle.std.proofs.lemmas.Result.{on_ok_weaker}
 use Rattle.base_disk.proofs.Changes.{only_on, only_rests}
 use Rattle.base_model.specs.Steps.{Expire}
-use Rattle.base_traces.proofs.Stays.{rests_beside, beside_on}
-use Rattle.cmd_terms.specs.declared.stages.plan.SyncScope.TheVariants.{Whole}
-use Rattle.cmd_terms.proofs.After.{part_after, whole_after}
-use Rattle.cmd_terms.proofs.Doing.{rests_part}
+use Rattle.base_crash_lists.proofs.Stays.{rests_beside, beside_on}
+use Rattle.cmd_types.specs.declared.stages.plan.SyncScope.TheVariants.{Whole}
+use Rattle.cmd_types.proofs.After.{part_after, whole_after}
+use Rattle.cmd_types.proofs.Doing.{rests_part}
 use Rattle.expire_make.specs.Expiry.{IsTouched, retention}
 use Rattle.expire_make.specs.Losing.{MayExpire}
 use Rattle.expire_make.proofs.Alike.{alike_after}

@@ -3,9 +3,9 @@ use Rattle.archive_store.specs.Still.{rests_none}
 use Rattle.base_disk.proofs.Changes.{only_none}
 use Rattle.base_model.specs.Steps.{Expire}
 use Rattle.base_model.specs.Values.{archive_info_of, backup_info_of}
-use Rattle.base_traces.proofs.Stays.{rests_beside}
-use Rattle.cmd_terms.specs.declared.stages.plan.SyncScope.TheVariants.{Whole}
-use Rattle.cmd_terms.proofs.Doing.{rests_part}
+use Rattle.base_crash_lists.proofs.Stays.{rests_beside}
+use Rattle.cmd_types.specs.declared.stages.plan.SyncScope.TheVariants.{Whole}
+use Rattle.cmd_types.proofs.Doing.{rests_part}
 use Rattle.expire_rules.specs.Labels.{labels_of}
 use Rattle.expire_make.specs.Expiry.{IsTouched, retention}
 use Rattle.expire_make.specs.Losing.{MayExpire}

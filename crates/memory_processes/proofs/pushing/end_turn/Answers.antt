@@ -3,7 +3,7 @@ use Rattle.std.specs.Prelude.{OnOk}
 use Rattle.base_model.specs.InfoFiles.{IsSegment}
 use Rattle.memory_processes.specs.declared.pushing.PushResult.{PushResult}
 use Rattle.memory_processes.specs.Pushing.{GivesReceipt, marks_of, was_tried}
-use Rattle.archive_index.specs.Turns.{LeavesMarks}
+use Rattle.archive_lookup.specs.Turns.{LeavesMarks}
 use Rattle.memory_processes.proofs.Receipts.{receipts_put, marks_by}
 use Rattle.memory_processes.proofs.pushing.end_turn.Goals as goal
 

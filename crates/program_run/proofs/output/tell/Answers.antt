@@ -1,6 +1,6 @@
 use Rattle.std.proofs.Common.{◌∙◌, ap, inl, inr, refl, List, ℕ, rules, map, string_bytes}
 use Rattle.program_run.specs.declared.fault.Fault.TheVariants.{Failed, NoMemory as OutOfMemory}
-use Rattle.cmd_terms.specs.declared.stages.object.Object.TheVariants.{Output}
+use Rattle.cmd_types.specs.declared.stages.object.Object.TheVariants.{Output}
 use Rattle.program_run.specs.Answers.{refused, lines_of, error_line, ending_of, answer_of}
 use Rattle.program_run.specs.Output.{Whole, Cut, Starved, Wordless}
 use Rattle.program_run.proofs.Written.{more}

@@ -1,5 +1,5 @@
 use Rattle.std.proofs.Common.{◌+◌, drop, sym}
-use Rattle.archive_index.proofs.Cuts.{cut_some, cut_none}
+use Rattle.archive_lookup.proofs.Cuts.{cut_some, cut_none}
 use Rattle.repo_stanza.proofs.unused.first_element.Goals as goal
 
 pub returns-in_err-at-clause-none : goal.returns-in_err-at-clause-none

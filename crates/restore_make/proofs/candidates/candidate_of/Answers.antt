@@ -1,6 +1,6 @@
 use Rattle.std.proofs.Common.{◌∙◌, sym, map, string_bytes}
 use Rattle.base_model.specs.Values.{file_entry_of}
-use Rattle.restore_parts.proofs.Listing.{got, map_get}
+use Rattle.restore_steps.proofs.Listing.{got, map_get}
 use Rattle.restore_make.specs.Options.{recovery_of}
 use Rattle.restore_make.proofs.Shows.{none_like, unlike, path_at}
 use Rattle.restore_make.proofs.candidates.candidate_of.Goals as goal

@@ -3,8 +3,8 @@ use Rattle.std.proofs.lemmas.List.{map-append}
 use Rattle.base_devices.specs.declared.tree.Node.{Node}
 use Rattle.base_model.specs.Text.{Text}
 use Rattle.base_model.specs.Values.{file_entry_of}
-use Rattle.restore_parts.specs.Clearing.{seen_of}
-use Rattle.restore_parts.proofs.Paths.{take_more, take_whole}
+use Rattle.restore_steps.specs.Clearing.{seen_of}
+use Rattle.restore_steps.proofs.Paths.{take_more, take_whole}
 use Rattle.restore_make.specs.Options.{recovery_of}
 use Rattle.restore_make.specs.Digested.{AreCandidates, HasCandidates}
 use Rattle.restore_make.proofs.Shows.{are_more, had_more}

@@ -1,6 +1,6 @@
 use Rattle.std.proofs.Common.{map, take}
 use Rattle.base_model.specs.Values.{file_entry_of}
-use Rattle.restore_parts.specs.Clearing.{seen_of}
+use Rattle.restore_steps.specs.Clearing.{seen_of}
 use Rattle.restore_make.specs.Options.{recovery_of}
 use Rattle.restore_make.specs.Digested.{AreCandidates, HasCandidates}
 use Rattle.restore_make.proofs.candidates.candidates.Given as goal

@@ -3,9 +3,9 @@ use Rattle.std.proofs.lemmas.List.{map-append}
 use Rattle.std.proofs.lemmas.Slice.Eq.{bytes_eq-Decides}
 use Rattle.base_model.specs.Text.{In}
 use Rattle.base_model.specs.Values.{FileEntry, file_entry_of}
-use Rattle.restore_parts.specs.Clearing.{control_path}
-use Rattle.restore_parts.proofs.Bare.{in_at, in_split}
-use Rattle.restore_parts.proofs.Paths.{take_more, take_whole}
+use Rattle.restore_steps.specs.Clearing.{control_path}
+use Rattle.restore_steps.proofs.Bare.{in_at, in_split}
+use Rattle.restore_steps.proofs.Paths.{take_more, take_whole}
 use Rattle.restore_make.proofs.control.control_of.Goals as goal
 
 pub returns-then-is_control-clause-some : goal.returns-then-is_control-clause-some

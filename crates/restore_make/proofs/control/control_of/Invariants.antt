@@ -2,7 +2,7 @@ use Rattle.std.proofs.Common.{◌≡◌, map, take}
 use Rattle.std.specs.Prelude.{◌≢◌}
 use Rattle.base_model.specs.Text.{In}
 use Rattle.base_model.specs.Values.{FileEntry, file_entry_of}
-use Rattle.restore_parts.specs.Clearing.{control_path}
+use Rattle.restore_steps.specs.Clearing.{control_path}
 use Rattle.restore_make.proofs.control.control_of.Given as goal
 
 abbrev pub invariant-loop-file : goal.invariant-loop-file

@@ -3,8 +3,8 @@ use Rattle.base_model.specs.Text.{Text}
 use Rattle.base_model.specs.Values.{file_entry_of}
 use Rattle.worker_protocol.specs.Frames.{Job}
 use Rattle.worker_protocol.specs.Views.{job_of}
-use Rattle.restore_parts.specs.declared.contents.files.Wanted.{Wanted}
-use Rattle.restore_parts.specs.Sources.{reading}
+use Rattle.restore_steps.specs.declared.contents.files.Wanted.{Wanted}
+use Rattle.restore_steps.specs.Sources.{reading}
 use Rattle.restore_make.specs.Written.{AreJobsOf}
 use Rattle.restore_make.specs.Faults.{Renames, WriteFails}
 use Rattle.restore_make.proofs.Fetched.{one_none, one_job, one_want, entry_fetched, away_fetched, fetch_fails}

@@ -1,8 +1,8 @@
 use Rattle.std.proofs.Common.{◌≡◌, ◌∙◌, map, sym, ap}
 use Rattle.base_devices.specs.Content.{at}
 use Rattle.base_model.specs.Values.{file_entry_of}
-use Rattle.restore_parts.specs.Clearing.{control_path}
-use Rattle.restore_parts.proofs.Nodes.{none_at}
+use Rattle.restore_steps.specs.Clearing.{control_path}
+use Rattle.restore_steps.proofs.Nodes.{none_at}
 use Rattle.restore_make.specs.Finished.{waiting_path}
 use Rattle.restore_make.proofs.Fetched.{on_err, entry_moved, moved_at}
 use Rattle.restore_make.proofs.Names.{control_lasts}

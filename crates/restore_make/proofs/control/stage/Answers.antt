@@ -1,7 +1,7 @@
 use Rattle.std.proofs.Common.{Ok, map}
-use Rattle.restore_parts.proofs.Filing.{same_begun}
-use Rattle.restore_parts.proofs.Placing.{temporary_placed}
-use Rattle.restore_parts.specs.Clearing.{control_path}
+use Rattle.restore_steps.proofs.Filing.{same_begun}
+use Rattle.restore_steps.proofs.Placing.{temporary_placed}
+use Rattle.restore_steps.specs.Clearing.{control_path}
 use Rattle.restore_make.specs.Finished.{waiting_path}
 use Rattle.base_model.specs.Values.{file_entry_of}
 use Rattle.restore_make.proofs.Fetched.{entry_begun}

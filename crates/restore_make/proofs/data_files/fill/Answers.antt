@@ -2,10 +2,10 @@ use Rattle.std.proofs.Common.{◌≡◌, ◌∙◌, false, ap, map}
 use Rattle.std.proofs.lemmas.Result.{on_ok_weaker, IfErr-weaker}
 use Rattle.base_model.specs.Values.{file_entry_of}
 use Rattle.worker_protocol.specs.Views.{job_of}
-use Rattle.restore_parts.specs.Sources.{reading}
-use Rattle.restore_parts.proofs.Fitting.{fits_reading}
-use Rattle.restore_parts.specs.Clearing.{control_path}
-use Rattle.restore_parts.proofs.Nodes.{none_at}
+use Rattle.restore_steps.specs.Sources.{reading}
+use Rattle.restore_steps.proofs.Fitting.{fits_reading}
+use Rattle.restore_steps.specs.Clearing.{control_path}
+use Rattle.restore_steps.proofs.Nodes.{none_at}
 use Rattle.restore_make.specs.Options.{recovery_of}
 use Rattle.restore_make.specs.Kept.{marked}
 use Rattle.restore_make.specs.Entries.{reads_of, want_of, want_in}

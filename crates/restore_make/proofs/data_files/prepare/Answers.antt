@@ -4,8 +4,8 @@ use Rattle.base_devices.specs.Order.{are_in_order}
 use Rattle.base_model.specs.ManifestText.{HasItsFolders}
 use Rattle.base_model.specs.Text.{Text, In}
 use Rattle.base_model.specs.Values.{FileEntry, file_entry_of, manifest_of}
-use Rattle.restore_parts.specs.Clearing.{control_path, seen_of, with_folders, ArePlaced, Bares}
-use Rattle.restore_parts.proofs.Nodes.{none_at}
+use Rattle.restore_steps.specs.Clearing.{control_path, seen_of, with_folders, ArePlaced, Bares}
+use Rattle.restore_steps.proofs.Nodes.{none_at}
 use Rattle.restore_make.proofs.Plain.{bare_no_control}
 use Rattle.restore_make.proofs.Prepared.{are_placed, have_folders, then_folders}
 use Rattle.restore_make.proofs.data_files.prepare.Goals as goal

@@ -3,7 +3,7 @@ use Rattle.std.proofs.lemmas.Result.{on_ok_weaker}
 use Rattle.base_devices.specs.DataFolder.{Nodes}
 use Rattle.base_model.specs.Text.{In}
 use Rattle.base_model.specs.Values.{FileEntry, file_entry_of, manifest_of}
-use Rattle.restore_parts.specs.Clearing.{seen_of}
+use Rattle.restore_steps.specs.Clearing.{seen_of}
 use Rattle.restore_make.specs.Options.{options_of}
 use Rattle.restore_make.specs.Kept.{marked}
 use Rattle.restore_make.specs.Entries.{reads_of, Fills}

@@ -1,6 +1,6 @@
 use Rattle.std.proofs.Common.{◌∙◌, map, sym, ap}
 use Rattle.worker_protocol.specs.Views.{job_of}
-use Rattle.restore_parts.specs.Sources.{source}
+use Rattle.restore_steps.specs.Sources.{source}
 use Rattle.restore_make.specs.Kept.{digesting, in_folder}
 use Rattle.restore_make.specs.Digested.{file_of}
 use Rattle.restore_make.proofs.Checked.{has_its}

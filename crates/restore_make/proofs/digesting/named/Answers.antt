@@ -1,6 +1,6 @@
 use Rattle.std.proofs.Common.{◌∙◌, sym, ap, subst, length}
 use Rattle.worker_pool.specs.declared.dispatch.fault.DispatchFault.{DispatchFault}
-use Rattle.restore_parts.proofs.Listing.{got}
+use Rattle.restore_steps.proofs.Listing.{got}
 use Rattle.restore_make.specs.declared.candidates.Candidate.{Candidate}
 use Rattle.restore_make.specs.Digested.{file_of}
 use Rattle.restore_make.specs.Faults.{HasItsFile}

@@ -1,10 +1,10 @@
 use Rattle.std.proofs.Common.{◌≡◌, ◌∙◌, sym, ap, subst, map, List}
 use Rattle.worker_protocol.specs.Views.{job_of}
 use Rattle.worker_pool.specs.Run.{AllDone}
-use Rattle.restore_parts.specs.declared.contents.files.Wanted.{Wanted}
-use Rattle.restore_parts.specs.declared.contents.files.Filed.{Filed}
-use Rattle.restore_parts.specs.Files.{kept_of, wanted_of, AllTidy}
-use Rattle.restore_parts.specs.Keeping.{IsNoneOf, HaveFolders}
+use Rattle.restore_steps.specs.declared.contents.files.Wanted.{Wanted}
+use Rattle.restore_steps.specs.declared.contents.files.Filed.{Filed}
+use Rattle.restore_steps.specs.Files.{kept_of, wanted_of, AllTidy}
+use Rattle.restore_steps.specs.Keeping.{IsNoneOf, HaveFolders}
 use Rattle.worker_pool.proofs.Links.{left_is}
 use Rattle.restore_make.proofs.Writes.{one_item, all_written}
 use Rattle.restore_make.proofs.file_jobs.run_files.Goals as goal

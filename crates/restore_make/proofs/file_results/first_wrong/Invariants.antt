@@ -1,6 +1,6 @@
 use Rattle.std.proofs.Common.{ℕ, ◌≡◌, ◌<◌, true, Some, slice_get}
-use Rattle.restore_parts.specs.declared.contents.files.Filed.{Filed}
-use Rattle.restore_parts.specs.Files.{is_wanted}
+use Rattle.restore_steps.specs.declared.contents.files.Filed.{Filed}
+use Rattle.restore_steps.specs.Files.{is_wanted}
 use Rattle.restore_make.proofs.file_results.first_wrong.Given as goal
 
 abbrev pub invariant-loop-file : goal.invariant-loop-file

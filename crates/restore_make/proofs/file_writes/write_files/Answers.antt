@@ -1,7 +1,7 @@
 use Rattle.std.proofs.Common.{map, subst, List}
 use Rattle.std.proofs.lemmas.Result.{on_ok_weaker, IfErr-weaker}
 use Rattle.worker_protocol.specs.Views.{job_of}
-use Rattle.restore_parts.specs.declared.contents.files.Filed.{Filed}
+use Rattle.restore_steps.specs.declared.contents.files.Filed.{Filed}
 use Rattle.restore_make.specs.Written.{AllRight}
 use Rattle.restore_make.specs.Faults.{ShowsWrong}
 use Rattle.restore_make.proofs.Checked.{all_fetched, checked_fails}

@@ -5,7 +5,7 @@ use Rattle.base_model.specs.declared.files.FileEntry as rust_file
 use Rattle.base_devices.specs.DataFolder.{IsPlaced}
 use Rattle.base_model.specs.Text.{Text, In}
 use Rattle.base_model.specs.Values.{FileEntry, file_entry_of, manifest_of}
-use Rattle.restore_parts.specs.Clearing.{control_path}
+use Rattle.restore_steps.specs.Clearing.{control_path}
 use Rattle.restore_make.proofs.Failing.{fails_more}
 use Rattle.restore_make.proofs.Finished.{finished_none, put_finishes, on_ok_three, some_before}
 use Rattle.restore_make.proofs.Proper.{entry_placed}

@@ -1,6 +1,6 @@
 use Rattle.std.proofs.Common.{◌≡◌, ◌∙◌, sym, map, None}
 use Rattle.base_devices.specs.DataFolder.{with_node}
-use Rattle.restore_parts.specs.Clearing.{control_path, seen_of}
+use Rattle.restore_steps.specs.Clearing.{control_path, seen_of}
 use Rattle.restore_make.specs.Listed.{is_control_node}
 use Rattle.restore_make.proofs.Finished.{on_removed, but_control, listed_but, listed_none, none_there, any_map}
 use Rattle.restore_make.proofs.Proper.{control_bare}

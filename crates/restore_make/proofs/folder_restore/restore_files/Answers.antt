@@ -2,7 +2,7 @@ use Rattle.std.proofs.Common.{◌≡◌, sym, ap, subst, map, List, Bool}
 use Rattle.std.proofs.lemmas.Result.{on_ok_weaker, IfErr-weaker}
 use Rattle.base_model.specs.Text.{In}
 use Rattle.base_model.specs.Values.{FileEntry, file_entry_of, manifest_of}
-use Rattle.restore_parts.specs.Clearing.{seen_of}
+use Rattle.restore_steps.specs.Clearing.{seen_of}
 use Rattle.restore_make.specs.Options.{options_of}
 use Rattle.restore_make.specs.Kept.{AllAlike, MarksAlike}
 use Rattle.restore_make.proofs.Completed.{completed}

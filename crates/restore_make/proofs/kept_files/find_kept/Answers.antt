@@ -2,8 +2,8 @@ use Rattle.std.proofs.Common.{sym, subst, arith, map, List, Bool}
 use Rattle.std.proofs.lemmas.List.{length-map}
 use Rattle.std.proofs.lemmas.Result.{IfOk-weaker, IfErr-weaker}
 use Rattle.base_model.specs.Values.{file_entry_of}
-use Rattle.restore_parts.specs.Clearing.{seen_of}
-use Rattle.restore_parts.proofs.Listing.{some_within}
+use Rattle.restore_steps.specs.Clearing.{seen_of}
+use Rattle.restore_steps.proofs.Listing.{some_within}
 use Rattle.restore_make.specs.declared.candidates.Candidate.{Candidate}
 use Rattle.restore_make.specs.Options.{recovery_of, options_of}
 use Rattle.restore_make.specs.Kept.{AllAlike}

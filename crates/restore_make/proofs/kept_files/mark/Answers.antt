@@ -1,5 +1,5 @@
 use Rattle.std.proofs.Common.{◌∙◌, arith, get_or, None}
-use Rattle.restore_parts.proofs.Listing.{got}
+use Rattle.restore_steps.proofs.Listing.{got}
 use Rattle.restore_make.proofs.Marks.{there, one_long, one_by, one_more, ended_at}
 use Rattle.restore_make.proofs.kept_files.mark.Goals as goal
 

@@ -2,10 +2,10 @@ use Rattle.std.proofs.Common.{◌≡◌, ◌+◌, ◌∙◌, ◌++◌, ◌∷◌
 use Rattle.std.proofs.lemmas.List.{length-map}
 use Rattle.base_model.specs.Values.{file_entry_of}
 use Rattle.worker_protocol.specs.Views.{job_of}
-use Rattle.restore_parts.proofs.Bare.{in_at}
-use Rattle.restore_parts.proofs.Paths.{take_whole}
-use Rattle.restore_parts.proofs.Listing.{got, map_get}
-use Rattle.restore_parts.specs.Sources.{reading}
+use Rattle.restore_steps.proofs.Bare.{in_at}
+use Rattle.restore_steps.proofs.Paths.{take_whole}
+use Rattle.restore_steps.proofs.Listing.{got, map_get}
+use Rattle.restore_steps.specs.Sources.{reading}
 use Rattle.restore_make.specs.Options.{recovery_of}
 use Rattle.restore_make.specs.Kept.{mark_at, marked}
 use Rattle.restore_make.specs.Entries.{read_one, reads_of, want_of, want_in}

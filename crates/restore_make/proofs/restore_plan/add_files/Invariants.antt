@@ -1,7 +1,7 @@
 use Rattle.std.proofs.Common.{◌≡◌, ◌++◌, map, take}
 use Rattle.base_model.specs.Values.{file_entry_of}
 use Rattle.worker_protocol.specs.Views.{job_of}
-use Rattle.restore_parts.specs.Sources.{reading}
+use Rattle.restore_steps.specs.Sources.{reading}
 use Rattle.restore_make.specs.Options.{recovery_of}
 use Rattle.restore_make.specs.Kept.{marked}
 use Rattle.restore_make.specs.Entries.{reads_of, want_of, want_in}

@@ -2,8 +2,8 @@ use Rattle.std.proofs.Common.{◌≡◌, sym, ap, map}
 use Rattle.std.proofs.lemmas.Result.{on_ok_weaker}
 use Rattle.base_model.specs.Restored.Recovery.{ToTheEnd}
 use Rattle.base_model.specs.Values.{manifest_of}
-use Rattle.restore_parts.specs.Clearing.{control_path}
-use Rattle.restore_parts.proofs.Nodes.{none_at}
+use Rattle.restore_steps.specs.Clearing.{control_path}
+use Rattle.restore_steps.proofs.Nodes.{none_at}
 use Rattle.restore_make.specs.Options.{recovery_of, options_of}
 use Rattle.worker_pool.proofs.Links.{left_all}
 use Rattle.restore_make.proofs.Names.{conf_off, signal_off, off_settings}

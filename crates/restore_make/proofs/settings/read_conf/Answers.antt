@@ -2,8 +2,8 @@ use Rattle.std.proofs.Common.{refl, map, Some}
 use Rattle.std.proofs.lemmas.Result.{IfOk-weaker, IfErr-weaker}
 use Rattle.base_model.specs.Restored.{conf_path}
 use Rattle.base_model.specs.Values.{file_entry_of}
-use Rattle.restore_parts.proofs.Bare.{in_at}
-use Rattle.restore_parts.proofs.Listing.{got, map_get}
+use Rattle.restore_steps.proofs.Bare.{in_at}
+use Rattle.restore_steps.proofs.Listing.{got, map_get}
 use Rattle.restore_make.proofs.Failing.{fails_more}
 use Rattle.worker_pool.proofs.Links.{left_all}
 use Rattle.restore_make.proofs.Shows.{path_at}

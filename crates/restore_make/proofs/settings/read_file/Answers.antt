@@ -3,7 +3,7 @@ use Rattle.std.proofs.lemmas.Result.{IfOk-weaker, IfErr-weaker}
 use Rattle.base_model.specs.Values.{file_entry_of}
 use Rattle.worker_protocol.specs.Frames.{Job}
 use Rattle.worker_protocol.specs.Views.{job_of}
-use Rattle.restore_parts.specs.Sources.{source, reading}
+use Rattle.restore_steps.specs.Sources.{source, reading}
 use Rattle.restore_make.specs.declared.candidates.Candidate.{Candidate}
 use Rattle.worker_pool.specs.Holdings.{state_of}
 use Rattle.restore_make.proofs.Digests.{held_fails}

@@ -1,6 +1,6 @@
 use Rattle.std.proofs.Common.{◌∙◌, refl}
-use Rattle.restore_parts.proofs.Filing.{same_begun, same_longer}
-use Rattle.restore_parts.proofs.Placing.{begun_file, in_root}
+use Rattle.restore_steps.proofs.Filing.{same_begun, same_longer}
+use Rattle.restore_steps.proofs.Placing.{begun_file, in_root}
 use Rattle.base_model.specs.Restored.{conf_path, signal_path}
 use Rattle.restore_make.proofs.Lines.{begun_has}
 use Rattle.restore_make.proofs.settings.write_settings.Goals as goal

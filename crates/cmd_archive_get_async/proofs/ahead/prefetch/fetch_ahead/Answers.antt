@@ -4,8 +4,8 @@ use Rattle.base_devices.specs.Content.{Content, is_below}
 use Rattle.base_devices.proofs.States.{looks_on}
 use Rattle.archive_store.specs.Still.{rests_none}
 use Rattle.base_model.specs.declared.wal.Segment.{Segment}
-use Rattle.cmd_terms.specs.Halts.{HaltCause}
-use Rattle.cmd_terms.specs.Risen.{none, rose_in}
+use Rattle.cmd_types.specs.Halts.{HaltCause}
+use Rattle.cmd_types.specs.Risen.{none, rose_in}
 use Rattle.cmd_archive_get_async.specs.Names.{ahead_folder}
 use Rattle.cmd_archive_get_async.specs.Fetching.{AheadCause, FetchesNext, IsFetched, NextCause, most_ahead}
 use Rattle.cmd_archive_get_async.proofs.Fetched.{frame_on, none_fetched, one_more, fetched_all, fetched_end, fetch_fails}

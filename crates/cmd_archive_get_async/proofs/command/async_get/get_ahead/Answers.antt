@@ -3,10 +3,10 @@ use Rattle.std.specs.Prelude.{IfSome, string_bytes}
 use Rattle.base_devices.specs.Cause.{Rises}
 use Rattle.base_devices.specs.Content.{Content}
 use Rattle.base_model.specs.declared.wal.ArchiveName.{ArchiveName}
-use Rattle.base_traces.proofs.Stays.{beside_on, rests_beside}
+use Rattle.base_crash_lists.proofs.Stays.{beside_on, rests_beside}
 use Rattle.archive_spool.proofs.Marked.{marks_none, marks_on}
-use Rattle.archive_index.specs.declared.stored.files.Stored.{Stored}
-use Rattle.cmd_terms.specs.declared.stages.outcome.Outcome.TheVariants.{Finished}
+use Rattle.archive_lookup.specs.declared.stored.files.Stored.{Stored}
+use Rattle.cmd_types.specs.declared.stages.outcome.Outcome.TheVariants.{Finished}
 use Rattle.cmd_archive_get.specs.Getting.{IsServed, served_path}
 use Rattle.cmd_archive_get.specs.Looking.{IsKeptAs}
 use Rattle.cmd_archive_get.proofs.Folders.{changes_as}

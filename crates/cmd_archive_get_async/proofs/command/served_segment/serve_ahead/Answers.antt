@@ -1,7 +1,7 @@
 use Rattle.std.proofs.Common.{rules, arith, ◌≡◌, inl, inr, refl, Bool, Ok, None, Option, Some, subst}
 use Rattle.std.specs.Prelude.{IfSome}
 use Rattle.base_model.specs.Values.{archive_info_of}
-use Rattle.archive_index.specs.declared.stored.files.Stored.{Stored}
+use Rattle.archive_lookup.specs.declared.stored.files.Stored.{Stored}
 use Rattle.base_model.specs.Text.{Text}
 use Rattle.cmd_archive_get.specs.Getting.{IsPut}
 use Rattle.cmd_archive_get.specs.Looking.{IsLookedUp}

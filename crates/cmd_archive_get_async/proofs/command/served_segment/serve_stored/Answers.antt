@@ -1,5 +1,5 @@
 use Rattle.std.proofs.Common.{Some, subst}
-use Rattle.cmd_terms.specs.declared.stages.outcome.Outcome.{Outcome}
+use Rattle.cmd_types.specs.declared.stages.outcome.Outcome.{Outcome}
 use Rattle.cmd_archive_get.specs.Getting.{GotBy, IsServed, served_path}
 use Rattle.cmd_archive_get.proofs.Folders.{changes_as}
 use Rattle.cmd_archive_get_async.specs.Getting.{IsServedBySum}

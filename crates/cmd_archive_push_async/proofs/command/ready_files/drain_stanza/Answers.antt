@@ -3,7 +3,7 @@ use Rattle.base_devices.specs.DataFolder.{Nodes}
 use Rattle.base_model.specs.Values.{archive_info_of}
 use Rattle.archive_store.specs.Still.{still_self}
 use Rattle.cmd_archive_push.specs.Causes.{IsCurrent}
-use Rattle.cmd_terms.proofs.Besides.{archive_beside, still_beside}
+use Rattle.cmd_types.proofs.Besides.{archive_beside, still_beside}
 use Rattle.cmd_archive_push_async.proofs.Paired.{pair_same}
 use Rattle.cmd_archive_push_async.proofs.Drains.{all_drained, all_runs, ends_for, is_current, none_runs, part_runs, stops, under}
 use Rattle.cmd_archive_push_async.proofs.command.ready_files.drain_stanza.Goals as goal

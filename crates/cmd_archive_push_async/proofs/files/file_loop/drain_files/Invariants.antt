@@ -1,7 +1,7 @@
 use Rattle.std.proofs.Common.{◌≡◌, ◌≤◌, ◌+◌, Some, take}
 use Rattle.base_devices.specs.States.{Frame, LooksAt}
 use Rattle.base_devices.specs.DataFolder.{Nodes}
-use Rattle.archive_index.specs.Stored.{ChangesArchive}
+use Rattle.archive_lookup.specs.Stored.{ChangesArchive}
 use Rattle.cmd_archive_push_async.specs.Draining.{Drains}
 use Rattle.cmd_archive_push_async.specs.Paired.{KeepsPair}
 use Rattle.cmd_archive_push_async.proofs.files.file_loop.drain_files.Given as goal

@@ -1,7 +1,7 @@
 use Rattle.base_devices.specs.Cause.{Rises}
 use Rattle.base_disk.proofs.Changes.{only_none, only_on}
-use Rattle.cmd_terms.specs.Halts.{HaltCause, Never, Only}
-use Rattle.cmd_terms.specs.declared.stages.object.Object.TheVariants.{Spool}
+use Rattle.cmd_types.specs.Halts.{HaltCause, Never, Only}
+use Rattle.cmd_types.specs.declared.stages.object.Object.TheVariants.{Spool}
 use Rattle.cmd_archive_push_async.proofs.Following.{ends_by_spool}
 use Rattle.cmd_archive_push_async.proofs.Put.{spool_cause, halt_as}
 use Rattle.cmd_archive_push_async.proofs.Wholes.{named_drains, unclear_drains, cleared_ends}

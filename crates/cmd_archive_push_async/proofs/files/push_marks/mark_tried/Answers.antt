@@ -1,6 +1,6 @@
 use Rattle.base_devices.specs.Cause.{Rises}
-use Rattle.cmd_terms.specs.declared.stages.object.Object.TheVariants.{Spool}
-use Rattle.cmd_terms.specs.Halts.{HaltCause, Never, Only}
+use Rattle.cmd_types.specs.declared.stages.object.Object.TheVariants.{Spool}
+use Rattle.cmd_types.specs.Halts.{HaltCause, Never, Only}
 use Rattle.cmd_archive_push_async.proofs.Put.{spool_cause, halt_as}
 use Rattle.cmd_archive_push_async.proofs.files.push_marks.mark_tried.Goals as goal
 

@@ -1,4 +1,4 @@
-use Rattle.archive_index.proofs.Picked.{step_tell, step_pass}
+use Rattle.archive_lookup.proofs.Picked.{step_tell, step_pass}
 use Rattle.cmd_archive_push_async.specs.Ready.{ShowsReady, PassesReady}
 use Rattle.cmd_archive_push_async.proofs.files.ready.names_among.Goals as goal
 use Rattle.cmd_archive_push_async.proofs.files.ready.names_among.Goals.{in-Some+in_ok-push, in_default}

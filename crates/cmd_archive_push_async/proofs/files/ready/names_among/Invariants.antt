@@ -1,5 +1,5 @@
 use Rattle.std.proofs.Common.{take}
-use Rattle.archive_index.specs.Listing.{Picks}
+use Rattle.archive_lookup.specs.Listing.{Picks}
 use Rattle.cmd_archive_push_async.specs.Ready.{ShowsReady, PassesReady}
 use Rattle.cmd_archive_push_async.proofs.files.ready.names_among.Given as goal
 

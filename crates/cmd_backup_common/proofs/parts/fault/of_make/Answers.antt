@@ -1,7 +1,7 @@
 use Rattle.std.proofs.Common.{sym, subst}
 use Rattle.backup_make.specs.declared.fault.MakeFault.{MakeFault}
-use Rattle.cmd_terms.specs.declared.stages.halt.Halt.TheVariants.{Refused, Failed}
-use Rattle.cmd_terms.specs.declared.stages.object.Object.TheVariants.{Repo, Clock}
+use Rattle.cmd_types.specs.declared.stages.halt.Halt.TheVariants.{Refused, Failed}
+use Rattle.cmd_types.specs.declared.stages.object.Object.TheVariants.{Repo, Clock}
 use Rattle.base_model.specs.InfoFiles.{info_limit}
 use Rattle.base_model.specs.ManifestText.{manifest_limit}
 use Rattle.cmd_backup_common.specs.declared.parts.fault.BackupFault.TheVariants.{WorkersLost, ControlMissing, Unread, TooLong}

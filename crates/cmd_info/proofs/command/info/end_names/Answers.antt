@@ -2,9 +2,9 @@ use Rattle.std.proofs.Common.{◌≡◌, ◌∙◌, ap, ◌++◌, map, get_or, s
 use Rattle.std.specs.Prelude.{IfSome}
 use Rattle.base_devices.specs.Content.{Content}
 use Rattle.base_model.specs.declared.wal.Segment.{Segment}
-use Rattle.archive_index.specs.Ends.{AreEnds}
+use Rattle.archive_lookup.specs.Ends.{AreEnds}
 use Rattle.base_model.specs.declared.clusters.ClusterId.{ClusterId}
-use Rattle.cmd_terms.specs.Current.{id_kept}
+use Rattle.cmd_types.specs.Current.{id_kept}
 use Rattle.cmd_info.specs.Reporting.{named}
 use Rattle.cmd_info.proofs.EndNames.{step_ends}
 use Rattle.base_devices.proofs.States.{looks_on}

@@ -2,8 +2,8 @@ use Rattle.std.proofs.Common.{subst, List}
 use Rattle.std.proofs.lemmas.List.{take_all}
 use Rattle.std.specs.Prelude.{IfSome}
 use Rattle.base_model.specs.Text.{Text}
-use Rattle.archive_index.specs.declared.stored.files.Stored.{Stored}
-use Rattle.archive_index.specs.Stored.{AreStored}
+use Rattle.archive_lookup.specs.declared.stored.files.Stored.{Stored}
+use Rattle.archive_lookup.specs.Stored.{AreStored}
 use Rattle.cmd_verify.specs.Archived.{HasOther}
 use Rattle.cmd_verify.specs.Adding.{Adds, OfSome}
 use Rattle.base_devices.proofs.States.{looks_on}

@@ -1,7 +1,7 @@
 use Rattle.std.proofs.Common.{take}
 use Rattle.std.specs.Prelude.{IfSome}
 use Rattle.base_model.specs.Text.{Text}
-use Rattle.archive_index.specs.Stored.{AreStored}
+use Rattle.archive_lookup.specs.Stored.{AreStored}
 use Rattle.cmd_verify.specs.Archived.{HasOther}
 use Rattle.cmd_verify.specs.Adding.{Adds, OfSome}
 use Rattle.base_devices.specs.States.{Looks}

@@ -11,7 +11,7 @@ use Rattle.base_model.specs.Names.{manifest_name}
 use Rattle.cmd_verify.proofs.Listed.{value_at}
 use Rattle.cmd_verify.proofs.Values.{if_at}
 use Rattle.cmd_verify.proofs.Whole.{unread_known, read_as_known, label_of}
-use Rattle.repo_unique.proofs.Manifests.{one_manifest}
+use Rattle.repo_text_lemmas.proofs.Manifests.{one_manifest}
 use Rattle.cmd_verify.proofs.findings.backups.look_at_backup.Goals as goal
 
 pub returns-in_default-clause-adds : goal.returns-in_default-clause-adds

@@ -1,6 +1,6 @@
 use Rattle.std.proofs.Common.{◌∙◌}
 use Rattle.base_model.specs.Values.{entry_of}
-use Rattle.repo_unique.proofs.Manifests.{one_manifest}
+use Rattle.repo_text_lemmas.proofs.Manifests.{one_manifest}
 use Rattle.cmd_verify.proofs.Listed.{unread_listed, read_listed}
 use Rattle.cmd_verify.proofs.findings.backups.look_at_listed.Goals as goal
 

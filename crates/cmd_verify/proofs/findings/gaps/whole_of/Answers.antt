@@ -1,6 +1,6 @@
 use Rattle.std.proofs.Common.{◌↔◌, subst, List}
 use Rattle.std.proofs.lemmas.List.{take_all}
-use Rattle.archive_index.specs.declared.stored.files.Stored.{Stored}
+use Rattle.archive_lookup.specs.declared.stored.files.Stored.{Stored}
 use Rattle.base_model.specs.Text.{In}
 use Rattle.cmd_verify.specs.Gaps.{HasWhole}
 use Rattle.cmd_verify.proofs.Gapped.{file_more}

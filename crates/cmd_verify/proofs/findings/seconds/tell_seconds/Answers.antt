@@ -1,5 +1,5 @@
 use Rattle.std.proofs.Common.{◌≡◌, ◌+◌, ◌-◌, arith, refl, sym, subst, ℕ}
-use Rattle.archive_index.specs.Ends.{RepresentsAt}
+use Rattle.archive_lookup.specs.Ends.{RepresentsAt}
 use Rattle.cmd_verify.proofs.Neighbours.{seconds_none, seconds_next, seconds_all}
 use Rattle.cmd_verify.proofs.findings.seconds.tell_seconds.Goals as goal
 

@@ -2,8 +2,8 @@ use Rattle.std.proofs.Common.{◌∙◌, ap, map, List}
 use Rattle.base_model.specs.declared.labels.Entry.{Entry as RustEntry}
 use Rattle.base_model.specs.Values.{Entry, entry_of, backup_info_of}
 use Rattle.cmd_verify.proofs.Whole.{entries_fit, labels_known, whole_known, clean_known}
-use Rattle.repo_unique.proofs.Lists.{one_list}
-use Rattle.repo_unique.proofs.Manifests.{one_manifest}
+use Rattle.repo_text_lemmas.proofs.Lists.{one_list}
+use Rattle.repo_text_lemmas.proofs.Manifests.{one_manifest}
 use Rattle.cmd_verify.proofs.findings.whole_check.verify.Goals as goal
 
 pub look_at_backups-requires-clause-labels : goal.look_at_backups-requires-clause-labels

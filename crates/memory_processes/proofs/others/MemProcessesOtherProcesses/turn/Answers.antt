@@ -1,5 +1,5 @@
 use Rattle.std.proofs.Common.{refl, string_bytes}
-use Rattle.archive_index.specs.Turns.{GoesByTurn, LeavesMarks}
+use Rattle.archive_lookup.specs.Turns.{GoesByTurn, LeavesMarks}
 use Rattle.memory_processes.specs.Others.{idle_turn}
 use Rattle.memory_processes.proofs.Known.{on_turn, goes_after}
 use Rattle.memory_processes.proofs.Pushed.{turn_idle}

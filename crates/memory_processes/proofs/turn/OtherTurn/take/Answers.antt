@@ -1,6 +1,6 @@
 use Rattle.std.proofs.Common.{sym, subst, true, false, Option}
 use Rattle.std.specs.Prelude.{is_ok}
-use Rattle.archive_index.specs.Turns.{GoesByTurn, GivesReceipts}
+use Rattle.archive_lookup.specs.Turns.{GoesByTurn, GivesReceipts}
 use Rattle.memory_processes.specs.declared.turn.OtherPush.{OtherPush}
 use Rattle.memory_processes.specs.Others.{pushed_by}
 use Rattle.memory_processes.proofs.Pushed.{turn_idle}

@@ -1,6 +1,6 @@
 use Rattle.std.proofs.Common.{inr, subst}
-use Rattle.cmd_terms.specs.declared.stages.plan.Plan.{Plan}
-use Rattle.cmd_stages.specs.Taking.{MayTake}
+use Rattle.cmd_types.specs.declared.stages.plan.Plan.{Plan}
+use Rattle.cmd_setup.specs.Taking.{MayTake}
 use Rattle.archive_store.specs.Still.{still_self}
 use Rattle.program_run.specs.Modelled.{asked_of}
 use Rattle.program_run.proofs.CallEffects.{did_from, locks_read, not_taken}

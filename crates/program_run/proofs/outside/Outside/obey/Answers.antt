@@ -1,5 +1,5 @@
 use Rattle.std.proofs.Common.{◌∙◌, ap}
-use Rattle.cmd_terms.specs.declared.stages.plan.Plan.{Plan}
+use Rattle.cmd_types.specs.declared.stages.plan.Plan.{Plan}
 use Rattle.program_run.specs.Modelled.{request_of, asked_of}
 use Rattle.program_run.proofs.ByRequest.{on_repository}
 use Rattle.program_run.proofs.CallEffects.{worded}

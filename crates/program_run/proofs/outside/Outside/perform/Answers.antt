@@ -1,5 +1,5 @@
 use Rattle.std.proofs.Common.{◌∙◌, ap, sym}
-use Rattle.cmd_terms.specs.declared.stages.plan.Plan.{Plan}
+use Rattle.cmd_types.specs.declared.stages.plan.Plan.{Plan}
 use Rattle.program_run.specs.Modelled.{request_of, asked_of, leaving_of}
 use Rattle.program_run.proofs.ByRequest.{no_spool}
 use Rattle.program_run.proofs.CallEffects.{did_from, unopened, brackets_on, all_ok, on_ok}

@@ -1,9 +1,9 @@
 use Rattle.std.proofs.Common.{ℕ, IfOk, IfErr, refl, ap, arith, subst}
-use Rattle.cmd_terms.specs.Plans.{AreHeld}
-use Rattle.cmd_terms.specs.declared.stages.plan.SyncScope.TheVariants.{Whole}
-use Rattle.cmd_terms.specs.Halts.{HaltCause}
-use Rattle.cmd_terms.specs.Reached.{reached_by}
-use Rattle.cmd_terms.specs.DisksEffect.{RepoEffect}
+use Rattle.cmd_types.specs.Plans.{AreHeld}
+use Rattle.cmd_types.specs.declared.stages.plan.SyncScope.TheVariants.{Whole}
+use Rattle.cmd_types.specs.Halts.{HaltCause}
+use Rattle.cmd_types.specs.Reached.{reached_by}
+use Rattle.cmd_types.specs.DisksEffect.{RepoEffect}
 use Rattle.cmd_rehearse.specs.Causes.{Fails, RehearseCause}
 use Rattle.cmd_rehearse.specs.Commands.{rehearsed, keeps_one}
 use Rattle.cmd_rehearse.specs.Faults.{rehearse_early}

@@ -1,5 +1,5 @@
 use Rattle.std.proofs.Common.{◌≡◌, ap, sym, subst, ◌∙◌, map, string_bytes}
-use Rattle.base_traces.proofs.Beside.{keeps_others}
+use Rattle.base_crash_lists.proofs.Beside.{keeps_others}
 use Rattle.program_run.specs.Asked.{requested}
 use Rattle.program_run.proofs.InForm.{command_in_form, asked_in_form}
 use Rattle.program_run.proofs.Closings.{closes_talk}

@@ -1,5 +1,5 @@
 use Rattle.std.proofs.Common.{◌∙◌, refl, ap, sym, arith}
-use Rattle.cmd_terms.specs.declared.stages.plan.Plan.{Plan}
+use Rattle.cmd_types.specs.declared.stages.plan.Plan.{Plan}
 use Rattle.archive_store.specs.Still.{rests_none}
 use Rattle.program_run.specs.Modelled.{request_of, asked_of}
 use Rattle.program_run.proofs.Ends.{rose_to, all_later}

@@ -1,0 +1,14 @@
+use Rattle.std.proofs.Common.{subst, ◌∙◌}
+use Rattle.std.specs.Prelude.{IfSome}
+use Rattle.base_model.specs.Text.{Text}
+use Rattle.base_model.specs.Pair.{PairIs}
+use Rattle.base_model.specs.InfoFiles.{IsArchiveText}
+use Rattle.base_model.specs.Values.{archive_info_of}
+use Rattle.cmd_setup.proofs.pairs.read_archive.Goals as goal
+
+pub returns-in-Ok-clause-found : goal.returns-in-Ok-clause-found
+returns-in-Ok-clause-found g c = (
+  subst (λ (n : Text). IfSome (g.D.Disk.state c.args.repo.now).view.now (λ f. PairIs IsArchiveText f n (archive_info_of c.in-Ok.info)))
+      (c.as_str.ensures.value ∙ c.in_ok-name.ensures) c.in-Ok.ensures.found,
+  c.in-Ok.ensures.valid,
+)

@@ -1,0 +1,141 @@
+// What is done under the locks, before a command's own part.
+ghost use Rattle.std.specs.Prelude.{◌≡◌, false, OnOk, IfOk, IfErr, IfSome, IsSome, string_bytes};
+ghost use Rattle.base_devices.specs.Moments.{SyncsFolders};
+ghost use Rattle.base_devices.specs.States.{Frame, Looks, LooksAt};
+ghost use Rattle.repo_pair.specs.Member.{IsMember, KeepsMembers};
+ghost use Rattle.archive_store.specs.Still.{IsStill};
+ghost use Rattle.cmd_types.specs.declared.stages.plan.SyncScope.TheVariants.{Whole, Looked};
+ghost use Rattle.cmd_types.specs.Halts.{Never};
+ghost use Rattle.cmd_types.specs.Plans.{Heals, AreHealed, HealsToLast, AreHeld, OnReading};
+ghost use Rattle.base_model.specs.Names.{archive_folder, archive_info};
+ghost use Rattle.base_model.specs.Walks.{IsSynced};
+ghost use Rattle.cmd_types.specs.DisksEffect.{Quiet, HealsPair, Begins};
+ghost use Rattle.cmd_setup.specs.Readies.{IsReady};
+ghost use Rattle.cmd_setup.specs.Settled.{SettlesFor};
+ghost use Rattle.cmd_setup.specs.Stages.{RepoCause, StopCause};
+
+use crate::cluster::cluster_by;
+use crate::pairs::{archive_by, backup_by};
+use crate::ready::Ready;
+use base_devices::{DataFolder, Disk, Locks};
+use base_disk::{StoreFault, begin};
+use cmd_types::{Halt, Object, Plan, StageFault, SyncScope, halted};
+use std::alloc::{AllocError, Global};
+
+/// Syncs the stanza's folders or that of the archive pair, reads the control file, and reads or heals the pairs, as
+/// far as the plan says so. As long as it has the locks nobody can release them.
+pub fn prepare<D: Disk, T: DataFolder, K: Locks>(
+    alloc: Global,
+    repo: &mut D,
+    tree: &mut T,
+    _locks: &K,
+    stanza: &str,
+    plan: &Plan,
+) -> Result<Ready, Halt<StageFault>>
+    requires locked { AreHeld plan.now stanza.now (K.state _locks.now).taken }
+    ensures ready { IfOk result (IsReady plan.now stanza.now (D.state repo.new).view.now (T.state tree.old).nodes) }
+    ensures quiet { Quiet stanza.now (D.state repo.old).view (D.state repo.new).view }
+    ensures begun { OnOk result (Begins plan.now.sync_scope stanza.now (D.state repo.old).view (D.state repo.new).view) }
+    ensures heals { OnOk result (Heals plan.now.pairs stanza.now (D.state repo.old).view.now
+        (D.state repo.new).view.now) }
+    ensures healed { OnOk result (IfSome (D.state repo.new).view.now (AreHealed plan.now.pairs stanza.now)) }
+    // No crash removes it.
+    ensures lasts { OnOk result (IsSynced stanza.now (D.state repo.old).view → IsSome (D.state repo.old).view.now
+        → HealsToLast plan.now.pairs stanza.now (D.state repo.new).view) }
+    ensures still { OnReading plan.now.pairs (IsStill (D.state repo.old).view (D.state repo.new).view) }
+    ensures frame { Frame (D.state repo.old) (D.state repo.new) }
+    ensures looks { LooksAt (T.state tree.old) (T.state tree.new) }
+    ensures unread { plan.now.control ≡ false → tree.new ≡ tree.old }
+    ensures cause { IfErr result (StopCause plan.now stanza.now (D.state repo.old) (D.state repo.new)
+        (T.state tree.old) (T.state tree.new)) }
+{
+    sync_directories(alloc, repo, stanza, plan.sync_scope)?;
+    find(alloc, repo, tree, stanza, plan)
+}
+
+// Syncs all of the stanza's folders.
+fn sync_whole<D: Disk>(alloc: Global, repo: &mut D, stanza: &str) -> Result<(), Halt<StageFault>>
+    ensures settled { OnOk result (SettlesFor Whole stanza.now (D.state repo.old).view (D.state repo.new).view) }
+    ensures members { OnOk result (SyncsFolders (IsMember (archive_info stanza.now)) (D.state repo.old).view
+        (D.state repo.new).view) }
+    ensures looks { Looks (D.state repo.old) (D.state repo.new) }
+    ensures cause { IfErr result (RepoCause (λ _. Never) (D.state repo.old) (D.state repo.new)) }
+{
+    match begin(alloc, repo, stanza) {
+        Ok(()) => Ok(()),
+        Err(StoreFault::Disk) => Err(Halt::Failed(Object::Repo)),
+        Err(StoreFault::TooLong { .. } | StoreFault::NoMemory) => Err(Halt::NoMemory),
+    }
+}
+
+fn pair_folder(alloc: Global, stanza: &str) -> Result<String, AllocError>
+    ensures { IfOk result (λ folder. string_bytes folder ≡ archive_folder stanza.now) }
+{
+    format!(in alloc; "archive/{stanza}")
+}
+
+// Syncs the folder of the archive pair.
+fn sync_pair<D: Disk>(alloc: Global, repo: &mut D, stanza: &str) -> Result<(), Halt<StageFault>>
+    ensures settled { OnOk result (SettlesFor Looked stanza.now (D.state repo.old).view (D.state repo.new).view) }
+    ensures members { OnOk result (SyncsFolders (IsMember (archive_info stanza.now)) (D.state repo.old).view
+        (D.state repo.new).view) }
+    ensures looks { Looks (D.state repo.old) (D.state repo.new) }
+    ensures cause { IfErr result (RepoCause (λ _. Never) (D.state repo.old) (D.state repo.new)) }
+{
+    let folder = pair_folder(alloc, stanza)?;
+    match repo.sync_directory(&folder) {
+        Ok(()) => Ok(()),
+        Err(error) => Err(halted(Object::Repo, error)),
+    }
+}
+
+// Syncs what is looked at before the command's own part.
+fn sync_directories<D: Disk>(
+    alloc: Global,
+    repo: &mut D,
+    stanza: &str,
+    sync_scope: SyncScope,
+) -> Result<(), Halt<StageFault>>
+    ensures settled { OnOk result (SettlesFor sync_scope stanza.now (D.state repo.old).view (D.state repo.new).view) }
+    ensures members { OnOk result (SyncsFolders (IsMember (archive_info stanza.now)) (D.state repo.old).view
+        (D.state repo.new).view) }
+    ensures looks { Looks (D.state repo.old) (D.state repo.new) }
+    ensures cause { IfErr result (RepoCause (λ _. Never) (D.state repo.old) (D.state repo.new)) }
+{
+    match sync_scope {
+        SyncScope::Whole => sync_whole(alloc, repo, stanza),
+        SyncScope::Looked => sync_pair(alloc, repo, stanza),
+    }
+}
+
+// Reads the control file, and reads or heals the pairs.
+fn find<D: Disk, T: DataFolder>(
+    alloc: Global,
+    repo: &mut D,
+    tree: &mut T,
+    stanza: &str,
+    plan: &Plan,
+) -> Result<Ready, Halt<StageFault>>
+    ensures ready { IfOk result (IsReady plan.now stanza.now (D.state repo.new).view.now (T.state tree.old).nodes) }
+    ensures heals_pair { HealsPair stanza.now (D.state repo.old).view (D.state repo.new).view }
+    ensures lasts { OnOk result (KeepsMembers (archive_info stanza.now) (D.state repo.old).view
+        (D.state repo.new).view) }
+    ensures heals { OnOk result (Heals plan.now.pairs stanza.now (D.state repo.old).view.now
+        (D.state repo.new).view.now) }
+    ensures healed { OnOk result (IfSome (D.state repo.new).view.now (AreHealed plan.now.pairs stanza.now)) }
+    ensures still { OnReading plan.now.pairs (IsStill (D.state repo.old).view (D.state repo.new).view) }
+    ensures frame { Frame (D.state repo.old) (D.state repo.new) }
+    ensures looks { LooksAt (T.state tree.old) (T.state tree.new) }
+    ensures unread { plan.now.control ≡ false → tree.new ≡ tree.old }
+    ensures cause { IfErr result (StopCause plan.now stanza.now (D.state repo.old) (D.state repo.new)
+        (T.state tree.old) (T.state tree.new)) }
+{
+    let control = cluster_by(alloc, tree, plan.control)?;
+    let archive = archive_by(alloc, repo, stanza, plan.pairs)?;
+    let backup = backup_by(alloc, repo, stanza, plan.pairs)?;
+    Ok(Ready {
+        control,
+        archive,
+        backup,
+    })
+}

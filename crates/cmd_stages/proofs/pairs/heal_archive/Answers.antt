@@ -1,5 +1,0 @@
-use Rattle.cmd_stages.proofs.HealedPair.{still_heals}
-use Rattle.cmd_stages.proofs.pairs.heal_archive.Goals as goal
-
-pub returns-in_err-name-clause-heals_pair : goal.returns-in_err-name-clause-heals_pair
-returns-in_err-name-clause-heals_pair g c = still_heals c.args.stanza.now (g.D.Disk.state c.args.repo.now).view

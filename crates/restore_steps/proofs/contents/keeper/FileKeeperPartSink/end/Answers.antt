@@ -1,0 +1,46 @@
+use Rattle.std.proofs.Common.{refl, inl, ap}
+use Rattle.worker_protocol.specs.PartSinkState.{Ends}
+use Rattle.restore_steps.proofs.Listing.{changes_at, apart_still, order_still, got}
+use Rattle.restore_steps.proofs.Stepping.{within, later_at, failed_by}
+use Rattle.restore_steps.proofs.contents.keeper.FileKeeperPartSink.end.Goals as goal
+
+pub invariant_of-self : goal.invariant_of-self
+invariant_of-self g c =
+    let nodes = (g.T.DataFolder.state c.args.on.now).nodes in
+    let files = c.args.self.now.files.items in
+    record {
+      apart = apart_still nodes nodes files c.args.job c.index_mut.result.now c.end_file.new.file (within nodes files c.args.job c.requires.next.kept c.requires.next.kept_is) c.index_mut.ensures.value c.args.self.now.apart c.end_file.ensures.wanted;
+      one = c.args.self.now.one;
+    }
+
+pub returns-in-Ok-clause-later : goal.returns-in-Ok-clause-later
+returns-in-Ok-clause-later g c =
+    let u = g.T.DataFolder.state c.args.on.now in
+    let v = g.T.DataFolder.state c.end_file.new.tree in
+    let files = c.args.self.now.files.items in
+    later_at c.args.self.now u v c.args.job c.index_mut.result.now c.end_file.new.file (within u.nodes files c.args.job c.requires.next.kept c.requires.next.kept_is) c.index_mut.ensures.value c.end_file.ensures.wanted c.end_file.ensures.others c.end_file.ensures.opened (c.end_file.ensures.proper (c.requires.agrees.begun c.args.job c.index_mut.result.now (got files c.args.job c.index_mut.result.now (within u.nodes files c.args.job c.requires.next.kept c.requires.next.kept_is) c.index_mut.ensures.value))) c.end_file.ensures.cause.later _ refl refl (λ some. inl some)
+
+pub returns-in-Ok-clause-agrees : goal.returns-in-Ok-clause-agrees
+returns-in-Ok-clause-agrees g c =
+    let u = g.T.DataFolder.state c.args.on.now in
+    let v = g.T.DataFolder.state c.end_file.new.tree in
+    let files = c.args.self.now.files.items in
+    let y = c.end_file.new.file in
+    order_still u.nodes v.nodes files c.args.job c.index_mut.result.now y (within u.nodes files c.args.job c.requires.next.kept c.requires.next.kept_is) c.index_mut.ensures.value c.args.self.now.apart c.end_file.ensures.others c.in-Ok.ensures.tidy c.in-Ok.ensures.begun c.requires.agrees
+
+pub returns-in-Ok-clause-kept : goal.returns-in-Ok-clause-kept
+returns-in-Ok-clause-kept g c =
+    let u = g.T.DataFolder.state c.args.on.now in
+    let v = g.T.DataFolder.state c.end_file.new.tree in
+    let files = c.args.self.now.files.items in (
+      refl,
+      refl,
+      changes_at u.nodes v.nodes files c.args.job c.index_mut.result.now c.end_file.new.file (within u.nodes files c.args.job c.requires.next.kept c.requires.next.kept_is) c.index_mut.ensures.value c.args.self.now.apart (Ends c.args.how.now) c.in-Ok.ensures.ends c.end_file.ensures.others,
+    )
+
+pub returns-in-Err-clause-later : goal.returns-in-Err-clause-later
+returns-in-Err-clause-later g c =
+    let u = g.T.DataFolder.state c.args.on.now in
+    let v = g.T.DataFolder.state c.end_file.new.tree in
+    let files = c.args.self.now.files.items in
+    later_at c.args.self.now u v c.args.job c.index_mut.result.now c.end_file.new.file (within u.nodes files c.args.job c.requires.next.kept c.requires.next.kept_is) c.index_mut.ensures.value c.end_file.ensures.wanted c.end_file.ensures.others c.end_file.ensures.opened (c.end_file.ensures.proper (c.requires.agrees.begun c.args.job c.index_mut.result.now (got files c.args.job c.index_mut.result.now (within u.nodes files c.args.job c.requires.next.kept c.requires.next.kept_is) c.index_mut.ensures.value))) c.end_file.ensures.cause.later c.count.new.self c.count.ensures.jobs (ap (λ l. l.items) c.count.ensures.files) (failed_by c.in-Err.stop _ _ _ _ c.in-Err.ensures.cause c.count.ensures.faults)
