@@ -1,5 +1,6 @@
 -- What each device reports, as one value, and what a call leaves of it.
 use Rattle.std.specs.Prelude.{◌≡◌, ◌⊎◌, ◌≤◌, [], ◌∷◌, ℕ, List, Option, Result, MatchResult}
+use Rattle.base_devices.specs.Cause.{Rises}
 use Rattle.base_devices.specs.Content.{Name, Value, Content}
 use Rattle.base_devices.specs.Moments.{View, GrowsBy, Unchanged}
 use Rattle.base_devices.specs.DataFolder.{Nodes}
@@ -57,6 +58,10 @@ pub record Works (added : Name → Value → Type 0) (newly_unsynced : Name → 
   pub proper : new.faulty_calls ≡ old.faulty_calls
   pub later : old.faults ≤ new.faults
 
+-- it failed in between
+abbrev pub DiskFailed : DiskState → DiskState → Type 0
+DiskFailed old new = Rises old.faults new.faults
+
 -- ---- a data folder
 
 -- what is known of a data folder
@@ -77,6 +82,10 @@ pub record LooksAt (old new : DataFolderState) : Type 0 where
   pub proper : new.faulty_calls ≡ old.faulty_calls
   pub later : old.faults ≤ new.faults
 
+-- it failed in between
+abbrev pub FolderFailed : DataFolderState → DataFolderState → Type 0
+FolderFailed old new = Rises old.faults new.faults
+
 -- ---- a connection to a server
 
 -- what is known of a connection to the server
@@ -88,6 +97,10 @@ pub record ConnectionState : Type 0 where
   pub place : Name
   -- how often it failed
   pub faults : ℕ
+
+-- it failed in between
+abbrev pub ServerFailed : ConnectionState → ConnectionState → Type 0
+ServerFailed old new = Rises old.faults new.faults
 
 -- ---- a clock
 
@@ -106,6 +119,10 @@ pub record ShowsSecond (second : ℕ) (old new : ClockState) : Type 0 where
   pub later : old.least ≤ second
   pub in_range : second ≤ last_second
   pub least : second ≤ new.least
+
+-- it failed in between
+abbrev pub ClockFailed : ClockState → ClockState → Type 0
+ClockFailed old new = Rises old.faults new.faults
 
 -- ---- locks
 
