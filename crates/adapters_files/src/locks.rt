@@ -2,12 +2,12 @@
 ghost use Rattle.std.specs.Prelude.{◌≡◌, ◌≤◌, ◌∷◌, [], None, IfOk, OnErr, map, string_bytes};
 ghost use Rattle.base_devices.specs.Cause.{Rises};
 ghost use Rattle.base_devices.specs.Locking.{with_lock, without};
-ghost use Rattle.base_devices.specs.declared.locks.Take.TheVariants.{Held};
+ghost use Rattle.base_devices.specs.declared.locks.LockAnswer.TheVariants.{Busy};
 
 use crate::lock_files::{Hold, hold_file, hold_folder};
 use crate::place::no_memory;
 use adapters_process::{Call, Faults};
-use base_devices::{DeviceError, Locks, Take};
+use base_devices::{DeviceError, LockAnswer, Locks};
 use std::alloc::AllocError;
 use std::fs::File;
 use std::io;
@@ -89,12 +89,12 @@ impl RealLocks {
         }
     }
 
-    fn take_file(&mut self, folder: &str, name: &str) -> io::Result<Take>
+    fn take_file(&mut self, folder: &str, name: &str) -> io::Result<LockAnswer>
         ensures taken { IfOk result
             (λ t. map (λ x. string_bytes x.name) self.new.taken.items ≡ with_lock t name.now
             (map (λ x. string_bytes x.name) self.old.taken.items)) }
         ensures err { OnErr result (self.new.taken.items ≡ self.old.taken.items) }
-        ensures held { IfOk result (λ t. t ≡ Held → Rises self.old.refusals self.new.refusals) }
+        ensures held { IfOk result (λ t. t ≡ Busy → Rises self.old.refusals self.new.refusals) }
         ensures later { self.old.refusals ≤ self.new.refusals }
         ensures faults { self.new.faults ≡ self.old.faults }
     {
@@ -103,12 +103,12 @@ impl RealLocks {
                 let name = String::from_str(self.rt.alloc(), name)?;
                 let lock = Lock { name, file, folder };
                 self.taken.insert(0, lock).map_err(no_memory)?;
-                Ok(Take::Taken)
+                Ok(LockAnswer::Acquired)
             }
             None => {
                 let refusals = self.refusals;
                 self.refusals = refusals.saturating_add(1);
-                Ok(Take::Held)
+                Ok(LockAnswer::Busy)
             }
         }
     }
@@ -117,13 +117,13 @@ impl RealLocks {
 impl Locks for RealLocks {
     ghost state = { λ l. record {
       taken = map (λ x. string_bytes x.name) l.taken.items;
-      took = None;
+      ever_taken = None;
       others = None;
       refusals = l.refusals;
       faults = l.faults.count;
     } };
 
-    fn take(&mut self, folder: &str, name: &str) -> Result<Take, DeviceError> {
+    fn take(&mut self, folder: &str, name: &str) -> Result<LockAnswer, DeviceError> {
         let done = self.take_file(folder, name);
         let call = call_in(&self.rt, folder, name);
         self.faults.known(&call, done)

@@ -88,9 +88,9 @@ impl Progress {
     // A person who doesn't read it misses nothing else.
     fn show(&self, now: Instant) {
         let bytes = self.bytes;
-        let took = now.duration_since(self.began.unwrap_or(now)).as_millis();
-        let speed = u128::from(bytes) * 1000 / MIB / took.max(1);
-        let seconds = took / 1000;
+        let ever_taken = now.duration_since(self.began.unwrap_or(now)).as_millis();
+        let speed = u128::from(bytes) * 1000 / MIB / ever_taken.max(1);
+        let seconds = ever_taken / 1000;
         let _ = eprintln!(self.rt; "INFO: {bytes} bytes written in {seconds} s, {speed} MiB/s");
     }
 }

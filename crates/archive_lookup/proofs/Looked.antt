@@ -24,7 +24,7 @@ use Rattle.archive_lookup.specs.declared.stored.names.FileNames.{FileNames}
 use Rattle.archive_lookup.specs.Stored.{archive_path, HasSum, Stores, StoresNone, StoresOnly, StoresTwo}
 use Rattle.archive_lookup.specs.Paths.{has_sum, file_text, folder_text}
 use Rattle.archive_lookup.specs.Listing.{Picks, ShowsSum, PassesSum, sum_after}
-use Rattle.archive_lookup.specs.Looks.{file_place, file_prefix, dash, sum_digits, AreNamesOf, IsAlike, LooksLike, Shows, ShowsOne}
+use Rattle.archive_lookup.specs.OnlyReads.{file_place, file_prefix, dash, sum_digits, AreNamesOf, IsAlike, LooksLike, Shows, ShowsOne}
 use Rattle.archive_lookup.specs.Causes.{StoresLong}
 use Rattle.archive_lookup.proofs.Orders.{in_of, contains_of, in_map, from_map, before_on, not_itself}
 use Rattle.archive_lookup.proofs.Owns.{summed_has, has_summed, unsummed_has, has_own}

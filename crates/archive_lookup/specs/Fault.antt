@@ -1,6 +1,6 @@
 -- The fault of the archive that a fault below becomes.
-use Rattle.base_devices.specs.declared.stop.DeviceError.{DeviceError}
-use Rattle.base_devices.specs.declared.stop.DeviceError.TheVariants.{Failed, NoMemory as ErrorNoMemory}
+use Rattle.base_devices.specs.declared.device_error.DeviceError.{DeviceError}
+use Rattle.base_devices.specs.declared.device_error.DeviceError.TheVariants.{Failed, NoMemory as ErrorNoMemory}
 use Rattle.base_disk.specs.declared.fault.StoreFault.{StoreFault}
 use Rattle.base_disk.specs.declared.fault.StoreFault.TheVariants.{Disk as StoreDisk, TooLong as StoreTooLong, NoMemory as StoreNoMemory}
 use Rattle.repo_names.specs.declared.wal.header.HeaderFault.{HeaderFault}

@@ -3,6 +3,6 @@ pub mod Causes
 pub mod Fault
 pub mod Paths
 pub mod Listing
-pub mod Looks
+pub mod OnlyReads
 pub mod Ends
 pub mod Turns

@@ -1,6 +1,6 @@
 mod Cleared
 pub mod Marked
 pub mod Receipts
-mod Looks
+mod OnlyReads
 mod Middle
 mod Renamed

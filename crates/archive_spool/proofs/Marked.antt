@@ -4,7 +4,7 @@ use Rattle.std.specs.Prelude.{codes}
 use Rattle.std.proofs.lemmas.List.{append_cancel_left, append_cancel_right}
 use Rattle.sha1.specs.Sha1.{sha1}
 use Rattle.base_devices.specs.Content.{Name, Content}
-use Rattle.base_devices.specs.Moments.{View, GrowsBy, Unchanged}
+use Rattle.base_devices.specs.Moments.{View, GrowsBy, LeavesNoMore}
 use Rattle.base_devices.specs.Crash.{IsTemporary, NowChanges, FirstOf, AllOf}
 use Rattle.base_devices.proofs.Steps.{goes_on, goes_wide}
 use Rattle.base_disk.specs.Store.{ChangesOnly}
@@ -100,7 +100,7 @@ module _ (stanza : Text) where
   marks_on fs gs a b c p q = goes_on (AddsMarks stanza (fs ++ gs)) (IsNoReceipt stanza) a b c
       (marks_wide fs (fs ++ gs) (λ m h. in_left m fs gs h) a b p) (marks_wide gs (fs ++ gs) (λ m h. in_right m fs gs h) b c q)
 
-  pub marks_none : (fs : List Named) (a b : View) → Unchanged a b → GivesMarks stanza fs a b
+  pub marks_none : (fs : List Named) (a b : View) → LeavesNoMore a b → GivesMarks stanza fs a b
   marks_none fs a b rests = goes_wide (λ _ _. ⊥) (AddsMarks stanza fs) (λ _. ⊥) (IsNoReceipt stanza) a b (λ n v x. absurd x) (λ n x. absurd x) rests
 
   pub marks_still : (fs : List Named) (a : View) → GivesMarks stanza fs a a

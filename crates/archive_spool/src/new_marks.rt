@@ -1,7 +1,7 @@
 // Puts a mark in the spool.
 ghost use Rattle.std.specs.Prelude.{◌≡◌, ◌⊎◌, ◌∷◌, [], IfOk, IfErr, OnOk, IsErrOf, string_bytes};
 ghost use Rattle.sha1.specs.Sha1.{sha1};
-ghost use Rattle.base_devices.specs.States.{Frame};
+ghost use Rattle.base_devices.specs.States.{CallsProperly};
 ghost use Rattle.base_devices.specs.Crash.{NowChanges, FirstOf, AllOf};
 ghost use Rattle.base_devices.specs.Cause.{Rises};
 ghost use Rattle.base_disk.specs.Fault.{IsDeviceFault};
@@ -64,7 +64,7 @@ pub fn put_receipt<S: Disk>(
         (S.state spool.old).view.now (S.state spool.new).view.now) }
     ensures only { ChangesOnly (λ n. (n ≡ mark_temporary stanza.now) ⊎ (n ≡ receipt_name stanza.now name.now))
         (S.state spool.old).view (S.state spool.new).view }
-    ensures frame { Frame (S.state spool.old) (S.state spool.new) }
+    ensures frame { CallsProperly (S.state spool.old) (S.state spool.new) }
     ensures cause { IsErrOf result StoreFault.Disk → Rises (S.state spool.old).faults (S.state spool.new).faults }
     ensures refusals { IfErr result IsDeviceFault }
 {
@@ -92,7 +92,7 @@ pub fn put_refusal<S: Disk>(
         (S.state spool.old).view.now (S.state spool.new).view.now) }
     ensures only { ChangesOnly (λ n. (n ≡ mark_temporary stanza.now) ⊎ (n ≡ refusal_name stanza.now name.now))
         (S.state spool.old).view (S.state spool.new).view }
-    ensures frame { Frame (S.state spool.old) (S.state spool.new) }
+    ensures frame { CallsProperly (S.state spool.old) (S.state spool.new) }
     ensures cause { IsErrOf result StoreFault.Disk → Rises (S.state spool.old).faults (S.state spool.new).faults }
     ensures refusals { IfErr result IsDeviceFault }
 {

@@ -4,7 +4,7 @@ ghost use Rattle.std.specs.Str.{is_utf8};
 ghost use Rattle.base_text.specs.Sum.{IsSum};
 ghost use Rattle.base_devices.specs.Cause.{Rises};
 ghost use Rattle.base_devices.specs.Content.{put};
-ghost use Rattle.base_devices.specs.States.{Frame, Looks, Works};
+ghost use Rattle.base_devices.specs.States.{CallsProperly, OnlyReads, Works};
 ghost use Rattle.base_disk.specs.Store.{ChangesOnly};
 ghost use Rattle.base_disk.specs.Fault.{IsDeviceFault, IfTooLong};
 ghost use Rattle.base_model.specs.declared.wal.ArchiveName.{ArchiveName};
@@ -55,7 +55,7 @@ fn holds<S: Disk>(alloc: Global, spool: &mut S, name: &str, text: &[u8]) -> Resu
     ensures holds { IfOk result
         (λ b. IfSome (S.state spool.old).view.now (λ f. IsTrue b ↔ (f name.now ≡ Some text.now))) }
     ensures long { IfErr result (λ e. IfTooLong e (IsLong (λ n. n ≡ name.now) (S.state spool.old).view.now)) }
-    ensures looks { Looks (S.state spool.old) (S.state spool.new) }
+    ensures looks { OnlyReads (S.state spool.old) (S.state spool.new) }
     ensures cause { IsErrOf result StoreFault.Disk → Rises (S.state spool.old).faults (S.state spool.new).faults }
 {
     match read_whole(alloc, spool, name, MARK_LIMIT)? {
@@ -75,7 +75,7 @@ fn refusal_at<S: Disk>(
     ensures none { IfOk result (λ r. IfNone r (IfSome (S.state spool.old).view.now (λ f. (code : ℕ) (line : Text)
         → ¬ ((code < 2 ^ 32) × (is_utf8 line ≡ true) × (f name.now ≡ Some (refusal_text code line)))))) }
     ensures long { IfErr result (λ e. IfTooLong e (IsLong (λ n. n ≡ name.now) (S.state spool.old).view.now)) }
-    ensures looks { Looks (S.state spool.old) (S.state spool.new) }
+    ensures looks { OnlyReads (S.state spool.old) (S.state spool.new) }
     ensures cause { IsErrOf result StoreFault.Disk → Rises (S.state spool.old).faults (S.state spool.new).faults }
 {
     let Some(bytes) = read_whole(alloc, spool, name, MARK_LIMIT)? else {
@@ -98,7 +98,7 @@ fn look<S: Disk>(
     ensures answers { IfOk result (λ asked. IfSome (S.state spool.old).view.now (λ f. (stanza : Text)
         (name : ArchiveName) → AreNamesOf stanza name names.now → Answers stanza f name sum.now.0 asked)) }
     ensures long { IfErr result (λ e. IfTooLong e (IsLong (IsNameOf names.now) (S.state spool.old).view.now)) }
-    ensures looks { Looks (S.state spool.old) (S.state spool.new) }
+    ensures looks { OnlyReads (S.state spool.old) (S.state spool.new) }
     ensures cause { IsErrOf result StoreFault.Disk → Rises (S.state spool.old).faults (S.state spool.new).faults }
 {
     let Ok(text) = receipt_text(alloc, sum) else {
@@ -147,7 +147,7 @@ pub fn ask<S: Disk>(
     // It gives no receipt, and nothing else changes.
     ensures marks { GivesMarks stanza.now [] (S.state spool.old).view (S.state spool.new).view }
     ensures only { ChangesOnly (IsMarkName stanza.now name.now) (S.state spool.old).view (S.state spool.new).view }
-    ensures frame { Frame (S.state spool.old) (S.state spool.new) }
+    ensures frame { CallsProperly (S.state spool.old) (S.state spool.new) }
 
     ensures long { IfErr result
         (λ e. IfTooLong e (IsLong (IsMarkName stanza.now name.now) (S.state spool.old).view.now)) }

@@ -2,7 +2,7 @@
 ghost use Rattle.std.specs.List.{list_any};
 ghost use Rattle.std.specs.Prelude.{◌≡◌, [], true, false, None, All, map, bytes_eq, IfOk, IfErr, IsErrOf, OnOk, string_bytes};
 ghost use Rattle.base_devices.specs.Cause.{Rises};
-ghost use Rattle.base_devices.specs.States.{Frame, Works};
+ghost use Rattle.base_devices.specs.States.{CallsProperly, Works};
 ghost use Rattle.base_disk.specs.Dropped.{IsAbsent};
 ghost use Rattle.base_disk.specs.Fault.{IsDeviceFault};
 ghost use Rattle.base_model.specs.Names.{receipt_name};
@@ -116,7 +116,7 @@ pub fn clear_marks<S: Disk>(
     ensures clears { Clears (IsStale stanza.now ready.now) (S.state spool.old).view.now (S.state spool.new).view.now }
     ensures marks { GivesMarks stanza.now [] (S.state spool.old).view (S.state spool.new).view }
     ensures only { ChangesArchive stanza.now (S.state spool.old).view (S.state spool.new).view }
-    ensures frame { Frame (S.state spool.old) (S.state spool.new) }
+    ensures frame { CallsProperly (S.state spool.old) (S.state spool.new) }
     ensures cause { IsErrOf result StoreFault.Disk → Rises (S.state spool.old).faults (S.state spool.new).faults }
     ensures refusals { IfErr result IsDeviceFault }
 {

@@ -29,7 +29,7 @@ use Rattle.archive_lookup.specs.declared.stored.names.FileNames.{FileNames}
 use Rattle.archive_lookup.specs.Fault.{fault_of_store}
 use Rattle.archive_lookup.specs.Stored.{archived_file, archive_path, known_sum, HasSum, StoresNone, Finds}
 use Rattle.archive_lookup.specs.Paths.{has_sum}
-use Rattle.archive_lookup.specs.Looks.{AreNamesOf, Shows, ShowsOne, IsStoredAs, IsDeviceFault, LookCause}
+use Rattle.archive_lookup.specs.OnlyReads.{AreNamesOf, Shows, ShowsOne, IsStoredAs, IsDeviceFault, LookCause}
 use Rattle.archive_lookup.specs.Causes.{HasHeader, StoresBytes, StoresLong, GetCause, PresentCause, IsUnarchived, OnFinding, OnAnswer, limit_of}
 use Rattle.archive_lookup.proofs.OnePath.{one_path}
 use Rattle.archive_lookup.proofs.Owns.{has_own, stored_has}

@@ -9,7 +9,7 @@ use Rattle.base_model.specs.declared.wal.ArchiveName.TheVariants.{Segment as Who
 use Rattle.base_model.specs.Text.{Text, hex_upper}
 use Rattle.base_model.specs.Names.{wal_text, segment_text}
 use Rattle.archive_lookup.specs.Paths.{Lacks, has_sum}
-use Rattle.archive_lookup.specs.Looks.{file_place, dash, sum_digits}
+use Rattle.archive_lookup.specs.OnlyReads.{file_place, dash, sum_digits}
 use Rattle.archive_store.specs.Pushes.{IsPathOf}
 use Rattle.archive_lookup.proofs.Cuts.{lacks_append, hex_lacks}
 use Rattle.archive_lookup.proofs.OnePath.{segment_lacks, history_lacks, history_slash}

@@ -5,7 +5,7 @@ use Rattle.sha1.specs.Sha1.{sha1}
 use Rattle.base_text.specs.Sum.{IsSum, sum_text}
 use Rattle.base_text.proofs.Digests.{IsSum-sha1}
 use Rattle.base_devices.specs.Content.{Name, Content, is_below}
-use Rattle.base_devices.specs.Moments.{View, Unchanged}
+use Rattle.base_devices.specs.Moments.{View, LeavesNoMore}
 use Rattle.base_devices.specs.Crash.{Write, IsTemporary, NowChanges}
 use Rattle.base_disk.specs.Store.{ChangesOnly}
 use Rattle.base_disk.proofs.Below.{below_prefix}
@@ -26,14 +26,14 @@ use Rattle.archive_store.specs.Still.{rests_none}
 use Rattle.archive_lookup.specs.Stored.{archive_path, StoresOnly, StoresTwo, ChangesArchive}
 use Rattle.archive_lookup.specs.Paths.{has_sum, folder_text}
 use Rattle.archive_lookup.specs.Causes.{IsFileOf, PushCause}
-use Rattle.archive_lookup.specs.Looks.{file_place, dash, sum_digits, path_with, AreNamesOf, Shows, ShowsOne, LookCause}
+use Rattle.archive_lookup.specs.OnlyReads.{file_place, dash, sum_digits, path_with, AreNamesOf, Shows, ShowsOne, LookCause}
 use Rattle.archive_lookup.proofs.OnePath.{joined}
 use Rattle.archive_lookup.proofs.Looked.{place_is, in_place, with_prefix}
 use Rattle.archive_store.proofs.Got.{no_header, long_known}
 use Rattle.archive_store.proofs.FilePushed.{StoresSome}
 
 -- nothing was changed
-pub still_only : (stanza : Text) (v b : View) → Unchanged v b → b.now ≡ v.now → ChangesArchive stanza v b
+pub still_only : (stanza : Text) (v b : View) → LeavesNoMore v b → b.now ≡ v.now → ChangesArchive stanza v b
 still_only stanza v b rests same = only_rests (λ n. IsTrue (is_below (archive_folder stanza) n)) v b rests same
 
 pub none_only : (stanza : Text) (v : View) → ChangesArchive stanza v v
@@ -82,7 +82,7 @@ module _ (stanza : Text) (id : ArchiveId) (name : ArchiveName) (names : FileName
   name_below sum = below_prefix (archive_folder stanza) (id_text id ⫽ archive_text name (sum_text sum)) (path_with names sum) (name_of sum)
 
   -- what was read, and then put
-  pub put_only : (sum : Text) (v b d : View) → Unchanged v b → b.now ≡ v.now → ChangesOnly (λ n. (n ≡ string_bytes names.temporary) ⊎ (n ≡ path_with names sum)) b d → ChangesArchive stanza v d
+  pub put_only : (sum : Text) (v b d : View) → LeavesNoMore v b → b.now ≡ v.now → ChangesOnly (λ n. (n ≡ string_bytes names.temporary) ⊎ (n ≡ path_with names sum)) b d → ChangesArchive stanza v d
   put_only sum v b d rests same only = only_on (λ n. IsTrue (is_below (archive_folder stanza) n)) v b d (still_only stanza v b rests same)
       (only_wide (λ n. (n ≡ string_bytes names.temporary) ⊎ (n ≡ path_with names sum)) (λ n. IsTrue (is_below (archive_folder stanza) n)) b d
       (λ n h. ⊎_elim (λ (e : n ≡ string_bytes names.temporary). ap (is_below (archive_folder stanza)) e ∙ temporary_below) (λ (e : n ≡ path_with names sum). ap (is_below (archive_folder stanza)) e ∙ name_below sum) h) only)

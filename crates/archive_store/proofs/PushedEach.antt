@@ -5,7 +5,7 @@ use Rattle.sha1.specs.Sha1.{sha1}
 use Rattle.base_text.specs.Sum.{IsSum}
 use Rattle.base_text.proofs.Digests.{IsSum-sha1}
 use Rattle.base_devices.specs.Content.{Content, LiesDirectlyIn, put}
-use Rattle.base_devices.specs.Moments.{View, Unchanged, SyncsFolders, is_unsynced}
+use Rattle.base_devices.specs.Moments.{View, LeavesNoMore, SyncsFolders, is_unsynced}
 use Rattle.base_devices.specs.Crash.{IsTemporary, Leaves, Crash, Ends, NowChanges, FirstOf, AllOf, Alike, IsAlikeAt}
 use Rattle.base_devices.proofs.Crashes.{crash_ends, crash_rests, first_none, writes_on}
 use Rattle.base_devices.proofs.Nows.{known_as, now_none, now_rests}
@@ -30,7 +30,7 @@ use Rattle.base_model.proofs.Segments.{IsPartOfPush, NowPartOfPush}
 use Rattle.base_model.proofs.Walking.{rests_synced, rests_walks, walks_on, ends_on, crash_walks, ends_with, settled_same, settles_on, steady_synced, walks_moves, ends_steady}
 use Rattle.archive_lookup.specs.declared.stored.names.FileNames.{FileNames}
 use Rattle.archive_lookup.specs.Stored.{archived_file, archive_path, StoresNone}
-use Rattle.archive_lookup.specs.Looks.{AreNamesOf, path_with}
+use Rattle.archive_lookup.specs.OnlyReads.{AreNamesOf, path_with}
 use Rattle.archive_store.specs.Pushes.{IsPathOf, writes_of, PushesPart, PushesAll, LeavesPart, LeavesAll, Writes}
 use Rattle.archive_store.proofs.AlikeFiles.{alike_stores, alike_none}
 use Rattle.archive_store.proofs.FilePushed.{StoresSome, lacks_at, new_push, no_push}
@@ -43,14 +43,14 @@ pub still_pushes : (stanza : Text) (id : ArchiveId) (name : ArchiveName) (bytes 
 still_pushes stanza id name bytes f s h = ([], part_none _, h)
 
 -- nothing was changed, after every answer
-pub rests_leave : (stanza : Text) (id : ArchiveId) (name : ArchiveName) (bytes : Text) (v b : View) → Unchanged v b → b.now ≡ v.now → LeavesPart stanza id name bytes v b
+pub rests_leave : (stanza : Text) (id : ArchiveId) (name : ArchiveName) (bytes : Text) (v b : View) → LeavesNoMore v b → b.now ≡ v.now → LeavesPart stanza id name bytes v b
 rests_leave stanza id name bytes v b rests same = record {
   now = now_rests (PushesPart stanza id name bytes) v.now b.now (still_pushes stanza id name bytes) same;
   walks = λ synced known. rests_walks stanza v b rests same (PushesPart stanza id name bytes) (still_pushes stanza id name bytes) known synced;
 }
 
 -- .. and so the write wasn't made
-pub rests_write : (stanza : Text) (id : ArchiveId) (name : ArchiveName) (bytes : Text) (v b : View) → Unchanged v b → b.now ≡ v.now → Writes stanza id name bytes v b
+pub rests_write : (stanza : Text) (id : ArchiveId) (name : ArchiveName) (bytes : Text) (v b : View) → LeavesNoMore v b → b.now ≡ v.now → Writes stanza id name bytes v b
 rests_write stanza id name bytes v b rests same = record {
   now = now_none (writes_of stanza id name bytes) v.now b.now same;
   crash = λ synced known. crash_rests (FirstOf (writes_of stanza id name bytes)) v b (first_none (writes_of stanza id name bytes)) rests same;
@@ -102,7 +102,7 @@ module _ (stanza : Text) (id : ArchiveId) (name : ArchiveName) (place : (sum : T
   path_synced : (v : View) → IsSynced stanza v → (n : Text) → IsPathOf stanza id name n → is_unsynced v n ≡ false
   path_synced v synced n is = synced.fixed n (File (record { id = id; file = name; sum = is.0; fits = place is.0 is.1; is = is.2 }))
 
-  module _ (v b : View) (rests : Unchanged v b) (same : b.now ≡ v.now) (synced : IsSynced stanza v) (known : IsSome v.now) (settles : SyncsFolders (IsPathOf stanza id name) v b) where
+  module _ (v b : View) (rests : LeavesNoMore v b) (same : b.now ≡ v.now) (synced : IsSynced stanza v) (known : IsSome v.now) (settles : SyncsFolders (IsPathOf stanza id name) v b) where
     -- all that is left has at the file's paths what the disk holds
     pub alike_here : (f0 : Content) → v.now ≡ Some f0 → (f : Content) → Leaves b b.moment f → (n : Text) → IsPathOf stanza id name n → f n ≡ f0 n
     alike_here f0 now = settled_same (IsPathOf stanza id name) v b rests same settles (path_synced v synced) f0 now
@@ -170,13 +170,13 @@ module _ (stanza : Text) (id : ArchiveId) (name : ArchiveName) (place : (sum : T
 
   -- ---- the file was looked for, and its folder synced
 
-  module _ (v b : View) (rests : Unchanged v b) (same : b.now ≡ v.now) (settles : SyncsFolders (IsPathOf stanza id name) v b) where
+  module _ (v b : View) (rests : LeavesNoMore v b) (same : b.now ≡ v.now) (settles : SyncsFolders (IsPathOf stanza id name) v b) where
     -- what the disk held at the file's paths it has in all that is left
     pub looked_alike : IsSynced stanza v → IsSome v.now → IsAlikeAt (IsPathOf stanza id name) b
     looked_alike synced known = kept_alike v b rests same synced known settles
 
     -- .. also after calls that only read
-    pub after_alike : (d : View) → Unchanged b d → d.now ≡ b.now → IsSynced stanza v → IsSome v.now → IsAlikeAt (IsPathOf stanza id name) d
+    pub after_alike : (d : View) → LeavesNoMore b d → d.now ≡ b.now → IsSynced stanza v → IsSome v.now → IsAlikeAt (IsPathOf stanza id name) d
     after_alike d later still synced known = kept_alike v d (goes_on (λ _ _. ⊥) (λ _. ⊥) v b d rests later) (still ∙ same) synced known (settles_on (IsPathOf stanza id name) v b d settles later)
 
     -- it was stored

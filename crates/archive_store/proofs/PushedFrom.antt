@@ -5,7 +5,7 @@ use Rattle.std.specs.declared.alloc.Global.{Global}
 use Rattle.sha1.specs.Sha1.{sha1}
 use Rattle.base_devices.specs.Cause.{Rises}
 use Rattle.base_devices.specs.Content.{Content}
-use Rattle.base_devices.specs.Moments.{View, Unchanged, SyncsFolders}
+use Rattle.base_devices.specs.Moments.{View, LeavesNoMore, SyncsFolders}
 use Rattle.base_devices.specs.Crash.{NowChanges, AllOf}
 use Rattle.base_disk.specs.Store.{ChangesOnly}
 use Rattle.base_model.specs.declared.wal.ArchiveId.{ArchiveId}
@@ -20,7 +20,7 @@ use Rattle.archive_lookup.specs.declared.stored.stored_lookup.Look.TheVariants.{
 use Rattle.archive_lookup.specs.declared.stored.names.FileNames.{FileNames}
 use Rattle.archive_lookup.specs.Stored.{StoresNone, StoresOnly}
 use Rattle.archive_lookup.specs.Causes.{PushCause}
-use Rattle.archive_lookup.specs.Looks.{AreNamesOf, Shows, path_with}
+use Rattle.archive_lookup.specs.OnlyReads.{AreNamesOf, Shows, path_with}
 use Rattle.archive_store.specs.ByteSource.{IsReadFrom}
 use Rattle.archive_store.specs.Pushes.{IsPathOf, writes_of, LeavesPart, LeavesAll, Leaves, LeavesFile}
 use Rattle.archive_store.specs.Pushing.{PushFromCause, OnPushFinding, DeviceCause, AreOfSystem, HasPlaces, OtherCause, PutsPart, PutsWhole}
@@ -123,14 +123,14 @@ module _ (stanza : Text) (id : ArchiveId) (name : ArchiveName) (system : ℕ) (m
   -- ---- what is left
 
   -- nothing was changed
-  pub still_leaves : (v b : View) → Unchanged v b → b.now ≡ v.now → Leaves stanza id name model v b
+  pub still_leaves : (v b : View) → LeavesNoMore v b → b.now ≡ v.now → Leaves stanza id name model v b
   still_leaves v b rests same = record {
     part = known_all model (λ bytes. LeavesPart stanza id name bytes v b) (λ bytes. rests_leave stanza id name bytes v b rests same);
     writes = let w = some_read model first count known within in (w.0, w.1.known, rests_write stanza id name w.0 v b rests same);
     only = still_only stanza v b rests same;
   }
 
-  module _ (place : HasPlaces id name) (v b : View) (rests : Unchanged v b) (same : b.now ≡ v.now) (settles : SyncsFolders (IsPathOf stanza id name) v b) where
+  module _ (place : HasPlaces id name) (v b : View) (rests : LeavesNoMore v b) (same : b.now ≡ v.now) (settles : SyncsFolders (IsPathOf stanza id name) v b) where
     -- the file was stored already
     pub stored_leaves : IfSome v.now (StoresSome stanza id name) → LeavesFile stanza id name model v b
     stored_leaves has = record {

@@ -2,15 +2,15 @@
 use Rattle.std.specs.Prelude.{◌≡◌, ℕ, true, refl}
 use Rattle.std.proofs.Common.{inl, ◌∙◌, subst}
 use Rattle.std.proofs.Math.Nat.{le_refl, le_antisymm}
-use Rattle.base_devices.specs.Moments.{View, Unchanged}
+use Rattle.base_devices.specs.Moments.{View, LeavesNoMore}
 use Rattle.base_devices.proofs.Steps.{goes_on}
 
 -- it holds what it held, and a crash may leave no more
 pub record IsStill (old new : View) : Type 0 where
   pub now : new.now ≡ old.now
-  pub time : Unchanged old new
+  pub time : LeavesNoMore old new
 
-pub rests_none : (a : View) → Unchanged a a
+pub rests_none : (a : View) → LeavesNoMore a a
 rests_none a = record {
   later = le_refl a.moment;
   same = λ t n v le h. h;

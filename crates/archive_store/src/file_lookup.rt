@@ -1,8 +1,8 @@
 // Stored files are read and looked for.
 ghost use Rattle.std.specs.Prelude.{◌≡◌, ◌≤◌, ◌^◌, true, false, Some, IfOk, IfErr, IfSome, IsSome, IsErrOf, OnOk, length, string_bytes};
 ghost use Rattle.sha1.specs.Sha1.{sha1};
-ghost use Rattle.base_devices.specs.States.{Looks};
-ghost use Rattle.base_devices.specs.Moments.{Unchanged, SyncsFolders};
+ghost use Rattle.base_devices.specs.States.{OnlyReads};
+ghost use Rattle.base_devices.specs.Moments.{LeavesNoMore, SyncsFolders};
 ghost use Rattle.base_devices.specs.Cause.{Rises};
 ghost use Rattle.base_devices.specs.Crash.{IsAlikeAt};
 ghost use Rattle.base_model.specs.declared.wal.ArchiveId.{ArchiveId};
@@ -15,7 +15,7 @@ ghost use Rattle.archive_lookup.specs.Stored.{archived_file, Finds};
 ghost use Rattle.archive_lookup.specs.Paths.{has_sum};
 ghost use Rattle.archive_store.specs.Pushes.{IsPathOf};
 ghost use Rattle.archive_store.specs.Pushing.{HasPlaces};
-ghost use Rattle.archive_lookup.specs.Looks.{AreNamesOf, IsStoredAs, IsDeviceFault};
+ghost use Rattle.archive_lookup.specs.OnlyReads.{AreNamesOf, IsStoredAs, IsDeviceFault};
 ghost use Rattle.archive_lookup.specs.Causes.{StoresBytes, GetCause, ReadCause, IsUnarchived, PresentCause, OnAnswer, limit_of};
 
 use archive_lookup::{
@@ -39,7 +39,7 @@ fn read_kept<D: Disk>(alloc: Global, d: &mut D, kept: &StoredFile) -> Result<Vec
     ensures within { IfOk result (λ bytes. length bytes.items ≤ 2 ^ 30) }
     ensures cause { IfErr result (ReadCause kept.now (D.state d.old).view.now (Rises (D.state d.old).faults
         (D.state d.new).faults)) }
-    ensures looks { Looks (D.state d.old) (D.state d.new) }
+    ensures looks { OnlyReads (D.state d.old) (D.state d.new) }
 {
     let Some(bytes) = read_whole(alloc, d, kept.path.as_str(), SEGMENT_LIMIT)? else {
         return Err(ArchiveFault::NoMemory);
@@ -67,7 +67,7 @@ fn get_segment<D: Disk>(
     ensures cause { IfErr result (λ e. (stanza : Text) (id : ArchiveId) (name : ArchiveName)
         → AreNamesOf stanza id name names.now → has_sum name ≡ true
         → GetCause stanza id name (D.state d.old).view.now (Rises (D.state d.old).faults (D.state d.new).faults) e) }
-    ensures looks { Looks (D.state d.old) (D.state d.new) }
+    ensures looks { OnlyReads (D.state d.old) (D.state d.new) }
 {
     match look_in_folder(alloc, d, names)? {
         Look::Free => Err(ArchiveFault::NotFound),
@@ -85,7 +85,7 @@ fn get_other<D: Disk>(alloc: Global, d: &mut D, names: &FileNames) -> Result<Vec
     ensures cause { IfErr result (λ e. (stanza : Text) (id : ArchiveId) (name : ArchiveName)
         → AreNamesOf stanza id name names.now → has_sum name ≡ false
         → GetCause stanza id name (D.state d.old).view.now (Rises (D.state d.old).faults (D.state d.new).faults) e) }
-    ensures looks { Looks (D.state d.old) (D.state d.new) }
+    ensures looks { OnlyReads (D.state d.old) (D.state d.new) }
 {
     match read_whole(alloc, d, names.prefix.as_str(), HISTORY_LIMIT)? {
         None => Err(ArchiveFault::NotFound),
@@ -107,7 +107,7 @@ fn names_synced<D: Disk>(
         (D.state d.new).view) }
     ensures cause { IsErrOf result ArchiveFault.Disk → Rises (D.state d.old).faults (D.state d.new).faults }
     ensures stops { IfErr result IsDeviceFault }
-    ensures looks { Looks (D.state d.old) (D.state d.new) }
+    ensures looks { OnlyReads (D.state d.old) (D.state d.new) }
 {
     let names = file_names(alloc, stanza, id, *name)?;
     d.sync_directory(names.folder.as_str())?;
@@ -138,7 +138,7 @@ pub fn get<D: Disk>(
         → IsAlikeAt (IsPathOf stanza.now id.now name.now) (D.state d.new).view) }
     ensures cause { IfErr result (GetCause stanza.now id.now name.now (D.state d.old).view.now (Rises
         (D.state d.old).faults (D.state d.new).faults)) }
-    ensures looks { Looks (D.state d.old) (D.state d.new) }
+    ensures looks { OnlyReads (D.state d.old) (D.state d.new) }
 {
     let names = names_synced(alloc, d, stanza, *id, name)?;
     if names.has_sum {
@@ -178,7 +178,7 @@ pub fn present<D: Disk>(
         → IsAlikeAt (IsPathOf stanza.now id.now name.now) (D.state d.new).view) }
     ensures cause { IfErr result (PresentCause stanza.now id.now name.now (D.state d.old).view.now (Rises
         (D.state d.old).faults (D.state d.new).faults)) }
-    ensures looks { Looks (D.state d.old) (D.state d.new) }
+    ensures looks { OnlyReads (D.state d.old) (D.state d.new) }
 {
     let names = file_names(alloc, stanza, *id, *name)?;
     match look_synced(alloc, d, &names)? {

@@ -1,14 +1,14 @@
 // Stores a file of the log in the archive.
 ghost use Rattle.std.specs.Prelude.{◌≡◌, ◌⊎◌, ◌≤◌, Some, IfOk, IfErr, IfSome, OnOk, length};
 ghost use Rattle.sha1.specs.Sha1.{sha1};
-ghost use Rattle.base_devices.specs.States.{Frame, Looks};
+ghost use Rattle.base_devices.specs.States.{CallsProperly, OnlyReads};
 ghost use Rattle.base_devices.specs.Moments.{SyncsFolders};
 ghost use Rattle.base_devices.specs.Cause.{Rises};
 ghost use Rattle.base_devices.specs.Crash.{NowChanges, AllOf};
 ghost use Rattle.base_model.specs.Text.{Text};
 ghost use Rattle.repo_names.specs.Header.{BeginsWith};
 ghost use Rattle.archive_lookup.specs.Causes.{IsFileOf, HeaderCause, PushCause, OnFinding};
-ghost use Rattle.archive_lookup.specs.Looks.{AreNamesOf, Shows};
+ghost use Rattle.archive_lookup.specs.OnlyReads.{AreNamesOf, Shows};
 ghost use Rattle.archive_store.specs.Pushes.{IsPathOf, writes_of, Leaves, LeavesFile};
 ghost use Rattle.archive_store.specs.Pushing.{IsPushedAs, PushFromCause, OnPushFinding, AreOfSystem, HasPlaces, ReadsSum, OtherCause};
 ghost use Rattle.archive_store.specs.Still.{IsStill};
@@ -71,7 +71,7 @@ fn look_checked<D: Disk>(
     ensures cause { IfErr result (λ e. (bytes : Text) → BeginsWith prefix.entry.bytes.now prefix.entry.length bytes
         → PushCause stanza.now id name.now system bytes (D.state d.old).view.now
         (Rises (D.state d.old).faults (D.state d.new).faults) e) }
-    ensures looks { Looks (D.state d.old) (D.state d.new) }
+    ensures looks { OnlyReads (D.state d.old) (D.state d.new) }
 {
     check_bytes(name, system, prefix)?;
     let names = file_names(alloc, stanza, id, *name)?;
@@ -143,7 +143,7 @@ pub fn push_from<D: Disk, H, P: ByteSource<H>>(
     ensures cause { IfErr result (PushFromCause stanza.now id.now name.now system (P.bytes pieces.now device.old)
         prefix.entry.bytes.now prefix.entry.length (D.state d.old).view.now
         (Rises (D.state d.old).faults (D.state d.new).faults) (Rises (P.faults device.old) (P.faults device.new))) }
-    ensures frame { Frame (D.state d.old) (D.state d.new) }
+    ensures frame { CallsProperly (D.state d.old) (D.state d.new) }
     ensures same { P.same device.old device.new }
     ensures holder_later { P.faults device.old ≤ P.faults device.new }
 {
@@ -206,7 +206,7 @@ pub fn push<D: Disk>(
     ensures refused { IfErr result (λ e. OnFinding e (IsStill (D.state d.old).view (D.state d.new).view)) }
     ensures cause { IfErr result (PushCause stanza.now id.now name.now system bytes.now (D.state d.old).view.now
         (Rises (D.state d.old).faults (D.state d.new).faults)) }
-    ensures frame { Frame (D.state d.old) (D.state d.new) }
+    ensures frame { CallsProperly (D.state d.old) (D.state d.new) }
 {
     let prefix = prefix_of(bytes);
     match push_from(

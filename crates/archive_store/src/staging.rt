@@ -1,16 +1,16 @@
 // Puts the bytes of a file at its path.
 ghost use Rattle.std.specs.Prelude.{◌≡◌, ◌⊎◌, ◌≤◌, ◌∷◌, [], false, Some, IfOk, IfErr, IfSome, OnOk, length, option_map, string_bytes};
 ghost use Rattle.sha1.specs.Sha1.{sha1};
-ghost use Rattle.base_devices.specs.States.{Frame, Works};
+ghost use Rattle.base_devices.specs.States.{CallsProperly, Works};
 ghost use Rattle.base_devices.specs.Content.{Name, put, SameBut, IsThere};
-ghost use Rattle.base_devices.specs.Moments.{Unchanged, GrowsBy, is_unsynced};
+ghost use Rattle.base_devices.specs.Moments.{LeavesNoMore, GrowsBy, is_unsynced};
 ghost use Rattle.base_devices.specs.Cause.{Rises};
 ghost use Rattle.base_devices.specs.Crash.{IsTemporary};
 ghost use Rattle.base_disk.specs.Store.{LiesIn, ChangesOnly};
 ghost use Rattle.base_disk.specs.Staged.{staged_name, staging_name, staging_length, HasLength};
 ghost use Rattle.base_model.specs.Text.{Text};
 ghost use Rattle.repo_names.specs.Header.{BeginsWith};
-ghost use Rattle.archive_lookup.specs.Looks.{path_with};
+ghost use Rattle.archive_lookup.specs.OnlyReads.{path_with};
 ghost use Rattle.archive_store.specs.ByteSource.{IsReadFrom};
 ghost use Rattle.archive_store.specs.Pushing.{DeviceCause, PutsPart, PutsWhole};
 
@@ -192,7 +192,7 @@ pub(crate) fn put_new<D: Disk, H, P: ByteSource<H>>(
     ensures only { (sum : Text)
         × ChangesOnly (λ n. (n ≡ string_bytes names.now.temporary) ⊎ (n ≡ path_with names.now sum))
         (D.state d.old).view (D.state d.new).view }
-    ensures frame { Frame (D.state d.old) (D.state d.new) }
+    ensures frame { CallsProperly (D.state d.old) (D.state d.new) }
     ensures same { P.same device.old device.new }
     ensures holder_later { P.faults device.old ≤ P.faults device.new }
     ensures cause { IfErr result (DeviceCause (Rises (D.state d.old).faults (D.state d.new).faults)

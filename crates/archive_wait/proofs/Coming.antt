@@ -3,7 +3,7 @@ use Rattle.std.proofs.Common.{◌≤◌, ◌≡◌, ℕ, ◌+◌, ◌*◌, ◌<�
 use Rattle.std.specs.Prelude.{IfSome, IfNone, IfOk, IfErr}
 use Rattle.base_devices.specs.Cause.{Rises}
 use Rattle.base_devices.specs.Content.{Content}
-use Rattle.base_devices.specs.States.{DiskState, Looks}
+use Rattle.base_devices.specs.States.{DiskState, OnlyReads}
 use Rattle.base_devices.proofs.States.{looks_on}
 use Rattle.base_model.specs.declared.wal.ArchiveId.{ArchiveId}
 use Rattle.base_model.specs.declared.wal.ArchiveName.TheVariants.{Segment as Whole}
@@ -25,10 +25,10 @@ use Rattle.archive_wait.proofs.Held.{lasts_on, none_before, more_lasts, part_las
 pub record HasCome (stanza : Text) (id : ArchiveId) (w : WalPart) (count : ℕ) (segment : Segment) (old new : DiskState) : Type 0 where
   pub within : IsWithinSpan w.size.0 w.span segment
   pub place : position w.size.0 segment ≡ position w.size.0 w.span.start + count
-  pub looks : Looks old new
+  pub looks : OnlyReads old new
   pub held : Lasts stanza (HoldsBefore stanza id w (position w.size.0 segment)) old.view new.view
 
-looks_none : (d : DiskState) → Looks d d
+looks_none : (d : DiskState) → OnlyReads d d
 looks_none d = record { now = refl; time = rests_none d.view; opened = refl; proper = refl; later = omega arith }
 
 -- a fault's cause, from an earlier count on
@@ -56,7 +56,7 @@ module _ (stanza : Text) (id : ArchiveId) (w : WalPart) (rules : IsWalPart w) wh
     come_before h = not_last (segments_per_log w.size.0) segment w.span.stop rules.stop.0.log rules.stop.1
         (let place = come.place in omega (arith, place, is_last))
 
-    pub come_on : count < last → Looks mid new → Lasts stanza (λ f. HoldsSegment stanza id f segment) mid.view new.view →
+    pub come_on : count < last → OnlyReads mid new → Lasts stanza (λ f. HoldsSegment stanza id f segment) mid.view new.view →
         (next : Segment) → IsNext w.size.0 segment next → HasCome stanza id w (count + 1) next old new
     come_on h looks there next follows =
         let within = come.within in
@@ -69,15 +69,15 @@ module _ (stanza : Text) (id : ArchiveId) (w : WalPart) (rules : IsWalPart w) wh
               come.looks.time come.looks.now looks.time looks.now come.held there;
         }
 
-    pub come_last : count ≡ last → Looks mid new → Lasts stanza (λ f. HoldsSegment stanza id f segment) mid.view new.view →
+    pub come_last : count ≡ last → OnlyReads mid new → Lasts stanza (λ f. HoldsSegment stanza id f segment) mid.view new.view →
         Lasts stanza (HoldsPart stanza id w) old.view new.view
     come_last is looks there = part_lasts stanza id w segment come.within
         (let place = come.place in omega (arith, place, is_last)) old.view mid.view new.view
         come.looks.time come.looks.now looks.time looks.now come.held there
 
   module _ (count : ℕ) (segment : Segment) (old mid new : DiskState) (come : HasCome stanza id w count segment old mid)
-      (looks : Looks mid new) where
-    pub looks_so_far : Looks old new
+      (looks : OnlyReads mid new) where
+    pub looks_so_far : OnlyReads old new
     looks_so_far = looks_on old mid new come.looks looks
 
     pub missing_here : IfSome new.view.now (StoresNone stanza id (Whole segment)) →
@@ -93,7 +93,7 @@ module _ (stanza : Text) (id : ArchiveId) (w : WalPart) (rules : IsWalPart w) wh
 
 -- ---- two walks
 
-module _ (stanza : Text) (id : ArchiveId) (w : WalPart) (old mid new : DiskState) (first : Looks old mid) (second : Looks mid new) where
+module _ (stanza : Text) (id : ArchiveId) (w : WalPart) (old mid new : DiskState) (first : OnlyReads old mid) (second : OnlyReads mid new) where
   abbrev Found : DiskState → DiskState → Type 0
   Found a b = Lasts stanza (HoldsPart stanza id w) a.view b.view
 

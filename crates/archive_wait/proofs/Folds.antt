@@ -3,7 +3,7 @@ use Rattle.std.proofs.Common.{◌≡◌, List, [], ◌∷◌, ◌++◌, Some, No
 use Rattle.std.specs.Prelude.{Option, IsSome, ◌&&◌}
 use Rattle.std.proofs.Math.Bool.{and-true}
 use Rattle.base_devices.specs.Content.{Content}
-use Rattle.base_devices.specs.Moments.{View, Unchanged}
+use Rattle.base_devices.specs.Moments.{View, LeavesNoMore}
 use Rattle.base_model.specs.Text.{Text}
 use Rattle.base_model.specs.Repository.{Repository, IsSound}
 use Rattle.base_model.specs.Steps.{Step, Turn, ArchivePushAsync, after, all_of, steps_of}
@@ -24,7 +24,7 @@ pub no_moves : (r : Repository) → steps_of (ArchivePushAsync []) r ≡ []
 no_moves None = refl
 no_moves (Some s) = refl
 
-pub still_goes : (stanza : Text) (a b : View) → Unchanged a b → b.now ≡ a.now → GoesByTurns stanza [] a b
+pub still_goes : (stanza : Text) (a b : View) → LeavesNoMore a b → b.now ≡ a.now → GoesByTurns stanza [] a b
 still_goes stanza a b rests same = record {
   does = record {
     known = λ some. subst (λ (o : Option Content). IsSome o) (sym same) some;

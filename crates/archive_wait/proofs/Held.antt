@@ -5,7 +5,7 @@ use Rattle.std.proofs.lemmas.Nat.{mul-add-lt}
 use Rattle.base_text.specs.Sum.{IsSum}
 use Rattle.base_devices.specs.Content.{Content}
 use Rattle.base_devices.specs.Crash.{IsAlikeAt}
-use Rattle.base_devices.specs.Moments.{View, Unchanged}
+use Rattle.base_devices.specs.Moments.{View, LeavesNoMore}
 use Rattle.base_devices.proofs.Nows.{known_as}
 use Rattle.base_model.specs.declared.wal.ArchiveId.{ArchiveId}
 use Rattle.base_model.specs.declared.wal.ArchiveName.TheVariants.{Segment as Whole}
@@ -74,7 +74,7 @@ if_both P Q R both None p q = tt
 if_both P Q R both (Some f) p q = both f p q
 
 pub lasts_on : (stanza : Text) (P Q R : Content → Type 0) → ((f : Content) → P f → Q f → R f) → (a b c : View) →
-    Unchanged a b → b.now ≡ a.now → Unchanged b c → c.now ≡ b.now → Lasts stanza P a b → Lasts stanza Q b c → Lasts stanza R a c
+    LeavesNoMore a b → b.now ≡ a.now → LeavesNoMore b c → c.now ≡ b.now → Lasts stanza P a b → Lasts stanza Q b c → Lasts stanza R a c
 lasts_on stanza P Q R both a b c first first_same second same p q = record {
   now = if_both P Q R both c.now (subst (λ (o : Option Content). IfSome o P) (sym same) p.now) q.now;
   left = λ synced known f leaves. both f (p.left synced known f (old_leaves b c second f same leaves))
@@ -114,7 +114,7 @@ module _ (stanza : Text) (id : ArchiveId) (w : WalPart) where
 
     -- this segment was found too
     pub more_lasts : (place : ℕ) → place ≡ position w.size.0 segment + 1 → (a b c : View) →
-        Unchanged a b → b.now ≡ a.now → Unchanged b c → c.now ≡ b.now →
+        LeavesNoMore a b → b.now ≡ a.now → LeavesNoMore b c → c.now ≡ b.now →
         Lasts stanza (HoldsBefore stanza id w (position w.size.0 segment)) a b →
         Lasts stanza (λ f. HoldsSegment stanza id f segment) b c → Lasts stanza (HoldsBefore stanza id w place) a c
     more_lasts place is = lasts_on stanza (HoldsBefore stanza id w (position w.size.0 segment))
@@ -127,7 +127,7 @@ module _ (stanza : Text) (id : ArchiveId) (w : WalPart) where
 
     -- .. which is the last
     pub part_lasts : position w.size.0 segment ≡ position w.size.0 w.span.stop → (a b c : View) →
-        Unchanged a b → b.now ≡ a.now → Unchanged b c → c.now ≡ b.now →
+        LeavesNoMore a b → b.now ≡ a.now → LeavesNoMore b c → c.now ≡ b.now →
         Lasts stanza (HoldsBefore stanza id w (position w.size.0 segment)) a b →
         Lasts stanza (λ f. HoldsSegment stanza id f segment) b c → Lasts stanza (HoldsPart stanza id w) a c
     part_lasts last = lasts_on stanza (HoldsBefore stanza id w (position w.size.0 segment))

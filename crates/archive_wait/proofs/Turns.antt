@@ -3,7 +3,7 @@ use Rattle.std.proofs.Common.{◌≡◌, List, [], ◌∷◌, ◌++◌, Option, 
 use Rattle.std.specs.Prelude.{IfSome}
 use Rattle.std.proofs.Math.Bool.{and-true}
 use Rattle.std.proofs.lemmas.List.{map-append, append-nil}
-use Rattle.base_devices.specs.Moments.{View, Unchanged}
+use Rattle.base_devices.specs.Moments.{View, LeavesNoMore}
 use Rattle.base_disk.proofs.Changes.{only_on, only_none, only_rests}
 use Rattle.base_model.specs.Steps.{Turn}
 use Rattle.archive_lookup.specs.Stored.{ChangesArchive}
@@ -38,7 +38,7 @@ turn_went ended old (Some k) a b s t on goes repo spool gives known =
 
 -- ---- none
 
-pub none_went : (whole : Bool) (o : Option Account) (a b s : View) → Unchanged a b → b.now ≡ a.now →
+pub none_went : (whole : Bool) (o : Option Account) (a b s : View) → LeavesNoMore a b → b.now ≡ a.now →
     IfSome o (λ k. TurnsDone whole o k a b s s)
 none_went whole None a b s rests same = tt
 none_went whole (Some k) a b s rests same = record {

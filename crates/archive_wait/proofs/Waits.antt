@@ -5,7 +5,7 @@ use Rattle.base_devices.specs.Cause.{Rises}
 use Rattle.base_devices.specs.Content.{Content}
 use Rattle.base_devices.specs.Crash.{Leaves}
 use Rattle.base_devices.specs.Moments.{View}
-use Rattle.base_devices.specs.States.{DiskState, Frame, Looks}
+use Rattle.base_devices.specs.States.{DiskState, CallsProperly, OnlyReads}
 use Rattle.base_model.specs.declared.wal.ArchiveId.{ArchiveId}
 use Rattle.base_model.specs.declared.wal.Segment.{Segment}
 use Rattle.base_model.specs.declared.wal.WalPart.{WalPart}
@@ -25,19 +25,19 @@ use Rattle.archive_wait.proofs.Turns.{none_went, went_after}
 -- this many steps of others were waited for, and each succeeded
 pub record HasWaited (count : ℕ) (others others2 : ProcessesState) (repo repo2 spool spool2 : DiskState) : Type 0 where
   pub went : IfSome others2.account (λ k. TurnsDone true others.account k repo.view repo2.view spool.view spool2.view)
-  pub repo_frame : Frame repo repo2
-  pub spool_frame : Frame spool spool2
+  pub repo_frame : CallsProperly repo repo2
+  pub spool_frame : CallsProperly spool spool2
   pub started : others2.started ≡ others.started
   pub counts : Counts count others.turns others2.turns
   pub later : others.faults ≤ others2.faults
 
-frame_none : (d : DiskState) → Frame d d
+frame_none : (d : DiskState) → CallsProperly d d
 frame_none d = record { opened = refl; proper = refl; later = omega arith }
 
-frame_on : (a b c : DiskState) → Frame a b → Frame b c → Frame a c
+frame_on : (a b c : DiskState) → CallsProperly a b → CallsProperly b c → CallsProperly a c
 frame_on a b c p q = record { opened = q.opened ∙ p.opened; proper = q.proper ∙ p.proper; later = omega (arith, p.later, q.later) }
 
-frame_looks : (a b : DiskState) → Looks a b → Frame a b
+frame_looks : (a b : DiskState) → OnlyReads a b → CallsProperly a b
 frame_looks a b looks = record { opened = looks.opened; proper = looks.proper; later = looks.later }
 
 if_some : {X : Type 0} (P Q : X → Type 0) (o : Option X) → ((x : X) → P x → Q x) → IfSome o P → IfSome o Q
@@ -63,7 +63,7 @@ one_more n before mid after p q = by n p
 module _ (count : ℕ) (others others2 : ProcessesState) (repo repo2 spool spool2 : DiskState)
     (waited : HasWaited count others others2 repo repo2 spool spool2) where
   -- and then the segments were looked for
-  pub looked : (repo3 : DiskState) → Looks repo2 repo3 → HasWaited count others others2 repo repo3 spool spool2
+  pub looked : (repo3 : DiskState) → OnlyReads repo2 repo3 → HasWaited count others others2 repo repo3 spool spool2
   looked repo3 looks = record {
     went = went_after true others.account others2.account repo.view repo2.view repo3.view spool.view spool2.view spool2.view
         others2.account waited.went
@@ -104,22 +104,22 @@ module _ (count : ℕ) (others others2 : ProcessesState) (repo repo2 spool spool
       let synced : IsSynced k.stanza repo2.view = record { fixed = kept.fixed; places = kept.places } in
       lasts.left (subst (λ (t : Text). IsSynced t repo2.view) of synced) (w.repository.does.known some) f leaves) waited.went
 
-  module _ (whole : Bool) (others3 : ProcessesState) (repo3 spool3 : DiskState) (repo_frame : Frame repo2 repo3) (spool_frame : Frame spool2 spool3)
+  module _ (whole : Bool) (others3 : ProcessesState) (repo3 spool3 : DiskState) (repo_frame : CallsProperly repo2 repo3) (spool_frame : CallsProperly spool2 spool3)
       (went : IfSome others3.account (λ k. TurnsDone whole others2.account k repo2.view repo3.view spool2.view spool3.view)) where
     -- and then one step of others more
     pub turn_after : IfSome others3.account (λ k. TurnsDone whole others.account k repo.view repo3.view spool.view spool3.view)
     turn_after = went_after whole others.account others2.account repo.view repo2.view repo3.view spool.view spool2.view spool3.view
         others3.account waited.went went
 
-    pub repo_after : Frame repo repo3
+    pub repo_after : CallsProperly repo repo3
     repo_after = frame_on repo repo2 repo3 waited.repo_frame repo_frame
 
-    pub spool_after : Frame spool spool3
+    pub spool_after : CallsProperly spool spool3
     spool_after = frame_on spool spool2 spool3 waited.spool_frame spool_frame
 
 -- what is known of a wait after which the segments were looked for
 pub looked_went : (count : ℕ) (others others2 : ProcessesState) (repo repo2 repo3 spool spool2 : DiskState) →
-    HasWaited count others others2 repo repo2 spool spool2 → Looks repo2 repo3 → (whole : Bool) →
+    HasWaited count others others2 repo repo2 spool spool2 → OnlyReads repo2 repo3 → (whole : Bool) →
     IfSome others2.account (λ k. TurnsDone whole others.account k repo.view repo3.view spool.view spool2.view)
 looked_went count others others2 repo repo2 repo3 spool spool2 waited looks whole =
     went_any count others others2 repo repo3 spool spool2

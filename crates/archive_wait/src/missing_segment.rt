@@ -2,7 +2,7 @@
 ghost use Rattle.std.specs.Prelude.{◌≡◌, ◌+◌, ◌*◌, ◌^◌, ◌<◌, ◌≤◌, ℕ, true, false, Option, IfOk, IfErr, IfSome, IfNone};
 ghost use Rattle.base_devices.specs.Cause.{Rises};
 ghost use Rattle.base_devices.specs.Content.{Content};
-ghost use Rattle.base_devices.specs.States.{Looks};
+ghost use Rattle.base_devices.specs.States.{OnlyReads};
 ghost use Rattle.base_model.specs.declared.wal.ArchiveId.{ArchiveId};
 ghost use Rattle.base_model.specs.declared.wal.ArchiveName.TheVariants.{Segment as Whole};
 ghost use Rattle.base_model.specs.declared.wal.Segment.{Segment};
@@ -48,7 +48,7 @@ fn is_stored<D: Disk>(
         (D.state repo.old).view (D.state repo.new).view) }
     ensures missing { IfOk result
         (λ b. b ≡ false → IfSome (D.state repo.new).view.now (StoresNone stanza.now id (Whole segment))) }
-    ensures looks { Looks (D.state repo.old) (D.state repo.new) }
+    ensures looks { OnlyReads (D.state repo.old) (D.state repo.new) }
     ensures cause { IfErr result (LookCause stanza.now id segment (D.state repo.new).view.now
         (Rises (D.state repo.old).faults (D.state repo.new).faults)) }
 {
@@ -96,7 +96,7 @@ fn look_once<D: Disk>(
         (D.state repo.old).view (D.state repo.new).view)) }
     ensures missing { IfOk result (λ o. IfSome o (λ s. IsWithinSpan wal.now.size.0 wal.now.span s
         × IfSome (D.state repo.new).view.now (IsFirstMissing stanza.now id.now wal.now s))) }
-    ensures looks { Looks (D.state repo.old) (D.state repo.new) }
+    ensures looks { OnlyReads (D.state repo.old) (D.state repo.new) }
     ensures cause { IfErr result (PartCause stanza.now id.now wal.now (D.state repo.new).view.now
         (Rises (D.state repo.old).faults (D.state repo.new).faults)) }
 {
@@ -128,7 +128,7 @@ pub(crate) fn first_missing<D: Disk>(
         (D.state repo.old).view (D.state repo.new).view)) }
     ensures missing { IfOk result (λ o. IfSome o (λ s. IsWithinSpan wal.now.size.0 wal.now.span s
         × IfSome (D.state repo.new).view.now (IsFirstMissing stanza.now id.now wal.now s))) }
-    ensures looks { Looks (D.state repo.old) (D.state repo.new) }
+    ensures looks { OnlyReads (D.state repo.old) (D.state repo.new) }
     ensures cause { IfErr result (PartCause stanza.now id.now wal.now (D.state repo.new).view.now
         (Rises (D.state repo.old).faults (D.state repo.new).faults)) }
 {

@@ -3,7 +3,7 @@ ghost use Rattle.std.specs.Prelude.{◌≡◌, ◌+◌, ◌-◌, ◌^◌, ◌≤
 ghost use Rattle.base_devices.specs.Cause.{Rises};
 ghost use Rattle.base_devices.specs.Content.{Content};
 ghost use Rattle.base_devices.specs.Crash.{Leaves};
-ghost use Rattle.base_devices.specs.States.{Frame};
+ghost use Rattle.base_devices.specs.States.{CallsProperly};
 ghost use Rattle.base_model.specs.Log.{Done, KeepsRepository};
 ghost use Rattle.base_model.specs.ManifestText.{IsWalPart};
 ghost use Rattle.base_model.specs.Repository.{Repository};
@@ -28,8 +28,8 @@ fn wait_turn<D: Disk, S: Disk, A: OtherProcesses<D, S>>(
     ensures went { IfSome (A.state processes.new).account (λ a. TurnsDone (is_ok result) (A.state processes.old).account
         a
         (D.state repo.old).view (D.state repo.new).view (S.state spool.old).view (S.state spool.new).view) }
-    ensures repo_frame { Frame (D.state repo.old) (D.state repo.new) }
-    ensures spool_frame { Frame (S.state spool.old) (S.state spool.new) }
+    ensures repo_frame { CallsProperly (D.state repo.old) (D.state repo.new) }
+    ensures spool_frame { CallsProperly (S.state spool.old) (S.state spool.new) }
     ensures started { (A.state processes.new).started ≡ (A.state processes.old).started }
     ensures counted { OnOk result ((A.state processes.new).turns ≡ min ((A.state processes.old).turns + 1) (2 ^ 64 - 1)) }
     ensures uncounted { OnErr result ((A.state processes.new).turns ≡ (A.state processes.old).turns) }
@@ -68,8 +68,8 @@ pub fn await_segments<D: Disk, S: Disk, A: OtherProcesses<D, S>>(
     ensures went { IfSome (A.state processes.new).account (λ a. TurnsDone (is_ok result) (A.state processes.old).account
         a
         (D.state repo.old).view (D.state repo.new).view (S.state spool.old).view (S.state spool.new).view) }
-    ensures repo_frame { Frame (D.state repo.old) (D.state repo.new) }
-    ensures spool_frame { Frame (S.state spool.old) (S.state spool.new) }
+    ensures repo_frame { CallsProperly (D.state repo.old) (D.state repo.new) }
+    ensures spool_frame { CallsProperly (S.state spool.old) (S.state spool.new) }
     ensures started { (A.state processes.new).started ≡ (A.state processes.old).started }
     ensures few { (n : ℕ) × (n ≤ turns) × Counts n (A.state processes.old).turns (A.state processes.new).turns }
     ensures later { (A.state processes.old).faults ≤ (A.state processes.new).faults }

@@ -1,7 +1,7 @@
 -- A backup as a command of the log, and what it holds (pgBackRest user guide, "Backup").
 use Rattle.std.specs.Prelude.{◌≡◌, ◌≢◌, ◌⊎◌, ◌↔◌, ◌<◌, ℕ, Bool, true, false, List, [], length, Option, Some, None, IsSome, slice_get}
 use Rattle.std.specs.FinMap.{get}
-use Rattle.base_devices.specs.declared.tree.Node.TheVariants as nodes
+use Rattle.base_devices.specs.declared.data_folder.Node.TheVariants as nodes
 use Rattle.base_devices.specs.Content.{Content}
 use Rattle.base_devices.specs.Links.{LinkState}
 use Rattle.base_devices.specs.DataFolder.{Nodes, file, folder, file_bytes}

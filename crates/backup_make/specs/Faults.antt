@@ -2,8 +2,8 @@
 use Rattle.std.specs.Prelude.{◌≡◌, ◌<◌, ℕ, List, [], ◌∷◌, Option, Some, None, length, slice_get, string_bytes}
 use Rattle.base_devices.specs.Links.{LinkState, last_five}
 use Rattle.base_devices.specs.Cause.{Rises}
-use Rattle.base_devices.specs.declared.stop.DeviceError.{DeviceError}
-use Rattle.base_devices.specs.declared.stop.DeviceError.TheVariants as stops
+use Rattle.base_devices.specs.declared.device_error.DeviceError.{DeviceError}
+use Rattle.base_devices.specs.declared.device_error.DeviceError.TheVariants as stops
 use Rattle.worker_protocol.specs.Frames.{Item, Job, spell}
 use Rattle.worker_protocol.specs.Frames.Frame.{Unread}
 use Rattle.base_model.specs.Text.{Text, In}

@@ -1,6 +1,6 @@
 // Stores the bytes of a backup.
 ghost use Rattle.std.specs.Prelude.{◌≡◌, ◌<◌, ◌^◌, Some, All, map, length, vec_len, slice_get, string_bytes, IfOk, IfErr, OnOk};
-ghost use Rattle.base_devices.specs.States.{Frame};
+ghost use Rattle.base_devices.specs.States.{CallsProperly};
 ghost use Rattle.worker_protocol.specs.Frames.{FitsJob, Item};
 ghost use Rattle.worker_protocol.specs.Views.{job_of};
 ghost use Rattle.worker_pool.specs.Payloads.{AllByFile};
@@ -53,7 +53,7 @@ pub fn store<'a, D: Disk, L: Link, U: Scheduler>(
     ensures sealed { OnOk result (IsSealed (is_own folder.now) (D.state d.new).view) }
     ensures placed { IfOk result (λ k. IsPlacedIn (names_of k) (stored_in k (D.state d.new).view.now)
         (D.state d.new).view) }
-    ensures frame { Frame (D.state d.old) (D.state d.new) }
+    ensures frame { CallsProperly (D.state d.old) (D.state d.new) }
 
     // Each job's bytes lie at its name, as many as the keeper reports, and they are what the links read.
     ensures names { IfOk result (λ k. names_of k ≡ map string_bytes names.now) }

@@ -3,7 +3,7 @@ ghost use Rattle.std.specs.Prelude.{◌≡◌, ◌≤◌, List, None, Some, IfOk
 ghost use Rattle.base_devices.specs.Content.{SameBut, at};
 ghost use Rattle.base_devices.specs.Links.{LinkState};
 ghost use Rattle.base_devices.specs.Moments.{GrowsBy};
-ghost use Rattle.base_devices.specs.States.{Frame, last_second};
+ghost use Rattle.base_devices.specs.States.{CallsProperly, last_second};
 ghost use Rattle.backup_sink.specs.Relation.{Touches};
 ghost use Rattle.backup_sink.specs.Sealed.{IsSealedAt};
 ghost use Rattle.base_crash_lists.specs.Beside.{StaysBeside};
@@ -76,7 +76,7 @@ fn store_label<D: Disk>(
     ensures time { GrowsBy (λ n _. n ≡ label_name draft.now) (λ n. n ≡ label_name draft.now)
         (D.state d.old).view (D.state d.new).view }
     ensures sealed { OnOk result (IsSealedAt (label_name draft.now) (D.state d.new).view) }
-    ensures frame { Frame (D.state d.old) (D.state d.new) }
+    ensures frame { CallsProperly (D.state d.old) (D.state d.new) }
     ensures fault { IfErr result (λ e. WriteFails e (D.state d.old).faults (D.state d.new).faults) }
 {
     let folder = folder_name(alloc, draft.stanza, &draft.label)?;
@@ -106,7 +106,7 @@ pub fn close_online<'a, D: Disk, C: Clock>(
         (D.state d.new).view) }
     ensures unlisted { LeavesList (fetched_draft fetched.entry) (D.state d.old).view (D.state d.new).view }
     ensures beside { StaysBeside (fetched_draft fetched.entry).stanza.now (D.state d.old).view (D.state d.new).view }
-    ensures frame { Frame (D.state d.old) (D.state d.new) }
+    ensures frame { CallsProperly (D.state d.old) (D.state d.new) }
     ensures later { (C.state clock.old).faults ≤ (C.state clock.new).faults }
     ensures least { (C.state clock.old).least ≤ (C.state clock.new).least }
     ensures fault { IfErr result (λ e. CloseFails e (D.state d.old).faults (D.state d.new).faults

@@ -1,6 +1,6 @@
 // Makes a backup: its bytes, its manifest, and the stanza's list.
 ghost use Rattle.std.specs.Prelude.{◌≡◌, ◌<◌, ◌≤◌, ◌^◌, map, vec_len, IfErr, IfSome, IsSome, OnOk};
-ghost use Rattle.base_devices.specs.States.{Frame};
+ghost use Rattle.base_devices.specs.States.{CallsProperly};
 ghost use Rattle.base_crash_lists.specs.Beside.{StaysBeside};
 ghost use Rattle.worker_pool.specs.Run.{AddsLosses, Left, AreReady};
 ghost use Rattle.backup_make.specs.Draft.{IsDraft, jobs_in, main_of};
@@ -40,7 +40,7 @@ pub fn make<D: Disk, L: Link, U: Scheduler, C: Clock>(
     ensures alike { OnOk result (IsSome (D.state d.old).view.now
         → IfSome (D.state d.new).view.now (AgreeAt (main_of draft.entry))) }
     ensures beside { StaysBeside draft.entry.stanza.now (D.state d.old).view (D.state d.new).view }
-    ensures frame { Frame (D.state d.old) (D.state d.new) }
+    ensures frame { CallsProperly (D.state d.old) (D.state d.new) }
     ensures later { (C.state clock.old).faults ≤ (C.state clock.new).faults }
     ensures least { (C.state clock.old).least ≤ (C.state clock.new).least }
 

@@ -1,6 +1,6 @@
 // Has the jobs of a draft done.
 ghost use Rattle.std.specs.Prelude.{◌≡◌, ◌<◌, ◌^◌, None, map, vec_len, string_bytes, IfOk, IfErr, OnOk};
-ghost use Rattle.base_devices.specs.States.{Frame};
+ghost use Rattle.base_devices.specs.States.{CallsProperly};
 ghost use Rattle.base_model.specs.InfoFiles.{IsLabel};
 ghost use Rattle.base_model.specs.Names.{label_folder};
 ghost use Rattle.worker_pool.specs.Run.{AddsLosses, Left, AreReady};
@@ -50,7 +50,7 @@ fn gather<D: Disk, L: Link, U: Scheduler>(
     ensures sealed { OnOk result (IsSealed (is_own_of draft.now) (D.state d.new).view) }
     ensures stored { IfOk result (λ ends. Stored draft.now (map L.link_state links.old.items)
         (map (λ v. v.items) ends.items) (D.state d.new).view.now) }
-    ensures frame { Frame (D.state d.old) (D.state d.new) }
+    ensures frame { CallsProperly (D.state d.old) (D.state d.new) }
     ensures left { OnOk result (Left (jobs_in draft.now) (map L.link_state links.old.items)
         lost.old.items lost.new.items (map L.link_state links.new.items)) }
     ensures known { AddsLosses (jobs_in draft.now) (map L.link_state links.old.items) lost.old.items lost.new.items }
@@ -99,7 +99,7 @@ pub fn fetch<'a, D: Disk, L: Link, U: Scheduler>(
         (D.state d.new).view) }
     ensures unlisted { LeavesList draft.entry (D.state d.old).view (D.state d.new).view }
     ensures beside { StaysBeside draft.entry.stanza.now (D.state d.old).view (D.state d.new).view }
-    ensures frame { Frame (D.state d.old) (D.state d.new) }
+    ensures frame { CallsProperly (D.state d.old) (D.state d.new) }
 
     // Each link that was lost is reported, and at Ok the others are left.
     ensures left { OnOk result (Left (jobs_in draft.entry) (map L.link_state links.old.items)

@@ -1,7 +1,7 @@
 // Saves the manifest of a backup, and lists it.
 ghost use Rattle.std.specs.Prelude.{◌≡◌, List, IfErr, IfSome, IsSome, OnOk};
 ghost use Rattle.base_devices.specs.Links.{LinkState};
-ghost use Rattle.base_devices.specs.States.{Frame};
+ghost use Rattle.base_devices.specs.States.{CallsProperly};
 ghost use Rattle.base_crash_lists.specs.Beside.{StaysBeside};
 ghost use Rattle.repo_stanza.specs.Pairs.{AgreeAt};
 ghost use Rattle.backup_make.specs.Draft.{main_of};
@@ -33,7 +33,7 @@ pub fn publish<D: Disk>(alloc: Global, d: &mut D, closed: Closed<'_>) -> Result<
     ensures alike { OnOk result (IsSome (D.state d.old).view.now
         → IfSome (D.state d.new).view.now (AgreeAt (main_of (closed_draft closed.entry)))) }
     ensures beside { StaysBeside (closed_draft closed.entry).stanza.now (D.state d.old).view (D.state d.new).view }
-    ensures frame { Frame (D.state d.old) (D.state d.new) }
+    ensures frame { CallsProperly (D.state d.old) (D.state d.new) }
     ensures fault { IfErr result (λ e. PublishFails e (closed_draft closed.entry) (closed_online closed.entry)
         (closed_ends closed.entry) (D.state d.old).faults (D.state d.new).faults) }
 {

@@ -5,8 +5,8 @@ use Rattle.std.proofs.lemmas.Bool.{and_parts}
 use Rattle.std.proofs.lemmas.Cmp.{nat_list_cmp_total}
 use Rattle.base_devices.specs.Order.{is_before, are_after, are_in_order}
 use Rattle.base_devices.specs.DataFolder.{Nodes, IsTreeListing}
-use Rattle.base_devices.specs.declared.tree.Node.{Node}
-use Rattle.base_devices.specs.declared.tree.Node.TheVariants as nodes
+use Rattle.base_devices.specs.declared.data_folder.Node.{Node}
+use Rattle.base_devices.specs.declared.data_folder.Node.TheVariants as nodes
 use Rattle.base_model.specs.Text.{Text, In, ◌⫽◌}
 use Rattle.repo_ini.proofs.Orders.{less_from, not_itself}
 use Rattle.backup_plan.specs.declared.fault.PlanFault.{PlanFault}

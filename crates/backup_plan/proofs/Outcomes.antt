@@ -2,7 +2,7 @@
 use Rattle.std.proofs.Common.{◌≡◌, inl, Bool, true, false, List, refl, sym, subst}
 use Rattle.std.proofs.Common.{String, Global, string_bytes}
 use Rattle.std.specs.Prelude.{codes}
-use Rattle.base_devices.specs.declared.tree.Node.TheVariants as nodes
+use Rattle.base_devices.specs.declared.data_folder.Node.TheVariants as nodes
 use Rattle.base_model.specs.Text.{Text, In}
 use Rattle.base_model.specs.ManifestText.{IsFolder}
 use Rattle.backup_plan.specs.declared.fault.PlanFault.TheVariants as faults

@@ -8,8 +8,8 @@ use Rattle.std.proofs.lemmas.List.Folds.{list_any-append}
 use Rattle.std.proofs.lemmas.List.Splits.{slice_split-cons_yes, slice_split-cons_no, length-slice_split}
 use Rattle.std.proofs.lemmas.Slice.Eq.{starts_is, bytes_eq-Decides}
 use Rattle.base_devices.specs.Content.{is_below}
-use Rattle.base_devices.specs.declared.tree.Node.{Node}
-use Rattle.base_devices.specs.declared.tree.Node.TheVariants as nodes
+use Rattle.base_devices.specs.declared.data_folder.Node.{Node}
+use Rattle.base_devices.specs.declared.data_folder.Node.TheVariants as nodes
 use Rattle.base_model.specs.Text.{Text, ◌⫽◌}
 use Rattle.base_model.specs.Paths.{elements}
 use Rattle.base_model.proofs.Below.{below_prefix}

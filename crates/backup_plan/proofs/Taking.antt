@@ -3,7 +3,7 @@ use Rattle.std.proofs.Common.{◌≡◌, ⊎_elim, ℕ, ◌+◌, ◌<◌, Bool, 
 use Rattle.std.specs.Prelude.{if◌then◌else◌}
 use Rattle.std.proofs.lemmas.List.{map-append}
 use Rattle.std.proofs.lemmas.List.Elements.{filter-append}
-use Rattle.base_devices.specs.declared.tree.FolderEntry as rust
+use Rattle.base_devices.specs.declared.data_folder.FolderEntry as rust
 use Rattle.base_model.specs.Text.{Text, In}
 use Rattle.backup_plan.specs.declared.fault.PlanFault.{PlanFault}
 use Rattle.backup_plan.specs.declared.fault.PlanFault.TheVariants as faults

@@ -1,8 +1,8 @@
 -- What a backup takes of a listing, and why a listing is refused (pgBackRest user guide, "Backup"; PostgreSQL manual,
 -- "Database File Layout"; some own).
 use Rattle.std.specs.Prelude.{◌≡◌, ◌≢◌, ◌⊎◌, ◌≤◌, ◌<◌, ◌^◌, ◌&&◌, not, ℕ, Bool, true, false, List, [], ◌∷◌, ◌++◌, map, filter, length, codes, sum_by, string_bytes}
-use Rattle.base_devices.specs.declared.tree.Node.{Node}
-use Rattle.base_devices.specs.declared.tree.Node.TheVariants as nodes
+use Rattle.base_devices.specs.declared.data_folder.Node.{Node}
+use Rattle.base_devices.specs.declared.data_folder.Node.TheVariants as nodes
 use Rattle.base_devices.specs.Crash.{IsTemporary}
 use Rattle.base_devices.specs.Order.{are_in_order}
 use Rattle.base_model.specs.Text.{Text, In}

@@ -2,8 +2,8 @@
 -- "Database File Layout"; some own).
 use Rattle.std.specs.Prelude.{◌&&◌, ◌||◌, Bool, true, false, nat_eq, bytes_eq, codes}
 use Rattle.std.specs.List.{list_any, starts_with, ends_with}
-use Rattle.base_devices.specs.declared.tree.Node.{Node}
-use Rattle.base_devices.specs.declared.tree.Node.TheVariants as nodes
+use Rattle.base_devices.specs.declared.data_folder.Node.{Node}
+use Rattle.base_devices.specs.declared.data_folder.Node.TheVariants as nodes
 use Rattle.base_devices.specs.Content.{is_below}
 use Rattle.base_model.specs.Text.{Text}
 use Rattle.base_model.specs.Paths.{elements}

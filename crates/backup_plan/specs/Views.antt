@@ -1,8 +1,8 @@
 -- From the program's values to those of the definitions.
 use Rattle.std.specs.Prelude.{map, string_bytes}
 use Rattle.worker_protocol.specs.Views.{job_of, items_of}
-use Rattle.base_devices.specs.declared.tree.FolderEntry as rust_seen
-use Rattle.base_devices.specs.declared.tree.Node.{Node}
+use Rattle.base_devices.specs.declared.data_folder.FolderEntry as rust_seen
+use Rattle.base_devices.specs.declared.data_folder.Node.{Node}
 use Rattle.base_model.specs.Text.{Text}
 use Rattle.backup_plan.specs.declared.values.Taken as rust_taken
 use Rattle.backup_plan.specs.declared.listing_walk.Walk as rust_walk

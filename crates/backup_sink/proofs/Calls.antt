@@ -4,10 +4,10 @@ use Rattle.std.specs.Prelude.{IfSome, IsSome, IsSomeAnd, OnOk, IsErrOf}
 use Rattle.std.proofs.lemmas.Bool.Decides.{eqb_tells}
 use Rattle.std.proofs.lemmas.Option.{slice_get_within}
 use Rattle.base_devices.specs.Content.{Name, Value, Content, at, SameBut, IsThere}
-use Rattle.base_devices.specs.States.{DiskState, Frame, Works}
+use Rattle.base_devices.specs.States.{DiskState, CallsProperly, Works}
 use Rattle.base_devices.specs.Cause.{Rises, HasCause}
-use Rattle.base_devices.specs.declared.stop.DeviceError.{DeviceError}
-use Rattle.base_devices.specs.declared.stop.DeviceError.TheVariants.{Failed, NoMemory}
+use Rattle.base_devices.specs.declared.device_error.DeviceError.{DeviceError}
+use Rattle.base_devices.specs.declared.device_error.DeviceError.TheVariants.{Failed, NoMemory}
 use Rattle.worker_protocol.specs.Frames.{Job}
 use Rattle.worker_protocol.specs.PartSinkState.{JobItems, PartSinkState, KeepLeaves, Adds, Ends, IsFresh, IsNext, HasRoom}
 use Rattle.worker_protocol.specs.Lists.{ChangesAt}
@@ -99,7 +99,7 @@ module _ (folder : Name) (names : List Name) (job : ℕ) (name : Name) (a b : Di
   touches_job : Touches (is_own folder) a.view b.view
   touches_job = touches_one (is_own folder) name a.view b.view (plan.own job name named) others works.time
 
-  frame : Frame a b
+  frame : CallsProperly a b
   frame = record { opened = works.opened; proper = works.proper; later = works.later }
 
   -- at Ok

@@ -4,7 +4,7 @@ use Rattle.std.specs.Prelude.{IsTrue, codes, ◌||◌}
 use Rattle.std.proofs.lemmas.Bool.{false_from_ne_true}
 use Rattle.std.proofs.lemmas.Slice.Eq.{bytes_eq-Decides}
 use Rattle.base_devices.specs.Content.{Name, Value, Content, HasBytes, Holds, is_below, at}
-use Rattle.base_devices.specs.Moments.{View, GrowsBy, Unchanged, SyncsFolders, is_unsynced}
+use Rattle.base_devices.specs.Moments.{View, GrowsBy, LeavesNoMore, SyncsFolders, is_unsynced}
 use Rattle.base_devices.proofs.Steps.{goes_wide}
 use Rattle.base_disk.proofs.Below.{below_prefix}
 use Rattle.base_model.specs.Text.{◌⫽◌}
@@ -61,7 +61,7 @@ module _ (folder : Name) where
   pub bundles_own : (n : Name) → is_below (folder ⫽ codes "bundle") n ≡ true → is_own folder n ≡ true
   bundles_own n h = right_own (is_below files n) (is_below bundles n) h
 
-  pub touches_rests : (a b : View) → b.now ≡ a.now → Unchanged a b → Touches (is_own folder) a b
+  pub touches_rests : (a b : View) → b.now ≡ a.now → LeavesNoMore a b → Touches (is_own folder) a b
   touches_rests a b now rests = record {
     now = λ q no. ap (at q) now;
     time = goes_wide (λ _ _. ⊥) (λ n _. is_own folder n ≡ true) (λ _. ⊥) (λ n. is_own folder n ≡ true) a b (λ n v h. absurd h) (λ n h. absurd h) rests;
@@ -72,7 +72,7 @@ module _ (folder : Name) where
       → ((n : Name) → IsTrue (is_below (folder ⫽ codes "pg_data") n) → HasBytes a.now n → is_unsynced b n ≡ false)
       → GrowsBy (λ n v. IsTrue (is_below (folder ⫽ codes "bundle") n) × Holds b.now n v) (λ n. IsTrue (is_below (folder ⫽ codes "bundle") n)) b c
       → ((n : Name) → IsTrue (is_below (folder ⫽ codes "bundle") n) → HasBytes b.now n → is_unsynced c n ≡ false)
-      → Unchanged c d → SyncsFolders (λ n. IsTrue (is_below folder n)) c d → IsSealed (is_own folder) d
+      → LeavesNoMore c d → SyncsFolders (λ n. IsTrue (is_below folder n)) c d → IsSealed (is_own folder) d
   sealed a b c d ab bc cd first time second rests settled = record {
     synced = λ n own has. stays (λ _ _. ⊥) (λ _. ⊥) c d n rests (λ h. h) (synced n own has);
     only = λ n x own has keep. subst (λ (o : Option Content). Holds o n x) (sym cd) (settled n x (own_below folder n own) (synced n own has) keep);

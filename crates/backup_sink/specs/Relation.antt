@@ -2,7 +2,7 @@
 use Rattle.std.proofs.Common.{◌≡◌, ◌≤◌, ◌⊎◌, ℕ, Bool, true, false, refl, sym, ◌∙◌, ap, subst, arith, inl, inr, ⊎_elim}
 use Rattle.base_devices.specs.Content.{Name, Value, at, SameBut}
 use Rattle.base_devices.specs.Moments.{View, GrowsBy}
-use Rattle.base_devices.specs.States.{DiskState, Frame}
+use Rattle.base_devices.specs.States.{DiskState, CallsProperly}
 use Rattle.base_devices.specs.Cause.{Rises}
 use Rattle.base_devices.proofs.Steps.{goes_on, goes_wide}
 
@@ -14,7 +14,7 @@ pub record Touches (own : Name → Bool) (old new : View) : Type 0 where
 -- Only own names were touched. Where the keeper's count of faults isn't as before, the disk's rose.
 pub record Later (own : Name → Bool) (faults faults2 : ℕ) (old new : DiskState) : Type 0 where
   pub touches : Touches own old.view new.view
-  pub frame : Frame old new
+  pub frame : CallsProperly old new
   pub counts : (faults2 ≡ faults) ⊎ Rises old.faults new.faults
 
 -- ---- they hold of no call, and of two

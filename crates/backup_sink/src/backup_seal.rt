@@ -1,6 +1,6 @@
 // Makes durable what was stored.
 ghost use Rattle.std.specs.Prelude.{◌≡◌, OnOk};
-ghost use Rattle.base_devices.specs.States.{Frame};
+ghost use Rattle.base_devices.specs.States.{CallsProperly};
 ghost use Rattle.base_devices.specs.Cause.{HasCause};
 ghost use Rattle.backup_sink.specs.Keeping.{is_own};
 ghost use Rattle.backup_sink.specs.Relation.{Touches};
@@ -14,7 +14,7 @@ pub fn seal<D: Disk>(alloc: Global, d: &mut D, folder: &str) -> Result<(), Devic
     ensures now { (D.state d.new).view.now ≡ (D.state d.old).view.now }
     ensures touches { Touches (is_own folder.now) (D.state d.old).view (D.state d.new).view }
     ensures sealed { OnOk result (IsSealed (is_own folder.now) (D.state d.new).view) }
-    ensures frame { Frame (D.state d.old) (D.state d.new) }
+    ensures frame { CallsProperly (D.state d.old) (D.state d.new) }
     ensures cause { HasCause (D.state d.old).faults (D.state d.new).faults result }
 {
     let files = format!(in alloc; "{folder}/pg_data")?;

@@ -25,7 +25,7 @@ pub(crate) struct Stored {
 
 impl Stored {
     ghost use Rattle.std.specs.Prelude.{OnOk, IsErrOf};
-    ghost use Rattle.base_devices.specs.declared.stop.DeviceError.TheVariants.{Failed};
+    ghost use Rattle.base_devices.specs.declared.device_error.DeviceError.TheVariants.{Failed};
     ghost use Rattle.backup_sink.specs.Keeping.{progress_of, grown, after_end, nothing};
 
     // Nothing was received.
@@ -86,7 +86,7 @@ pub struct BackupKeeper<'a> {
 
 impl<'a> BackupKeeper<'a> {
     ghost use Rattle.std.specs.Prelude.{◌+◌, Some, Err, OnOk, IfOk, IfSome, IsSomeAnd, IsErrOf, All, slice_get};
-    ghost use Rattle.base_devices.specs.declared.stop.DeviceError.TheVariants.{Failed};
+    ghost use Rattle.base_devices.specs.declared.device_error.DeviceError.TheVariants.{Failed};
     ghost use Rattle.worker_protocol.specs.Views.{job_of};
     ghost use Rattle.backup_sink.specs.Keeping.{Becomes, CountsFault, grown, after_end, nothing};
     ghost use Rattle.backup_sink.specs.Keeper.{folder_of, jobs_of, names_of, progress_in, faults_of, HasSpace, SamePlan};

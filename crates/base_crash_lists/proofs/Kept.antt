@@ -14,7 +14,7 @@ use Rattle.base_model.proofs.Logged.{rests_still}
 use Rattle.base_model.proofs.Reopened.{IsReopened}
 use Rattle.base_model.specs.Log.{KeepsSpool}
 use Rattle.base_model.specs.Names.{receipt_name}
-use Rattle.base_devices.specs.Moments.{Unchanged}
+use Rattle.base_devices.specs.Moments.{LeavesNoMore}
 use Rattle.base_crash_lists.specs.Beside.{IsStanza}
 use Rattle.base_crash_lists.specs.Trace.{Disks, Call, stopped, log_of, went_on, HasReceiptsOf, Does, AreStill, AreFair, AreLeft, nothing, KeepsAll, StandAll, LeaveAll, Trace, begins, calls, stops, refuses, reopens}
 use Rattle.base_crash_lists.proofs.Apart.{beside as names_beside}
@@ -94,7 +94,7 @@ module _ (c : Call) (old new : Disks) (fair : AreFair old) (does : Does c old ne
 still_some : (o p : Option Content) → p ≡ o → IsSome o → IsSome p
 still_some o p same some = subst (λ (x : Option Content). IsSome x) (sym same) some
 
-pub still_spool : (stanza : Text) (q : Repository) (log : List Done) (a b : View) → Unchanged a b → b.now ≡ a.now → KeepsSpool stanza q log a → KeepsSpool stanza q log b
+pub still_spool : (stanza : Text) (q : Repository) (log : List Done) (a b : View) → LeavesNoMore a b → b.now ≡ a.now → KeepsSpool stanza q log a → KeepsSpool stanza q log b
 still_spool stanza q log a b rests same keeps = record {
   fixed = λ name fits. still_synced a b rests (receipt_name stanza name) (keeps.fixed name fits);
   receipts = λ f leaves. keeps.receipts f (old_leaves a b rests f same leaves);

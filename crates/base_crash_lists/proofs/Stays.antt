@@ -1,14 +1,14 @@
 -- Calls that keep to their stanza, one after another.
 use Rattle.std.proofs.Common.{◌≡◌, true, ◌∙◌, ap}
 use Rattle.base_devices.specs.Content.{at}
-use Rattle.base_devices.specs.Moments.{View, Unchanged}
+use Rattle.base_devices.specs.Moments.{View, LeavesNoMore}
 use Rattle.base_devices.proofs.Steps.{goes_on, goes_wide}
 use Rattle.base_model.specs.Text.{Text}
 use Rattle.base_model.specs.Names.{is_of_stanza}
 use Rattle.base_crash_lists.specs.Beside.{StaysBeside}
 
 -- a call that only read
-pub rests_beside : (stanza : Text) (a b : View) → Unchanged a b → b.now ≡ a.now → StaysBeside stanza a b
+pub rests_beside : (stanza : Text) (a b : View) → LeavesNoMore a b → b.now ≡ a.now → StaysBeside stanza a b
 rests_beside stanza a b rests same = record {
   now = λ n out. ap (at n) same;
   time = goes_wide (λ _ _. ⊥) (λ n _. is_of_stanza stanza n ≡ true) (λ _. ⊥) (λ n. is_of_stanza stanza n ≡ true) a b (λ n v h. absurd h) (λ n h. absurd h) rests;

@@ -1,7 +1,7 @@
 -- What can happen to a repository's disk and a spool's: calls, crashes at any moment, and reopenings.
 use Rattle.std.specs.Prelude.{◌≡◌, ◌⊎◌, ◌≤◌, ℕ, true, false, List, [], ◌∷◌, None, IsSome, bytes_eq, if◌then◌else◌}
 use Rattle.base_devices.specs.Content.{Name, Value, Content, Holds}
-use Rattle.base_devices.specs.Moments.{View, IsImage, MayKeep, Unchanged, is_unsynced}
+use Rattle.base_devices.specs.Moments.{View, IsImage, MayKeep, LeavesNoMore, is_unsynced}
 use Rattle.base_model.specs.declared.wal.ArchiveName.{ArchiveName}
 use Rattle.base_model.specs.Text.{Text}
 use Rattle.base_model.specs.Repository.{Repository}
@@ -74,9 +74,9 @@ pub record Does (c : Call) (old new : Disks) : Type 0 where
 -- Only was read: both disks hold what they held, and a crash leaves no more than before.
 pub record AreStill (old new : Disks) : Type 0 where
   pub now : new.repo.now ≡ old.repo.now
-  pub time : Unchanged old.repo new.repo
+  pub time : LeavesNoMore old.repo new.repo
   pub spool_now : new.spool.now ≡ old.spool.now
-  pub spool_time : Unchanged old.spool new.spool
+  pub spool_time : LeavesNoMore old.spool new.spool
 
 -- ---- a story
 

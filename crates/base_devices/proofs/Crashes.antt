@@ -2,7 +2,7 @@
 use Rattle.std.specs.Prelude.{◌≡◌, ◌⊎◌, ℕ, Bool, true, false, List, [], ◌∷◌, ◌++◌, Option, Some, None, IsSome, refl, bytes_eq, if◌then◌else◌}
 use Rattle.std.proofs.Common.{sym, ◌∙◌, ap, subst, inl, inr, arith, ⊎_elim, ◌≤◌}
 use Rattle.base_devices.specs.Content.{Name, Value, Content, put}
-use Rattle.base_devices.specs.Moments.{View, IsImage, Unchanged}
+use Rattle.base_devices.specs.Moments.{View, IsImage, LeavesNoMore}
 use Rattle.base_devices.specs.Crash.{Alike, Leaves, Crash, Ends, Write, AllOf, FirstOf, SomeOf}
 
 abbrev pub Step : Type 1
@@ -175,7 +175,7 @@ by_false true h = absurd (h refl)
 by_false false h = refl
 
 -- a call that only keeps what is there
-pub crash_rests : (S : Step) (a b : View) → ((f : Content) → S f f) → Unchanged a b → b.now ≡ a.now → Crash S a b
+pub crash_rests : (S : Step) (a b : View) → ((f : Content) → S f f) → LeavesNoMore a b → b.now ≡ a.now → Crash S a b
 crash_rests S a b same rests now = record {
   later = rests.later;
   past = rests.same;

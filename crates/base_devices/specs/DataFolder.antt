@@ -2,10 +2,10 @@
 use Rattle.std.specs.Prelude.{◌≡◌, ℕ, Bool, true, false, [], List, ◌∷◌, ◌++◌, length, map, codes, Option, Some, None, Result, Ok, Err, option_map, MatchResult, Contains, IfSome, IsSome, string_bytes}
 use Rattle.base_devices.specs.Content.{Name, Value, set_at, SameBut}
 use Rattle.base_devices.specs.Order.{are_in_order}
-use Rattle.base_devices.specs.declared.tree.Node.{Node}
-use Rattle.base_devices.specs.declared.tree.Node.TheVariants.{File, Folder, Link, Other}
-use Rattle.base_devices.specs.declared.tree.ReadableFile.{ReadableFile}
-use Rattle.base_devices.specs.declared.tree.ReadableFile.TheVariants.{Control, Version, Wal}
+use Rattle.base_devices.specs.declared.data_folder.Node.{Node}
+use Rattle.base_devices.specs.declared.data_folder.Node.TheVariants.{File, Folder, Link, Other}
+use Rattle.base_devices.specs.declared.data_folder.ReadableFile.{ReadableFile}
+use Rattle.base_devices.specs.declared.data_folder.ReadableFile.TheVariants.{Control, Version, Wal}
 
 -- a file with its bytes and its time in seconds, a folder, a link, or a node of another kind
 pub data Held : Type 0 where

@@ -44,8 +44,8 @@ pub record GrowsBy (added : Name → Value → Type 0) (newly_unsynced : Name �
       → (old.unsynced old.moment n ≡ true) ⊎ newly_unsynced n
 
 -- nothing was added and nothing became unsynced
-abbrev pub Unchanged : View → View → Type 0
-Unchanged old new = GrowsBy (λ _ _. ⊥) (λ _. ⊥) old new
+abbrev pub LeavesNoMore : View → View → Type 0
+LeavesNoMore old new = GrowsBy (λ _ _. ⊥) (λ _. ⊥) old new
 
 -- a crash leaves at each of these names that wasn't unsynced what the disk held
 abbrev pub SyncsFolders : (Name → Type 0) → View → View → Type 0

@@ -2,7 +2,7 @@
 use Rattle.std.specs.Prelude.{◌≡◌, ◌⊎◌, ◌≤◌, [], ◌∷◌, ℕ, List, Option, Result, MatchResult}
 use Rattle.base_devices.specs.Cause.{Rises}
 use Rattle.base_devices.specs.Content.{Name, Value, Content}
-use Rattle.base_devices.specs.Moments.{View, GrowsBy, Unchanged}
+use Rattle.base_devices.specs.Moments.{View, GrowsBy, LeavesNoMore}
 use Rattle.base_devices.specs.DataFolder.{Nodes}
 
 -- ---- places
@@ -38,15 +38,15 @@ pub record DiskState : Type 1 where
   pub faults : ℕ
 
 -- a call that makes no faulty call and opens no place
-pub record Frame (old new : DiskState) : Type 0 where
+pub record CallsProperly (old new : DiskState) : Type 0 where
   pub opened : new.opened ≡ old.opened
   pub proper : new.faulty_calls ≡ old.faulty_calls
   pub later : old.faults ≤ new.faults
 
 -- a call that only reads
-pub record Looks (old new : DiskState) : Type 0 where
+pub record OnlyReads (old new : DiskState) : Type 0 where
   pub now : new.view.now ≡ old.view.now
-  pub time : Unchanged old.view new.view
+  pub time : LeavesNoMore old.view new.view
   pub opened : new.opened ≡ old.opened
   pub proper : new.faulty_calls ≡ old.faulty_calls
   pub later : old.faults ≤ new.faults
@@ -76,7 +76,7 @@ pub record DataFolderState : Type 0 where
   pub faults : ℕ
 
 -- a call that only reads
-pub record LooksAt (old new : DataFolderState) : Type 0 where
+pub record OnlyReadsFolder (old new : DataFolderState) : Type 0 where
   pub nodes : new.nodes ≡ old.nodes
   pub opened : new.opened ≡ old.opened
   pub proper : new.faulty_calls ≡ old.faulty_calls
@@ -131,7 +131,7 @@ pub record LocksState : Type 0 where
   -- the names that were taken and not released
   pub taken : List Name
   -- each lock that was ever taken, by its folder and name, the last one first, where that is known
-  pub took : Option (List (Name × Name))
+  pub ever_taken : Option (List (Name × Name))
   -- the names that others hold, where that is known
   pub others : Option (List Name)
   -- how often a lock was held by another

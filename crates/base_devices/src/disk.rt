@@ -1,8 +1,8 @@
 // A disk: names with bytes, and what a crash may leave of them (POSIX `write`, `fsync` and `rename`).
 ghost use Rattle.std.specs.Prelude.{◌≡◌, ◌⊎◌, ◌≤◌, [], ℕ, List, Bool, Option, Some, None, false, true, map, option_map, IfOk, OnOk, OnErr, IfSome, length, IsTrue, string_bytes};
 ghost use Rattle.base_devices.specs.Content.{Name, Value, Content, put, moved, is_below, LiesDirectlyIn, HasBytes, Holds, IsThere, Changes, Appends, IsListing, AreFolders, Reads};
-ghost use Rattle.base_devices.specs.Moments.{View, GrowsBy, Unchanged, SyncsFolders, MayKeep, is_unsynced};
-ghost use Rattle.base_devices.specs.States.{DiskState, Opens, Looks, Works};
+ghost use Rattle.base_devices.specs.Moments.{View, GrowsBy, LeavesNoMore, SyncsFolders, MayKeep, is_unsynced};
+ghost use Rattle.base_devices.specs.States.{DiskState, Opens, OnlyReads, Works};
 ghost use Rattle.base_devices.specs.Cause.{HasCause};
 
 use crate::DeviceError;
@@ -25,7 +25,7 @@ pub trait Disk {
     fn open(&mut self, path: &str) -> Result<(), DeviceError>
         ensures opens { Opens result path.now (state self.old).opened (state self.new).opened }
         ensures now { (state self.new).view.now ≡ (state self.old).view.now }
-        ensures time { Unchanged (state self.old).view (state self.new).view }
+        ensures time { LeavesNoMore (state self.old).view (state self.new).view }
         ensures proper { (state self.new).faulty_calls ≡ (state self.old).faulty_calls }
         ensures cause { HasCause (state self.old).faults (state self.new).faults result };
 
@@ -34,7 +34,7 @@ pub trait Disk {
         ensures listing { IfOk result
             (λ found. IfSome (state self.old).view.now (λ f.
             IsListing folder.now f (map (λ x. (string_bytes x.name, x.size)) found.items))) }
-        ensures looks { Looks (state self.old) (state self.new) }
+        ensures looks { OnlyReads (state self.old) (state self.new) }
         ensures cause { HasCause (state self.old).faults (state self.new).faults result };
 
     /// The own names of the folders that are directly in the folder, in any order; one may come twice, and one may
@@ -42,7 +42,7 @@ pub trait Disk {
     fn folders(&mut self, alloc: Global, folder: &str) -> Result<Vec<String>, DeviceError>
         ensures folders { IfOk result
             (λ known. IfSome (state self.old).view.now (λ f. AreFolders folder.now f (map string_bytes known.items))) }
-        ensures looks { Looks (state self.old) (state self.new) }
+        ensures looks { OnlyReads (state self.old) (state self.new) }
         ensures cause { HasCause (state self.old).faults (state self.new).faults result };
 
     /// Bytes of a name from a place on: None where it is absent, 0 at its end.
@@ -50,7 +50,7 @@ pub trait Disk {
         ensures bytes { IfOk result
             (λ n. IfSome (state self.old).view.now (λ f. Reads (f name.now) at (length buf.old) buf.new n)) }
         ensures room { IfOk result (λ n. IfSome n (λ n. n ≤ length buf.old)) }
-        ensures looks { Looks (state self.old) (state self.new) }
+        ensures looks { OnlyReads (state self.old) (state self.new) }
         ensures cause { HasCause (state self.old).faults (state self.new).faults result };
 
     /// Makes the name hold no bytes.
@@ -112,14 +112,14 @@ pub trait Disk {
 
     /// After it a crash leaves at each name below the folder that isn't unsynced what it holds.
     fn sync_directories(&mut self, folder: &str) -> Result<(), DeviceError>
-        ensures looks { Looks (state self.old) (state self.new) }
+        ensures looks { OnlyReads (state self.old) (state self.new) }
         ensures settled { OnOk result
             (SyncsFolders (λ n. IsTrue (is_below folder.now n)) (state self.old).view (state self.new).view) }
         ensures cause { HasCause (state self.old).faults (state self.new).faults result };
 
     /// The same for the names directly in the folder alone.
     fn sync_directory(&mut self, folder: &str) -> Result<(), DeviceError>
-        ensures looks { Looks (state self.old) (state self.new) }
+        ensures looks { OnlyReads (state self.old) (state self.new) }
         ensures settled { OnOk result
             (SyncsFolders (LiesDirectlyIn folder.now) (state self.old).view (state self.new).view) }
         ensures cause { HasCause (state self.old).faults (state self.new).faults result };

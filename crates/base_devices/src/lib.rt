@@ -9,22 +9,22 @@
 //! - `NotThere` meets them all but `DataFolder`, `OutputStream` and `Scheduler`.
 #![tactic(auto)]
 
+mod data_folder;
+mod device_error;
 mod devices;
 mod disk;
 mod files;
 mod links;
 mod locks;
 mod not_there;
-mod sink;
-mod stop;
-mod tree;
+mod output_stream;
 
+pub use data_folder::{DataFolder, FolderEntry, Node, ReadableFile};
+pub use device_error::DeviceError;
 pub use devices::{Clock, InputFiles, ServerConnection};
 pub use disk::{Disk, Found};
 pub use files::Files;
 pub use links::{Link, Scheduler};
-pub use locks::{Locks, Take};
+pub use locks::{LockAnswer, Locks};
 pub use not_there::NotThere;
-pub use sink::OutputStream;
-pub use stop::DeviceError;
-pub use tree::{DataFolder, FolderEntry, Node, ReadableFile};
+pub use output_stream::OutputStream;

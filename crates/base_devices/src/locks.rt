@@ -1,6 +1,6 @@
 // The trait of locks against other programs.
 ghost use Rattle.std.specs.Prelude.{◌≡◌, ◌≤◌, ◌↔◌, option_map, Contains, IfOk, OnErr, IfSome};
-ghost use Rattle.base_devices.specs.declared.locks.Take.TheVariants.{Held};
+ghost use Rattle.base_devices.specs.declared.locks.LockAnswer.TheVariants.{Busy};
 ghost use Rattle.base_devices.specs.Cause.{HasCause, Rises};
 ghost use Rattle.base_devices.specs.Locking.{with_lock, without};
 ghost use Rattle.base_devices.specs.States.{LocksState};
@@ -9,10 +9,10 @@ use crate::DeviceError;
 
 /// The result of taking a lock.
 #[derive(Clone, Copy, Debug, PartialEq, Eq)]
-pub enum Take {
-    Taken,
+pub enum LockAnswer {
+    Acquired,
     /// Another program has it.
-    Held,
+    Busy,
 }
 
 /// Locks by name, each in a folder. One that was taken is held until its release, or until the program ends.
@@ -21,23 +21,23 @@ pub trait Locks {
     ghost state: { Self → LocksState };
 
     /// Takes a lock, unless another program holds it. The folder is made where it is absent.
-    fn take(&mut self, folder: &str, name: &str) -> Result<Take, DeviceError>
+    fn take(&mut self, folder: &str, name: &str) -> Result<LockAnswer, DeviceError>
         requires { ¬ Contains (state self.old).taken name.now }
         ensures taken { IfOk result (λ t. (state self.new).taken ≡ with_lock t name.now (state self.old).taken) }
-        ensures took { IfOk result
-            (λ t. (state self.new).took ≡ option_map (with_lock t (folder.now, name.now)) (state self.old).took) }
-        ensures held { IfOk result (λ t. t ≡ Held → Rises (state self.old).refusals (state self.new).refusals) }
+        ensures ever_taken { IfOk result
+            (λ t. (state self.new).ever_taken ≡ option_map (with_lock t (folder.now, name.now)) (state self.old).ever_taken) }
+        ensures held { IfOk result (λ t. t ≡ Busy → Rises (state self.old).refusals (state self.new).refusals) }
         ensures known { IfOk result (λ t. IfSome (state self.old).others
-            (λ names. (t ≡ Held) ↔ Contains names name.now)) }
+            (λ names. (t ≡ Busy) ↔ Contains names name.now)) }
         ensures err { OnErr result (((state self.new).taken ≡ (state self.old).taken)
-            × ((state self.new).took ≡ (state self.old).took)) }
+            × ((state self.new).ever_taken ≡ (state self.old).ever_taken)) }
         ensures others { (state self.new).others ≡ (state self.old).others }
         ensures later { (state self.old).refusals ≤ (state self.new).refusals }
         ensures cause { HasCause (state self.old).faults (state self.new).faults result };
 
     fn release(&mut self, name: &str)
         ensures taken { (state self.new).taken ≡ without name.now (state self.old).taken }
-        ensures took { (state self.new).took ≡ (state self.old).took }
+        ensures ever_taken { (state self.new).ever_taken ≡ (state self.old).ever_taken }
         ensures others { (state self.new).others ≡ (state self.old).others }
         ensures refusals { (state self.new).refusals ≡ (state self.old).refusals }
         ensures faults { (state self.new).faults ≡ (state self.old).faults };

@@ -138,7 +138,7 @@ impl Clock for NotThere {
 }
 
 impl Locks for NotThere {
-    ghost state = { λ it. record { taken = []; took = None; others = None; refusals = 0; faults = it.faults } };
+    ghost state = { λ it. record { taken = []; ever_taken = None; others = None; refusals = 0; faults = it.faults } };
 
     fn take(&mut self, _folder: &str, _name: &str) -> Result<Take, DeviceError> {
         self.fail()

@@ -1,13 +1,13 @@
 -- Calls that change only some names.
 use Rattle.std.proofs.Common.{◌≡◌, ◌⊎◌, ⊎_elim, inl, inr, ℕ, true, refl, ap, subst, ◌∙◌, arith}
 use Rattle.base_devices.specs.Content.{Name, at}
-use Rattle.base_devices.specs.Moments.{View, Unchanged}
+use Rattle.base_devices.specs.Moments.{View, LeavesNoMore}
 use Rattle.base_devices.specs.Crash.{IsTemporary}
 use Rattle.base_devices.proofs.Steps.{goes_on, goes_wide}
 use Rattle.base_disk.specs.Store.{ChangesOnly}
 
 -- a call that only reads
-pub only_rests : (these : Name → Type 0) (a b : View) → Unchanged a b → b.now ≡ a.now → ChangesOnly these a b
+pub only_rests : (these : Name → Type 0) (a b : View) → LeavesNoMore a b → b.now ≡ a.now → ChangesOnly these a b
 only_rests these a b rests same = record {
   now = λ n off. ap (at n) same;
   time = goes_wide (λ _ _. ⊥) (λ n _. these n) (λ _. ⊥) (λ n. these n × IsTemporary n) a b (λ n v h. absurd h) (λ n h. absurd h) rests;

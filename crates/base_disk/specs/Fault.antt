@@ -1,9 +1,9 @@
 -- Which fault a call reports.
 use Rattle.std.specs.Prelude.{◌≡◌, ◌⊎◌, ℕ, ⊤, string_bytes}
 use Rattle.base_devices.specs.Content.{Name}
-use Rattle.base_devices.specs.declared.stop.DeviceError.{DeviceError}
-use Rattle.base_devices.specs.declared.stop.DeviceError.TheVariants.{Failed}
-use Rattle.base_devices.specs.declared.stop.DeviceError.TheVariants.{NoMemory as ErrorNoMemory}
+use Rattle.base_devices.specs.declared.device_error.DeviceError.{DeviceError}
+use Rattle.base_devices.specs.declared.device_error.DeviceError.TheVariants.{Failed}
+use Rattle.base_devices.specs.declared.device_error.DeviceError.TheVariants.{NoMemory as ErrorNoMemory}
 use Rattle.base_disk.specs.declared.fault.StoreFault.{StoreFault}
 use Rattle.base_disk.specs.declared.fault.StoreFault.TheVariants.{Disk, TooLong, NoMemory}
 

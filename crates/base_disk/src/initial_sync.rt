@@ -1,8 +1,8 @@
 // What is synced before a command looks at a stanza.
 ghost use Rattle.std.specs.Prelude.{◌≡◌, ◌≤◌, ℕ, List, Option, false, IfErr, OnOk, IsErrOf, IsSome, IsTrue};
-ghost use Rattle.base_devices.specs.States.{Looks};
+ghost use Rattle.base_devices.specs.States.{OnlyReads};
 ghost use Rattle.base_devices.specs.Content.{Name, Value, Content, Holds};
-ghost use Rattle.base_devices.specs.Moments.{Unchanged, MayKeep, is_unsynced};
+ghost use Rattle.base_devices.specs.Moments.{LeavesNoMore, MayKeep, is_unsynced};
 ghost use Rattle.base_devices.specs.Cause.{Rises};
 ghost use Rattle.base_model.specs.Names.{is_of_stanza};
 ghost use Rattle.base_model.specs.Repository.{Repository};
@@ -20,7 +20,7 @@ pub fn begin<D: Disk>(alloc: Global, d: &mut D, stanza: &str) -> Result<(), Stor
     ensures begun { OnOk result ((q : Repository) (log : List Done)
         → KeepsRepository stanza.now q log (D.state d.old).view → IsSome (D.state d.old).view.now
         → IsBegun stanza.now q log (D.state d.new).view) }
-    ensures looks { Looks (D.state d.old) (D.state d.new) }
+    ensures looks { OnlyReads (D.state d.old) (D.state d.new) }
     ensures settled { OnOk result ((n : Name) (v : Value) → IsTrue (is_of_stanza stanza.now n)
         → is_unsynced (D.state d.old).view n ≡ false → MayKeep (D.state d.new).view n v
         → Holds (D.state d.old).view.now n v) }
@@ -33,7 +33,7 @@ pub fn begin<D: Disk>(alloc: Global, d: &mut D, stanza: &str) -> Result<(), Stor
 
 // Syncs the two folders.
 fn settle_folders<D: Disk>(alloc: Global, d: &mut D, stanza: &str) -> Result<(), StoreFault>
-    ensures looks { Looks (D.state d.old) (D.state d.new) }
+    ensures looks { OnlyReads (D.state d.old) (D.state d.new) }
     ensures settled { OnOk result ((n : Name) (v : Value) → IsTrue (is_of_stanza stanza.now n)
         → is_unsynced (D.state d.old).view n ≡ false → MayKeep (D.state d.new).view n v
         → Holds (D.state d.old).view.now n v) }

@@ -1,6 +1,6 @@
 // Puts bytes in the place of a name's, by way of a temporary name.
 ghost use Rattle.std.specs.Prelude.{◌≡◌, ◌⊎◌, ◌≤◌, [], ◌∷◌, ℕ, List, Option, None, false, IfErr, OnOk, IsErrOf};
-ghost use Rattle.base_devices.specs.States.{Frame};
+ghost use Rattle.base_devices.specs.States.{CallsProperly};
 ghost use Rattle.base_devices.specs.Content.{Name, Value, Content};
 ghost use Rattle.base_devices.specs.Moments.{is_unsynced};
 ghost use Rattle.base_devices.specs.Crash.{IsTemporary, Crash, Ends, NowChanges, FirstOf, AllOf};
@@ -35,7 +35,7 @@ pub fn replace<D: Disk>(
         (NowChanges (AllOf ((name.now, bytes.now) ∷ [])) (D.state d.old).view.now (D.state d.new).view.now) }
     ensures only { ChangesOnly (λ n. (n ≡ temp.now) ⊎ (n ≡ name.now)) (D.state d.old).view (D.state d.new).view }
     ensures unknown { (D.state d.old).view.now ≡ None → (D.state d.new).view.now ≡ None }
-    ensures frame { Frame (D.state d.old) (D.state d.new) }
+    ensures frame { CallsProperly (D.state d.old) (D.state d.new) }
     ensures cause { IsErrOf result StoreFault.Disk → Rises (D.state d.old).faults (D.state d.new).faults }
     ensures refusals { IfErr result IsDeviceFault }
 {

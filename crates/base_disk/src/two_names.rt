@@ -1,6 +1,6 @@
 // Keeps bytes at two names.
 ghost use Rattle.std.specs.Prelude.{◌≡◌, ◌⊎◌, ◌≤◌, [], ◌∷◌, ℕ, List, Option, false, IfErr, OnOk, IsErrOf};
-ghost use Rattle.base_devices.specs.States.{Frame};
+ghost use Rattle.base_devices.specs.States.{CallsProperly};
 ghost use Rattle.base_devices.specs.Content.{Name, Value, Content};
 ghost use Rattle.base_devices.specs.Moments.{is_unsynced};
 ghost use Rattle.base_devices.specs.Crash.{IsTemporary, Crash, Ends, NowChanges, FirstOf, AllOf};
@@ -42,7 +42,7 @@ pub fn save_both<D: Disk>(
         (D.state d.new).view.now) }
     ensures only { ChangesOnly (λ n. (n ≡ temp.now) ⊎ ((n ≡ main.now) ⊎ (n ≡ copy.now))) (D.state d.old).view
         (D.state d.new).view }
-    ensures frame { Frame (D.state d.old) (D.state d.new) }
+    ensures frame { CallsProperly (D.state d.old) (D.state d.new) }
     ensures cause { IsErrOf result StoreFault.Disk → Rises (D.state d.old).faults (D.state d.new).faults }
     ensures refusals { IfErr result IsDeviceFault }
 {

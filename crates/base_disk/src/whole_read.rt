@@ -1,9 +1,9 @@
 // All the bytes of a name.
 ghost use Rattle.std.specs.Prelude.{◌≡◌, ◌≤◌, ◌<◌, ℕ, List, Option, option_map, IfOk, IfErr, IsErrOf, IfSome, IsSomeAnd, Vec, length};
 ghost use Rattle.std.specs.declared.alloc.Global.{Global};
-ghost use Rattle.base_devices.specs.States.{Looks};
+ghost use Rattle.base_devices.specs.States.{OnlyReads};
 ghost use Rattle.base_devices.specs.Content.{Name, Value, Content};
-ghost use Rattle.base_devices.specs.Moments.{Unchanged};
+ghost use Rattle.base_devices.specs.Moments.{LeavesNoMore};
 ghost use Rattle.base_devices.specs.Cause.{Rises};
 ghost use Rattle.base_disk.specs.Fault.{IfTooLong};
 
@@ -26,7 +26,7 @@ pub fn read_whole<D: Disk>(
     ensures too_long { IfErr result
         (λ e. IfTooLong e (λ _ _. IfSome (D.state d.old).view.now
         (λ f. IsSomeAnd (f name.now) (λ b. limit < length b)))) }
-    ensures looks { Looks (D.state d.old) (D.state d.new) }
+    ensures looks { OnlyReads (D.state d.old) (D.state d.new) }
     ensures cause { IsErrOf result StoreFault.Disk → Rises (D.state d.old).faults (D.state d.new).faults }
 {
     let mut bytes = Vec::new(alloc);

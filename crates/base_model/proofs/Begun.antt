@@ -2,7 +2,7 @@
 use Rattle.std.proofs.Common.{◌≡◌, ◌⊎◌, ⊎_elim, inl, inr, ℕ, ◌≤◌, List, Option, Some, None, refl, ◌∙◌, sym, subst, arith, Bool, true, false, IsTrue}
 use Rattle.std.specs.Prelude.{IsSome}
 use Rattle.base_devices.specs.Content.{Name, Content, Holds}
-use Rattle.base_devices.specs.Moments.{View, IsImage, Unchanged, SyncsFolders, is_unsynced}
+use Rattle.base_devices.specs.Moments.{View, IsImage, LeavesNoMore, SyncsFolders, is_unsynced}
 use Rattle.base_devices.specs.Crash.{Leaves}
 use Rattle.base_model.specs.Text.{Text}
 use Rattle.base_model.specs.Repository.{Repository}
@@ -16,7 +16,7 @@ pub either : (t s : ℕ) → (t ≤ s) ⊎ (s ≤ t)
 either t s = grind arith
 
 -- time in which nothing was added
-module _ (a b : View) (rests : Unchanged a b) where
+module _ (a b : View) (rests : LeavesNoMore a b) where
   -- an image of a moment between is one of old
   pub between_image : (t : ℕ) (f : Content) → a.moment ≤ t → t ≤ b.moment → IsImage b t f → IsImage a a.moment f
   between_image t f lo hi image n = ⊎_elim
@@ -62,7 +62,7 @@ module _ (a b : View) (rests : Unchanged a b) where
         some_same : (f g : Content) → ◌≡◌ {A = Option Content} (Some f) (Some g) → f ≡ g
         some_same f g e = cc
 
-pub begun : (a b : View) → Unchanged a b → (stanza : Text) (q : Repository) (log : List Done) (below : Name → Bool) → b.now ≡ a.now → SyncsFolders (λ n. IsTrue (below n)) a b →
+pub begun : (a b : View) → LeavesNoMore a b → (stanza : Text) (q : Repository) (log : List Done) (below : Name → Bool) → b.now ≡ a.now → SyncsFolders (λ n. IsTrue (below n)) a b →
     ((n : Name) → IsFixed stanza n → IsTrue (below n)) → ((f : Content) (n : Name) → IsPlaceOf stanza f n → IsTrue (below n)) →
     KeepsRepository stanza q log a → IsSome a.now → IsBegun stanza q log b
 begun a b rests stanza q log below same settled of_fixed of_places keeps known = go (a.now) refl known

@@ -2,7 +2,7 @@
 use Rattle.std.proofs.Common.{◌≡◌, ◌⊎◌, ⊎_elim, inl, inr, ◌≤◌, List, [], ◌∷◌, Option, Some, None, refl, ap, ◌∙◌, sym, subst, arith, Bool, true, false}
 use Rattle.std.specs.Prelude.{IfSome}
 use Rattle.base_devices.specs.Content.{Content}
-use Rattle.base_devices.specs.Moments.{View, Unchanged, IsImage}
+use Rattle.base_devices.specs.Moments.{View, LeavesNoMore, IsImage}
 use Rattle.base_model.specs.declared.clusters.Cluster.{Cluster}
 use Rattle.base_model.specs.declared.wal.ArchiveName.{ArchiveName}
 use Rattle.base_model.specs.Text.{Text}
@@ -23,7 +23,7 @@ abbrev pub IsPart : Text → Command → Repository → Content → Type 0
 IsPart stanza command r g = (done : List Step) × IsPartOf done (steps_of command r) × Represents stanza g (after r done)
 
 -- reading calls leave a disk that keeps a log unchanged
-pub rests_still : (stanza : Text) (q : Repository) (log : List Done) (a b : View) → Unchanged a b → b.now ≡ a.now → KeepsRepository stanza q log a → KeepsRepository stanza q log b
+pub rests_still : (stanza : Text) (q : Repository) (log : List Done) (a b : View) → LeavesNoMore a b → b.now ≡ a.now → KeepsRepository stanza q log a → KeepsRepository stanza q log b
 rests_still stanza q log a b rests same keeps = record {
   fixed = λ n h. still_synced a b rests n (keeps.fixed n h);
   places = λ f leaves n h. still_synced a b rests n (keeps.places f (old_leaves a b rests f same leaves) n h);
@@ -41,7 +41,7 @@ module _ (stanza : Text) (command : Command) (q : Repository) (log : List Done) 
   still_after f s = record { repository = s.repository; reached = (s.repository, s.reached, ([], refl, part_none (steps_of command s.repository))); sound = s.sound; represents = s.represents }
 
   -- where nothing was done
-  module _ (a b : View) (rests : Unchanged a b) (same : b.now ≡ a.now) (keeps : KeepsRepository stanza q log a) where
+  module _ (a b : View) (rests : LeavesNoMore a b) (same : b.now ≡ a.now) (keeps : KeepsRepository stanza q log a) where
     pub rests_keeps : KeepsRepository stanza q (undone ∷ log) b
     rests_keeps = let k = rests_still stanza q log a b rests same keeps in record { fixed = k.fixed; places = k.places; represents = λ f leaves. still_after f (k.represents f leaves) }
 

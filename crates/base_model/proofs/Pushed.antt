@@ -5,7 +5,7 @@ use Rattle.std.proofs.lemmas.Slice.Eq.{bytes_eq-Decides}
 use Rattle.sha1.specs.Sha1.{sha1}
 use Rattle.base_text.specs.Sum.{IsSum, sum_text}
 use Rattle.base_devices.specs.Content.{Content, put}
-use Rattle.base_devices.specs.Moments.{View, Unchanged, is_unsynced}
+use Rattle.base_devices.specs.Moments.{View, LeavesNoMore, is_unsynced}
 use Rattle.base_devices.specs.Crash.{Leaves, Crash, Ends, FirstOf, AllOf, NowChanges}
 use Rattle.base_devices.proofs.Nows.{known_as}
 use Rattle.base_model.specs.declared.wal.ArchiveId.{ArchiveId}
@@ -164,7 +164,7 @@ module _ (stanza : Text) (a : Archived) (fits : IsArchivePlace a.id a.name (sha1
   push_past f g w = ⊎_elim (λ k. past_alike stanza f g k) (λ k. past_past stanza f (stored f) g (stored_past f) (past_alike stanza (stored f) g k)) w
 
   module _ (s : Stanza) (v b d : View) (steady : IsSteady stanza (Some s) v) (known : IsSome v.now) (absent : IfSome v.now (λ f. f (stored_name stanza a) ≡ None))
-      (rests : Unchanged v b) (same : b.now ≡ v.now) (crash : Crash (FirstOf ((stored_name stanza a, a.bytes) ∷ [])) b d) where
+      (rests : LeavesNoMore v b) (same : b.now ≡ v.now) (crash : Crash (FirstOf ((stored_name stanza a, a.bytes) ∷ [])) b d) where
     some_b : IsSome b.now
     some_b = subst (λ (o : Option Content). IsSome o) (sym same) known
 

@@ -5,7 +5,7 @@ use Rattle.sha1.specs.Sha1.{sha1}
 use Rattle.base_text.specs.Sum.{sum_text}
 use Rattle.base_text.proofs.Digests.{IsSum-sha1}
 use Rattle.base_devices.specs.Content.{Content}
-use Rattle.base_devices.specs.Moments.{View, Unchanged}
+use Rattle.base_devices.specs.Moments.{View, LeavesNoMore}
 use Rattle.base_devices.specs.Crash.{Crash, Ends, FirstOf, AllOf, NowChanges}
 use Rattle.base_devices.proofs.Nows.{known_as}
 use Rattle.base_model.specs.declared.wal.ArchiveId.{ArchiveId}
@@ -48,7 +48,7 @@ module _ (stanza : Text) (s : Stanza) (a : Archived) where
   pub still_now_part : (old new : Option Content) → new ≡ old → NowRepresents stanza (Some s) old → NowPartOfPush stanza s a new
   still_now_part old new same now = ([], part_none (map One (push_of s a)), subst (λ (o : Option Content). NowRepresents stanza (Some s) o) (sym same) now)
 
-  pub still_moves : (v b : View) → IsSteady stanza (Some s) v → IsSome v.now → Unchanged v b → b.now ≡ v.now → EachImage stanza (IsPartOfPush stanza s a) v b
+  pub still_moves : (v b : View) → IsSteady stanza (Some s) v → IsSome v.now → LeavesNoMore v b → b.now ≡ v.now → EachImage stanza (IsPartOfPush stanza s a) v b
   still_moves v b steady known rests same = rests_moves stanza (Some s) (IsPartOfPush stanza s a) v b rests same steady known still_part
 
   -- with it done
@@ -123,7 +123,7 @@ module _ (stanza : Text) (id : ArchiveId) (segment : Segment) (bytes : Text) (fi
 
   -- ---- what a crash leaves of it
 
-  module _ (v b : View) (steady : IsSteady stanza (Some s) v) (known : IsSome v.now) (rests : Unchanged v b) (same : b.now ≡ v.now) where
+  module _ (v b : View) (steady : IsSteady stanza (Some s) v) (known : IsSome v.now) (rests : LeavesNoMore v b) (same : b.now ≡ v.now) where
     pub same_steady : IfSome v.now (HasSegment stanza id segment) → IsSteady stanza (Some (after_all s (push_of s (record { id = id; name = Whole segment; bytes = bytes })))) b
     same_steady has = subst (λ (x : Stanza). IsSteady stanza (Some x) b) (all_none stanza s a (is_old v.now known (steady_now v steady) has)) (steady_rests stanza (Some s) v b rests same steady)
 

@@ -2,7 +2,7 @@
 use Rattle.std.proofs.Common.{◌≡◌, ◌⊎◌, ⊎_elim, inl, inr, ℕ, ◌≤◌, List, [], ◌∷◌, Option, Some, None, refl, ap, ◌∙◌, sym, subst, arith, false}
 use Rattle.std.specs.Prelude.{IsSome}
 use Rattle.base_devices.specs.Content.{Content}
-use Rattle.base_devices.specs.Moments.{View, IsImage, Unchanged, is_unsynced}
+use Rattle.base_devices.specs.Moments.{View, IsImage, LeavesNoMore, is_unsynced}
 use Rattle.base_devices.specs.Crash.{Leaves, Crash, Ends, FirstOf, AllOf}
 use Rattle.base_model.specs.declared.clusters.Cluster.{Cluster}
 use Rattle.base_model.specs.Names.{backup_info, copy_of}
@@ -22,7 +22,7 @@ use Rattle.base_model.proofs.Passing.{crash_moves, crash_steady}
 use Rattle.base_model.proofs.Created.{created_part, created_whole}
 
 -- calls that only read leave it so
-pub steady_rests : (stanza : Text) (r : Repository) (a b : View) → Unchanged a b → b.now ≡ a.now → IsSteady stanza r a → IsSteady stanza r b
+pub steady_rests : (stanza : Text) (r : Repository) (a b : View) → LeavesNoMore a b → b.now ≡ a.now → IsSteady stanza r a → IsSteady stanza r b
 steady_rests stanza r a b rests same s = record {
   fixed = λ n h. still_synced a b rests n (s.fixed n h);
   places = λ f leaves n h. still_synced a b rests n (s.places f (old_leaves a b rests f same leaves) n h);
@@ -30,7 +30,7 @@ steady_rests stanza r a b rests same s = record {
 }
 
 -- what holds of reading calls, as a command's way
-pub rests_moves : (stanza : Text) (r : Repository) (P : Content → Type 0) (a b : View) → Unchanged a b → b.now ≡ a.now → IsSteady stanza r a → IsSome a.now → ((g : Content) → Represents stanza g r → P g) → EachImage stanza P a b
+pub rests_moves : (stanza : Text) (r : Repository) (P : Content → Type 0) (a b : View) → LeavesNoMore a b → b.now ≡ a.now → IsSteady stanza r a → IsSome a.now → ((g : Content) → Represents stanza g r → P g) → EachImage stanza P a b
 rests_moves stanza r P a b rests same s known part = record {
   later = rests.later;
   past = rests.same;
@@ -44,7 +44,7 @@ rests_moves stanza r P a b rests same s known part = record {
 }
 
 -- reading calls before a command's way are part of it
-module _ (stanza : Text) (r : Repository) (P : Content → Type 0) (a b d : View) (rests : Unchanged a b) (steady : IsSteady stanza r a) (part : (g : Content) → Represents stanza g r → P g) (moves : EachImage stanza P b d) where
+module _ (stanza : Text) (r : Repository) (P : Content → Type 0) (a b d : View) (rests : LeavesNoMore a b) (steady : IsSteady stanza r a) (part : (g : Content) → Represents stanza g r → P g) (moves : EachImage stanza P b d) where
   -- an image of the time before is one of old
   first_image : (t : ℕ) (g : Content) → a.moment ≤ t → t ≤ b.moment → IsImage d t g → IsImage a a.moment g
   first_image t g lo hi image = between_image a b rests t g lo hi (λ n. ⊎_elim

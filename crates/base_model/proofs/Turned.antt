@@ -4,7 +4,7 @@ use Rattle.std.specs.Prelude.{IsSome, if◌then◌else◌}
 use Rattle.std.proofs.lemmas.List.{append-nil}
 use Rattle.sha1.specs.Sha1.{sha1}
 use Rattle.base_devices.specs.Content.{Content}
-use Rattle.base_devices.specs.Moments.{View, Unchanged}
+use Rattle.base_devices.specs.Moments.{View, LeavesNoMore}
 use Rattle.base_model.specs.declared.clusters.Cluster.{Cluster}
 use Rattle.base_model.specs.declared.wal.ArchiveId.{ArchiveId}
 use Rattle.base_model.specs.Text.{Text, In}
@@ -229,7 +229,7 @@ module _ (id : ArchiveId) (ended : Bool) where
     does = λ r from some now. ([], idle_done whole r, subst (λ (o : Option Content). NowRepresents stanza r o) (sym same) now);
   }
 
-  module _ (stanza : Text) (a b : View) (rests : Unchanged a b) (same : b.now ≡ a.now) where
+  module _ (stanza : Text) (a b : View) (rests : LeavesNoMore a b) (same : b.now ≡ a.now) where
     still : (whole : Bool) (q : Repository) (log : List Done) (f : Content) → RepresentsAfter stanza q log f → RepresentsAfter stanza q (record { command = idle; acknowledged = whole } ∷ log) f
     still whole q log f x = record { repository = x.repository; reached = (x.repository, x.reached, ([], refl, idle_done whole x.repository)); sound = x.sound; represents = x.represents }
 

@@ -2,7 +2,7 @@
 use Rattle.std.proofs.Common.{◌≡◌, ⊎_elim, inl, inr, ℕ, ◌≤◌, Option, Some, refl, ◌∙◌, sym, subst, arith, Bool, true, false, IsTrue}
 use Rattle.std.specs.Prelude.{IsSome}
 use Rattle.base_devices.specs.Content.{Name, Content, Holds}
-use Rattle.base_devices.specs.Moments.{View, Unchanged, IsImage, SyncsFolders, is_unsynced}
+use Rattle.base_devices.specs.Moments.{View, LeavesNoMore, IsImage, SyncsFolders, is_unsynced}
 use Rattle.base_devices.specs.Crash.{Leaves, Crash, Ends}
 use Rattle.base_model.specs.Text.{Text}
 use Rattle.base_model.specs.Repository.{Repository}
@@ -15,7 +15,7 @@ use Rattle.base_model.proofs.Frame.{AgreesPast, place_past, place_lasts}
 
 -- ---- calls that only read
 
-module _ (stanza : Text) (a b : View) (rests : Unchanged a b) (same : b.now ≡ a.now) where
+module _ (stanza : Text) (a b : View) (rests : LeavesNoMore a b) (same : b.now ≡ a.now) where
   pub rests_synced : IsSynced stanza a → IsSynced stanza b
   rests_synced synced = record {
     fixed = λ n h. still_synced a b rests n (synced.fixed n h);
@@ -106,7 +106,7 @@ ends_with Step Other b d ends with_it = record { comes = λ known g leaves. let 
 
 -- ---- what was synced
 
-module _ (these : Name → Type 0) (a b : View) (rests : Unchanged a b) (same : b.now ≡ a.now) (settles : SyncsFolders these a b) (synced : (n : Name) → these n → is_unsynced a n ≡ false) (f0 : Content) (now : a.now ≡ Some f0) where
+module _ (these : Name → Type 0) (a b : View) (rests : LeavesNoMore a b) (same : b.now ≡ a.now) (settles : SyncsFolders these a b) (synced : (n : Name) → these n → is_unsynced a n ≡ false) (f0 : Content) (now : a.now ≡ Some f0) where
   some_same : (f g : Content) → ◌≡◌ {A = Option Content} (Some f) (Some g) → g ≡ f
   some_same f g e = cc
 
@@ -119,7 +119,7 @@ module _ (these : Name → Type 0) (a b : View) (rests : Unchanged a b) (same : 
       (λ (l : IsTrue (b.unsynced b.moment n) × IsSome (f n)). let u : ◌≡◌ {A = Bool} false true = sym (still_synced a b rests n (synced n is)) ∙ l.0 in cc) (image n)) leaves
 
 -- what is synced stays so while only is read
-pub settles_on : (these : Name → Type 0) (a b d : View) → SyncsFolders these a b → Unchanged b d → SyncsFolders these a d
+pub settles_on : (these : Name → Type 0) (a b d : View) → SyncsFolders these a b → LeavesNoMore b d → SyncsFolders these a d
 settles_on these a b d settles rests n v is synced k = settles n v is synced (⊎_elim (λ o. o) (λ x. absurd x) (rests.grows d.moment n v rests.later (omega arith) k))
 
 -- ---- from a disk that represents one repository

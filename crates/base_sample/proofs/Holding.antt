@@ -5,7 +5,7 @@ use Rattle.std.proofs.lemmas.Bool.{cases_lt}
 use Rattle.std.proofs.lemmas.Slice.Eq.{bytes_eq-Decides}
 use Rattle.base_devices.specs.Content.{Value, Content, SameBut, at, put, lengthened}
 use Rattle.base_devices.specs.DataFolder.{Nodes, Held, file, folder, with_node, longer, lengthened_file, IsPlaced, IsTreeListing, ChangesTree}
-use Rattle.base_devices.specs.declared.tree.FolderEntry.{FolderEntry}
+use Rattle.base_devices.specs.declared.data_folder.FolderEntry.{FolderEntry}
 use Rattle.base_model.specs.Restored.{HoldsTree}
 use Rattle.base_model.specs.Text.{Text, In}
 use Rattle.base_sample.specs.Bytes.{relation_path, relation_bytes, version_path, control_path, version_bytes, control_bytes}

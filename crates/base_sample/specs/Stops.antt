@@ -1,6 +1,6 @@
 -- The fault that a failed call of the data folder becomes.
-use Rattle.base_devices.specs.declared.stop.DeviceError.{DeviceError}
-use Rattle.base_devices.specs.declared.stop.DeviceError.TheVariants.{Failed, NoMemory as WithoutMemory}
+use Rattle.base_devices.specs.declared.device_error.DeviceError.{DeviceError}
+use Rattle.base_devices.specs.declared.device_error.DeviceError.TheVariants.{Failed, NoMemory as WithoutMemory}
 use Rattle.base_sample.specs.declared.folder.fault.FolderFault.{FolderFault}
 use Rattle.base_sample.specs.declared.folder.fault.FolderFault.TheVariants.{DataFolder, NoMemory}
 

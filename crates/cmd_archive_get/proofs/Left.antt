@@ -4,7 +4,7 @@ use Rattle.std.specs.Prelude.{IfSome, IsSome, OnOk, IsErrAnd}
 use Rattle.sha1.specs.Sha1.{sha1}
 use Rattle.base_devices.specs.Content.{Name, Content}
 use Rattle.base_devices.specs.Crash.{Leaves, IsAlikeAt}
-use Rattle.base_devices.specs.Moments.{View, Unchanged}
+use Rattle.base_devices.specs.Moments.{View, LeavesNoMore}
 use Rattle.base_devices.specs.DataFolder.{Nodes}
 use Rattle.base_devices.proofs.Nows.{known_as}
 use Rattle.base_model.specs.declared.clusters.ClusterId.{ClusterId}
@@ -30,17 +30,17 @@ use Rattle.cmd_archive_get.specs.Serving.{OnRefused, Puts, AreFoundIn, IsAbsentI
 
 module _ (stanza : Text) (a b d : View) where
   -- it was left after the first of two calls
-  pub left_prefix : Unchanged b d → d.now ≡ b.now → (f : Option Content) → IsLeft stanza a d f → IsLeft stanza a b f
+  pub left_prefix : LeavesNoMore b d → d.now ≡ b.now → (f : Option Content) → IsLeft stanza a d f → IsLeft stanza a b f
   left_prefix rests same f (inl is) = inl is
   left_prefix rests same f (inr (synced, some, (g, is, leaves))) = inr (synced, some, (g, is, old_leaves b d rests g same leaves))
 
   -- it is left after the second
-  pub left_back : Unchanged a b → b.now ≡ a.now → (f : Option Content) → IsLeft stanza a d f → IsLeft stanza b d f
+  pub left_back : LeavesNoMore a b → b.now ≡ a.now → (f : Option Content) → IsLeft stanza a d f → IsLeft stanza b d f
   left_back rests same f (inl is) = inl (is ∙ sym same)
   left_back rests same f (inr (synced, some, (g, is, leaves))) = inr (rests_synced stanza a b rests same synced, subst (λ (o : Option Content). IsSome o) (sym same) some, (g, is, leaves))
 
 -- what is alike stays so while only is read
-pub ends_alike_on : (stanza : Text) (id : ArchiveId) (name : ArchiveName) (a b d : View) → Unchanged b d → d.now ≡ b.now → EndsAlike stanza id name a b → EndsAlike stanza id name a d
+pub ends_alike_on : (stanza : Text) (id : ArchiveId) (name : ArchiveName) (a b d : View) → LeavesNoMore b d → d.now ≡ b.now → EndsAlike stanza id name a b → EndsAlike stanza id name a d
 ends_alike_on stanza id name a b d rests same alike synced some f g now leaves n is = alike synced some f g (sym same ∙ now) (old_leaves b d rests g same leaves) n is
 
 -- ---- of what is alike
@@ -117,6 +117,6 @@ known_here : (P : Content → Type 0) (o : Option Content) (f : Content) → o �
 known_here P o f is h = subst (λ (x : Option Content). IfSome x P) is h
 
 -- all that is left has the pair that was read
-pub pair_left : (stanza : Text) (a d : View) → Unchanged a d → d.now ≡ a.now → PairAlike stanza a → IsSome a.now → (v : ArchiveInfo) → IfSome a.now (λ f. HasValue stanza f v) → (g : Content) → Leaves d d.moment g → HasValue stanza g v
+pub pair_left : (stanza : Text) (a d : View) → LeavesNoMore a d → d.now ≡ a.now → PairAlike stanza a → IsSome a.now → (v : ArchiveInfo) → IfSome a.now (λ f. HasValue stanza f v) → (g : Content) → Leaves d d.moment g → HasValue stanza g v
 pair_left stanza a d rests same alike some v has g leaves = let f = known_as a.now some in
     alike f.0 g v f.1 (old_leaves a d rests g same leaves) (known_here (λ h. HasValue stanza h v) a.now f.0 f.1 has)

@@ -2,7 +2,7 @@
 ghost use Rattle.std.specs.Prelude.{◌≡◌, ◌≤◌, Option, Some, IfOk, IfErr, IfSome, IsSome};
 ghost use Rattle.base_devices.specs.Content.{Content};
 ghost use Rattle.base_devices.specs.Crash.{Leaves};
-ghost use Rattle.base_devices.specs.States.{Looks};
+ghost use Rattle.base_devices.specs.States.{OnlyReads};
 ghost use Rattle.base_devices.specs.Cause.{Rises};
 ghost use Rattle.base_model.specs.declared.clusters.ClusterId.{ClusterId};
 ghost use Rattle.base_model.specs.Fields.{at_number};
@@ -76,7 +76,7 @@ fn serve_file<D: Disk, T: DataFolder>(
     ensures cause { IfErr result (HaltCause
         (FetchCause stanza.now known.now order.now.name (D.state repo.old).view.now)
         (EitherFailed (D.state repo.old) (D.state repo.new) (T.state tree.old) (T.state tree.new))) }
-    ensures looks { Looks (D.state repo.old) (D.state repo.new) }
+    ensures looks { OnlyReads (D.state repo.old) (D.state repo.new) }
     ensures tree_place { (T.state tree.new).opened ≡ (T.state tree.old).opened }
     ensures tree_later { (T.state tree.old).faults ≤ (T.state tree.new).faults }
 {
@@ -119,7 +119,7 @@ pub fn get_file<D: Disk, T: DataFolder>(
         (D.state repo.old).view.now (T.state tree.old).nodes)
         (T.state tree.old).nodes (T.state tree.new).nodes }
     ensures none { OnNone (reached_by get_early result) ((T.state tree.new).nodes ≡ (T.state tree.old).nodes) }
-    ensures looks { Looks (D.state repo.old) (D.state repo.new) }
+    ensures looks { OnlyReads (D.state repo.old) (D.state repo.new) }
     ensures opened { (T.state tree.new).opened ≡ (T.state tree.old).opened }
     ensures later { (T.state tree.old).faults ≤ (T.state tree.new).faults }
     ensures cause { IfErr result (HaltCause

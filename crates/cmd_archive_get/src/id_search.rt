@@ -1,7 +1,7 @@
 // A file of the archive is served from under that of the stanza's ids that has it.
 ghost use Rattle.std.specs.Prelude.{◌≡◌, ◌≤◌, true, false, Decides, map, Option, Some, IfErr, IfSome, OnOk};
 ghost use Rattle.base_devices.specs.Content.{Content};
-ghost use Rattle.base_devices.specs.States.{Looks};
+ghost use Rattle.base_devices.specs.States.{OnlyReads};
 ghost use Rattle.base_model.specs.declared.clusters.ClusterId.{ClusterId};
 ghost use Rattle.base_model.specs.InfoFiles.{AreFrom};
 ghost use Rattle.archive_lookup.specs.Paths.{has_sum};
@@ -66,7 +66,7 @@ fn serve_whole<D: Disk, T: DataFolder>(
     ensures cause { IfErr result (HaltCause
         (FileCause stanza.now id.now order.now.name (D.state repo.old).view.now)
         (EitherFailed (D.state repo.old) (D.state repo.new) (T.state tree.old) (T.state tree.new))) }
-    ensures looks { Looks (D.state repo.old) (D.state repo.new) }
+    ensures looks { OnlyReads (D.state repo.old) (D.state repo.new) }
     ensures tree_place { (T.state tree.new).opened ≡ (T.state tree.old).opened }
     ensures tree_later { (T.state tree.old).faults ≤ (T.state tree.new).faults }
 {
@@ -103,7 +103,7 @@ fn serve_stored<D: Disk, T: DataFolder>(
     ensures cause { IfErr result (HaltCause
         (FileCause stanza.now id.now order.now.name (D.state repo.old).view.now)
         (EitherFailed (D.state repo.old) (D.state repo.new) (T.state tree.old) (T.state tree.new))) }
-    ensures looks { Looks (D.state repo.old) (D.state repo.new) }
+    ensures looks { OnlyReads (D.state repo.old) (D.state repo.new) }
     ensures tree_place { (T.state tree.new).opened ≡ (T.state tree.old).opened }
     ensures tree_later { (T.state tree.old).faults ≤ (T.state tree.new).faults }
 {
@@ -141,7 +141,7 @@ fn serve_segment<D: Disk, T: DataFolder>(
     ensures cause { IfErr result (HaltCause
         (FileCause stanza.now id.now order.now.name (D.state repo.old).view.now)
         (EitherFailed (D.state repo.old) (D.state repo.new) (T.state tree.old) (T.state tree.new))) }
-    ensures looks { Looks (D.state repo.old) (D.state repo.new) }
+    ensures looks { OnlyReads (D.state repo.old) (D.state repo.new) }
     ensures tree_place { (T.state tree.new).opened ≡ (T.state tree.old).opened }
     ensures tree_later { (T.state tree.old).faults ≤ (T.state tree.new).faults }
 {
@@ -173,7 +173,7 @@ fn serve_under<D: Disk, T: DataFolder>(
     ensures cause { IfErr result (HaltCause
         (UnderCause cluster.now stanza.now known.now order.now.name (D.state repo.old).view.now)
         (EitherFailed (D.state repo.old) (D.state repo.new) (T.state tree.old) (T.state tree.new))) }
-    ensures looks { Looks (D.state repo.old) (D.state repo.new) }
+    ensures looks { OnlyReads (D.state repo.old) (D.state repo.new) }
     ensures tree_place { (T.state tree.new).opened ≡ (T.state tree.old).opened }
     ensures tree_later { (T.state tree.old).faults ≤ (T.state tree.new).faults }
 {
@@ -213,7 +213,7 @@ pub(crate) fn search<D: Disk, T: DataFolder>(
     ensures cause { IfErr result (HaltCause
         (SearchCause history.now stanza.now known.now order.now.name (D.state repo.old).view.now)
         (EitherFailed (D.state repo.old) (D.state repo.new) (T.state tree.old) (T.state tree.new))) }
-    ensures looks { Looks (D.state repo.old) (D.state repo.new) }
+    ensures looks { OnlyReads (D.state repo.old) (D.state repo.new) }
     ensures tree_place { (T.state tree.new).opened ≡ (T.state tree.old).opened }
     ensures tree_later { (T.state tree.old).faults ≤ (T.state tree.new).faults }
 {

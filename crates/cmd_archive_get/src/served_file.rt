@@ -1,8 +1,8 @@
 // A file is put into the data folder.
 ghost use Rattle.std.specs.Prelude.{◌≡◌, ◌≤◌, ◌↔◌, true, OnOk, IfOk, IfErr, IfSome, string_bytes};
-ghost use Rattle.base_devices.specs.States.{Looks};
+ghost use Rattle.base_devices.specs.States.{OnlyReads};
 ghost use Rattle.base_devices.specs.Content.{SameBut};
-ghost use Rattle.base_devices.specs.Moments.{Unchanged};
+ghost use Rattle.base_devices.specs.Moments.{LeavesNoMore};
 ghost use Rattle.base_devices.specs.Cause.{HasCause, Rises};
 ghost use Rattle.cmd_archive_get.specs.Getting.{IsPut, ChangesPath, temporary_path};
 ghost use Rattle.cmd_types.specs.Halts.{HaltCause, Never};
@@ -114,7 +114,7 @@ fn copy_new<D: Disk, T: DataFolder>(
         (T.state tree.old).nodes (T.state tree.new).nodes }
     ensures cause { IfErr result (HaltCause Never
         (EitherFailed (D.state repo.old) (D.state repo.new) (T.state tree.old) (T.state tree.new))) }
-    ensures looks { Looks (D.state repo.old) (D.state repo.new) }
+    ensures looks { OnlyReads (D.state repo.old) (D.state repo.new) }
     ensures tree_place { (T.state tree.new).opened ≡ (T.state tree.old).opened }
     ensures tree_later { (T.state tree.old).faults ≤ (T.state tree.new).faults }
 {
@@ -187,7 +187,7 @@ pub fn pass_on<D: Disk, T: DataFolder>(
     ensures cause { IfErr result (HaltCause
         (PassCause (D.state repo.old).view.now (string_bytes from) sum.0)
         (EitherFailed (D.state repo.old) (D.state repo.new) (T.state tree.old) (T.state tree.new))) }
-    ensures looks { Looks (D.state repo.old) (D.state repo.new) }
+    ensures looks { OnlyReads (D.state repo.old) (D.state repo.new) }
     ensures tree_place { (T.state tree.new).opened ≡ (T.state tree.old).opened }
     ensures tree_later { (T.state tree.old).faults ≤ (T.state tree.new).faults }
 {

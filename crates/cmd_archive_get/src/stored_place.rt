@@ -2,7 +2,7 @@
 ghost use Rattle.std.specs.Prelude.{Option, map, IfOk, IfErr, IfSome};
 ghost use Rattle.base_devices.specs.Cause.{Rises};
 ghost use Rattle.base_devices.specs.Content.{Content};
-ghost use Rattle.base_devices.specs.States.{Looks};
+ghost use Rattle.base_devices.specs.States.{OnlyReads};
 ghost use Rattle.base_model.specs.declared.clusters.ClusterId.{ClusterId};
 ghost use Rattle.base_model.specs.InfoFiles.{AreFrom, IsArchiveInfo};
 ghost use Rattle.base_model.specs.Values.{archive_info_of};
@@ -39,7 +39,7 @@ fn look_under<D: Disk>(
         (UnderCause cluster.now stanza.now known.now name.now (D.state repo.old).view.now)
         (RoseIn (Rises (D.state repo.old).faults (D.state repo.new).faults) ⊥)) }
     ensures undamaged { IfErr result IsUndamaged }
-    ensures looks { Looks (D.state repo.old) (D.state repo.new) }
+    ensures looks { OnlyReads (D.state repo.old) (D.state repo.new) }
 {
     if !is_of(cluster, known) {
         return Ok(None);
@@ -71,7 +71,7 @@ fn look_in<D: Disk>(
         (SearchCause history.now stanza.now known.now name.now (D.state repo.old).view.now)
         (RoseIn (Rises (D.state repo.old).faults (D.state repo.new).faults) ⊥)) }
     ensures undamaged { IfErr result IsUndamaged }
-    ensures looks { Looks (D.state repo.old) (D.state repo.new) }
+    ensures looks { OnlyReads (D.state repo.old) (D.state repo.new) }
 {
     let mut rest = history;
     while let Some((cluster, earlier)) = rest.split_last() {
@@ -106,7 +106,7 @@ pub fn find_file<D: Disk>(
         (FetchCause stanza.now known.now name.now (D.state repo.old).view.now)
         (RoseIn (Rises (D.state repo.old).faults (D.state repo.new).faults) ⊥)) }
     ensures undamaged { IfErr result IsUndamaged }
-    ensures looks { Looks (D.state repo.old) (D.state repo.new) }
+    ensures looks { OnlyReads (D.state repo.old) (D.state repo.new) }
 {
     if !has_cluster(&info.history, known) {
         return Err(mismatch(info, known));

@@ -24,7 +24,7 @@ use Rattle.repo_keys.proofs.Numbers.{map_in}
 use Rattle.repo_info.proofs.OneArchive.{one_archive_pair}
 use Rattle.repo_stanza.specs.declared.control.Control.{Control}
 use Rattle.archive_lookup.specs.declared.stored.files.Stored.{Stored}
-use Rattle.archive_lookup.specs.Looks.{file_prefix}
+use Rattle.archive_lookup.specs.OnlyReads.{file_prefix}
 use Rattle.archive_lookup.specs.Stored.{archive_path, Finds, StoresOnly}
 use Rattle.archive_lookup.proofs.Looked.{with_prefix}
 use Rattle.archive_store.proofs.Got.{same_place}

@@ -5,7 +5,7 @@ use Rattle.std.specs.List.{AllByRecursion}
 use Rattle.sha1.specs.Sha1.{sha1}
 use Rattle.base_text.specs.declared.sum.Sum.{Sum}
 use Rattle.base_devices.specs.Content.{Content, put}
-use Rattle.base_devices.specs.States.{DiskState, Frame}
+use Rattle.base_devices.specs.States.{DiskState, CallsProperly}
 use Rattle.base_disk.specs.Dropped.{without}
 use Rattle.base_model.specs.declared.wal.ArchiveId.{ArchiveId}
 use Rattle.base_model.specs.declared.wal.ArchiveName.{ArchiveName}
@@ -20,10 +20,10 @@ use Rattle.cmd_archive_get.specs.declared.fault.GetFault.{GetFault}
 use Rattle.cmd_archive_get_async.specs.Names.{ahead_folder, ahead_name}
 use Rattle.cmd_archive_get_async.specs.Fetching.{Fetch, newest, IsKept, AreFollowing, with_fetched, HoldsFetched, HasNoNext, IsFetched, FetchesOne, NextCause, AheadCause, PutsAhead}
 
-pub frame_on : (a b c : DiskState) → Frame a b → Frame b c → Frame a c
+pub frame_on : (a b c : DiskState) → CallsProperly a b → CallsProperly b c → CallsProperly a c
 frame_on a b c p q = record { opened = q.opened ∙ p.opened; proper = q.proper ∙ p.proper; later = omega (arith, p.later, q.later) }
 
-pub frame_none : (a : DiskState) → Frame a a
+pub frame_none : (a : DiskState) → CallsProperly a a
 frame_none a = record { opened = refl; proper = refl; later = omega arith }
 
 -- ---- one segment

@@ -6,7 +6,7 @@ use Rattle.std.proofs.lemmas.Result.{IfErr-weaker, IfOk-weaker}
 use Rattle.base_text.specs.declared.sum.Sum.{Sum}
 use Rattle.base_devices.specs.Content.{Content, at}
 use Rattle.base_devices.specs.Crash.{Leaves}
-use Rattle.base_devices.specs.Moments.{View, Unchanged}
+use Rattle.base_devices.specs.Moments.{View, LeavesNoMore}
 use Rattle.base_devices.specs.DataFolder.{Nodes}
 use Rattle.base_model.specs.declared.wal.ArchiveName.{ArchiveName}
 use Rattle.base_model.specs.declared.wal.ArchiveName.TheVariants.{Segment as Whole}
@@ -68,10 +68,10 @@ known_within stanza segment a b only some = known_at a.now b.now some (only.now 
 
 -- ---- after calls that only read, and leave the data folder unchanged
 
-pair_on : (stanza : Text) (a b : View) → Unchanged a b → b.now ≡ a.now → PairAlike stanza a → PairAlike stanza b
+pair_on : (stanza : Text) (a b : View) → LeavesNoMore a b → b.now ≡ a.now → PairAlike stanza a → PairAlike stanza b
 pair_on stanza a b rests same alike f g x now leaves has = alike f g x (sym same ∙ now) (old_leaves a b rests g same leaves) has
 
-module _ (stanza folder word path : Text) (r : Result (Option Stored) (Halt GetFault)) (a b : View) (rests : Unchanged a b) (same : b.now ≡ a.now) (nodes mid after : Option Nodes) (still : mid ≡ nodes) where
+module _ (stanza folder word path : Text) (r : Result (Option Stored) (Halt GetFault)) (a b : View) (rests : LeavesNoMore a b) (same : b.now ≡ a.now) (nodes mid after : Option Nodes) (still : mid ≡ nodes) where
   pub lasts_after : (d : View) → IfOk r (λ x. IsSynced stanza b → IsSome b.now → PairAlike stanza b → (f : Content) → Leaves d d.moment f → ServedAs stanza folder word path (Some f) mid after x)
       → IfOk r (λ x. IsSynced stanza a → IsSome a.now → PairAlike stanza a → (f : Content) → Leaves d d.moment f → ServedAs stanza folder word path (Some f) nodes after x)
   lasts_after d h = IfOk-weaker r _ _

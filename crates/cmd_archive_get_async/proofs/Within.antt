@@ -5,8 +5,8 @@ use Rattle.std.specs.List.{starts_with}
 use Rattle.std.proofs.lemmas.List.{append_cancel_left, take-append-drop, take_at}
 use Rattle.std.proofs.lemmas.Slice.Eq.{bytes_eq-Decides}
 use Rattle.base_devices.specs.Content.{Name, at, is_below, SameBut}
-use Rattle.base_devices.specs.Moments.{View, GrowsBy, Unchanged}
-use Rattle.base_devices.specs.States.{DiskState, Looks}
+use Rattle.base_devices.specs.Moments.{View, GrowsBy, LeavesNoMore}
+use Rattle.base_devices.specs.States.{DiskState, OnlyReads}
 use Rattle.base_devices.proofs.Steps.{goes_on, goes_wide}
 use Rattle.base_disk.specs.Dropped.{Drops}
 use Rattle.base_model.specs.declared.wal.Segment.{Segment}
@@ -31,7 +31,7 @@ module _ (these : Name → Bool) where
   abbrev These : Name → Type 0
   These n = IsTrue (these n)
 
-  pub within_rests : (a b : View) → Unchanged a b → b.now ≡ a.now → ChangesWithin these a b
+  pub within_rests : (a b : View) → LeavesNoMore a b → b.now ≡ a.now → ChangesWithin these a b
   within_rests a b rests same = record {
     now = λ n off. ap (at n) same;
     time = goes_wide (λ _ _. ⊥) (λ n _. These n) (λ _. ⊥) These a b (λ n v h. absurd h) (λ n h. absurd h) rests;
@@ -129,11 +129,11 @@ module _ (stanza : Text) where
   name_below segment sum = prefix_below segment (ahead_name stanza segment sum) (prefix_starts (ahead_prefix stanza segment) (sum_text sum) (ahead_name stanza segment sum) refl)
 
   -- the names of a segment alone change, after a call that only reads
-  pub taken_only : (segment : Segment) (a b d : DiskState) → Looks a b → ChangesWithin (λ n. starts_with nat_eq n (ahead_prefix stanza segment)) b.view d.view → ChangesWithin (λ n. starts_with nat_eq n (ahead_prefix stanza segment)) a.view d.view
+  pub taken_only : (segment : Segment) (a b d : DiskState) → OnlyReads a b → ChangesWithin (λ n. starts_with nat_eq n (ahead_prefix stanza segment)) b.view d.view → ChangesWithin (λ n. starts_with nat_eq n (ahead_prefix stanza segment)) a.view d.view
   taken_only segment a b d looks only =
       let these : Name → Bool = λ n. starts_with nat_eq n (ahead_prefix stanza segment) in
       within_on these a.view b.view d.view (within_rests these a.view b.view looks.time looks.now) only
 
-  pub taken_ahead : (segment : Segment) (a b d : DiskState) → Looks a b → ChangesWithin (λ n. starts_with nat_eq n (ahead_prefix stanza segment)) b.view d.view → ChangesAhead stanza a.view d.view
+  pub taken_ahead : (segment : Segment) (a b d : DiskState) → OnlyReads a b → ChangesWithin (λ n. starts_with nat_eq n (ahead_prefix stanza segment)) b.view d.view → ChangesAhead stanza a.view d.view
   taken_ahead segment a b d looks only =
       within_wide (λ n. starts_with nat_eq n (ahead_prefix stanza segment)) (is_below (ahead_folder stanza)) (prefix_below segment) a.view d.view (taken_only segment a b d looks only)

@@ -1,7 +1,7 @@
 // Opens a file of the log: its first bytes, and how many it has.
 ghost use Rattle.std.specs.Prelude.{◌≡◌, ◌⊎◌, ◌≤◌, ◌<◌, Decides, min, length, IfOk, IfErr, IfSome, IfNone};
 ghost use Rattle.std.proofs.Common.{refl, ap, ◌∙◌};
-ghost use Rattle.base_devices.specs.States.{Looks, LooksAt};
+ghost use Rattle.base_devices.specs.States.{OnlyReads, OnlyReadsFolder};
 ghost use Rattle.base_devices.specs.DataFolder.{known_path};
 ghost use Rattle.base_devices.specs.Cause.{HasCause, Rises};
 ghost use Rattle.cmd_types.specs.declared.stages.object.Object.TheVariants.{TheDataFolder as TheFolder};
@@ -45,7 +45,7 @@ fn measure<T: DataFolder>(
 ) -> Result<Measured, DeviceError>
     requires { 65536 ≤ limit }
     ensures measured { IfOk result (IsMeasured (T.state tree.old).nodes (known_path what) limit) }
-    ensures looks { LooksAt (T.state tree.old) (T.state tree.new) }
+    ensures looks { OnlyReadsFolder (T.state tree.old) (T.state tree.new) }
     ensures cause { HasCause (T.state tree.old).faults (T.state tree.new).faults result }
 {
     let Some(prefix) = read_prefix(alloc, tree, &what, PREFIX)? else {
@@ -83,7 +83,7 @@ pub fn open_log_file<T: DataFolder>(
     ensures opened { IfOk result (IsOpened (T.state tree.old).nodes (wal_path name.now)) }
     ensures cause { IfErr result (HaltCause (FileCause path.now name.now limit (T.state tree.old).nodes)
         (Only TheFolder (Rises (T.state tree.old).faults (T.state tree.new).faults))) }
-    ensures looks { LooksAt (T.state tree.old) (T.state tree.new) }
+    ensures looks { OnlyReadsFolder (T.state tree.old) (T.state tree.new) }
 {
     let what = ReadableFile::Wal(String::from_str(alloc, name)?);
     match measure(alloc, tree, what, limit) {

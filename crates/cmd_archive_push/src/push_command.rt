@@ -2,7 +2,7 @@
 ghost use Rattle.std.specs.Prelude.{◌≡◌, ◌∷◌, [], ◌≤◌, ◌<◌, ◌^◌, IfOk, IfErr, IfSome, IsSome, IsSomeAnd, string_bytes};
 ghost use Rattle.base_devices.specs.Cause.{Rises};
 ghost use Rattle.base_devices.specs.Crash.{IsAlikeAt};
-ghost use Rattle.base_devices.specs.States.{Frame, LooksAt};
+ghost use Rattle.base_devices.specs.States.{CallsProperly, OnlyReadsFolder};
 ghost use Rattle.base_model.specs.declared.clusters.ClusterId.{ClusterId};
 ghost use Rattle.base_model.specs.InfoFiles.{IsArchiveInfo};
 ghost use Rattle.base_model.specs.Names.{archive_info, wal_text};
@@ -93,9 +93,9 @@ fn store<D: Disk, T: DataFolder>(
         → IsAlikeAt (IsMember (archive_info stanza.now)) (D.state repo.old).view
         → IsAlikeAt (IsMember (archive_info stanza.now)) (D.state repo.new).view }
     ensures rest { OnNone (reached_by push_early result) (IsStill (D.state repo.old).view (D.state repo.new).view) }
-    ensures looks { LooksAt (T.state tree.old) (T.state tree.new) }
+    ensures looks { OnlyReadsFolder (T.state tree.old) (T.state tree.new) }
     ensures beside { StaysBeside stanza.now (D.state repo.old).view (D.state repo.new).view }
-    ensures frame { Frame (D.state repo.old) (D.state repo.new) }
+    ensures frame { CallsProperly (D.state repo.old) (D.state repo.new) }
     ensures cause { IfErr result (HaltCause
         (PushCause stanza.now order.now.folder.now order.now.path.now (D.state repo.old).view.now
         (T.state tree.old).nodes)
@@ -155,9 +155,9 @@ pub fn push_file<D: Disk, T: DataFolder, K: Locks>(
         → IsAlikeAt (IsMember (archive_info stanza.now)) (D.state repo.old).view
         → IsAlikeAt (IsMember (archive_info stanza.now)) (D.state repo.new).view }
     ensures rest { OnNone (reached_by push_early result) (IsStill (D.state repo.old).view (D.state repo.new).view) }
-    ensures looks { LooksAt (T.state tree.old) (T.state tree.new) }
+    ensures looks { OnlyReadsFolder (T.state tree.old) (T.state tree.new) }
     ensures beside { StaysBeside stanza.now (D.state repo.old).view (D.state repo.new).view }
-    ensures frame { Frame (D.state repo.old) (D.state repo.new) }
+    ensures frame { CallsProperly (D.state repo.old) (D.state repo.new) }
     ensures cause { IfErr result (HaltCause
         (PushCause stanza.now order.entry.folder.now order.entry.path.now (D.state repo.old).view.now
         (T.state tree.old).nodes)

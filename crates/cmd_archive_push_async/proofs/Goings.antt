@@ -3,7 +3,7 @@ use Rattle.std.proofs.Common.{◌≡◌, ◌⊎◌, ⊎_elim, inl, inr, ℕ, ◌
 use Rattle.std.specs.Prelude.{IsSome}
 use Rattle.std.proofs.lemmas.List.{append-nil}
 use Rattle.base_devices.specs.Content.{Content}
-use Rattle.base_devices.specs.Moments.{View, Unchanged, IsImage}
+use Rattle.base_devices.specs.Moments.{View, LeavesNoMore, IsImage}
 use Rattle.base_model.specs.declared.wal.ArchiveId.{ArchiveId}
 use Rattle.base_model.specs.Text.{Text, In}
 use Rattle.base_model.specs.Repository.{Stanza, Repository}
@@ -59,7 +59,7 @@ in_either x (z ∷ xs) ys h = ⊎_elim (λ (e : x ≡ z). inl (inl e)) (λ k. �
 module _ (stanza : Text) (id : ArchiveId) where
   -- ---- where nothing is written
 
-  pub stores_none : (a b : View) → Unchanged a b → b.now ≡ a.now → GoesByStores stanza id [] [] a b
+  pub stores_none : (a b : View) → LeavesNoMore a b → b.now ≡ a.now → GoesByStores stanza id [] [] a b
   stores_none a b rests same = record {
     known = λ some. subst (λ (o : Option Content). IsSome o) (sym same) some;
     now = λ s some now. ([], refl, subst (λ (o : Option Content). NowRepresents stanza (Some s) o) (sym same) now);
@@ -68,7 +68,7 @@ module _ (stanza : Text) (id : ArchiveId) where
     held = λ s steady some n at. absurd at;
   }
 
-  pub rests_self : (a : View) → Unchanged a a
+  pub rests_self : (a : View) → LeavesNoMore a a
   rests_self a = record {
     later = omega arith;
     same = λ t n v le h. h;

@@ -5,8 +5,8 @@ use Rattle.std.proofs.lemmas.List.{append_cancel_left, append_cancel_right}
 use Rattle.base_devices.specs.Content.{Name}
 use Rattle.base_devices.specs.Order.{are_in_order}
 use Rattle.base_devices.specs.DataFolder.{Nodes, Held, file, folder, link, other, file_bytes, shown, IsTreeListing}
-use Rattle.base_devices.specs.declared.tree.Node.{Node}
-use Rattle.base_devices.specs.declared.tree.FolderEntry.{FolderEntry}
+use Rattle.base_devices.specs.declared.data_folder.Node.{Node}
+use Rattle.base_devices.specs.declared.data_folder.FolderEntry.{FolderEntry}
 use Rattle.base_model.specs.declared.wal.ArchiveName.{ArchiveName}
 use Rattle.base_model.specs.Names.{wal_text}
 use Rattle.base_model.specs.Represents.{IsWalName}

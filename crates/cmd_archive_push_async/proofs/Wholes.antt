@@ -5,7 +5,7 @@ use Rattle.std.proofs.lemmas.List.{append-nil}
 use Rattle.base_devices.specs.Cause.{Rises}
 use Rattle.base_devices.specs.Content.{Content, LiesDirectlyIn, Holds, is_below}
 use Rattle.base_devices.specs.Crash.{IsTemporary, NowChanges, AllOf, FirstOf}
-use Rattle.base_devices.specs.Moments.{View, Unchanged, SyncsFolders, is_unsynced}
+use Rattle.base_devices.specs.Moments.{View, LeavesNoMore, SyncsFolders, is_unsynced}
 use Rattle.base_devices.specs.DataFolder.{Nodes}
 use Rattle.base_disk.proofs.Images.{Law}
 use Rattle.base_model.specs.declared.wal.ArchiveId.{ArchiveId}
@@ -109,7 +109,7 @@ names_as nodes seen names same h = subst (λ (l : List ArchiveName). IfSome node
 -- ---- after the sync at its end
 
 module _ (stanza : Text) (id : ArchiveId) (system : ℕ) (f : Nodes) (names : List ArchiveName) where
-  read_from : (end last : Option Drained) (held : Option Content) (repo new_repo spool mid new_spool : View) → (IsSome last → last ≡ end) → Unchanged mid new_spool → new_spool.now ≡ mid.now
+  read_from : (end last : Option Drained) (held : Option Content) (repo new_repo spool mid new_spool : View) → (IsSome last → last ≡ end) → LeavesNoMore mid new_spool → new_spool.now ≡ mid.now
       → DrainsFrom stanza id system f names end held repo new_repo spool mid → DrainsFrom stanza id system f names last held repo new_repo spool new_spool
   read_from end last held repo new_repo spool mid new_spool ends rests same p = record {
     entries = p.entries;
@@ -133,7 +133,7 @@ module _ (stanza : Text) (id : ArchiveId) (system : ℕ) (f : Nodes) (names : Li
   ended_by (Ok x) d same some = ap (λ (k : Drained). Some k) same
   ended_by (Err e) d same some = cc
 
-  pub settled_drains : (repo new_repo spool mid new_spool : View) → Law spool → Law new_spool → (r : Result Drained (Halt PushFault)) (d : Drained) → IfOk r (λ x. x ≡ d) → Unchanged mid new_spool → new_spool.now ≡ mid.now
+  pub settled_drains : (repo new_repo spool mid new_spool : View) → Law spool → Law new_spool → (r : Result Drained (Halt PushFault)) (d : Drained) → IfOk r (λ x. x ≡ d) → LeavesNoMore mid new_spool → new_spool.now ≡ mid.now
       → DrainsNamed stanza id system f names (Some d) repo new_repo spool mid → DrainsNamed stanza id system f names (end_of r) repo new_repo spool new_spool
   settled_drains repo new_repo spool mid new_spool law new_law r d same rests now p = record {
     held = p.held;

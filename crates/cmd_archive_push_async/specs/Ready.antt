@@ -4,9 +4,9 @@ use Rattle.std.specs.Prelude.{◌≡◌, ◌≢◌, ◌++◌, Bool, true, false,
 use Rattle.base_devices.specs.Content.{Name}
 use Rattle.base_devices.specs.Order.{are_in_order}
 use Rattle.base_devices.specs.DataFolder.{Nodes, file_bytes}
-use Rattle.base_devices.specs.declared.tree.Node.{Node}
-use Rattle.base_devices.specs.declared.tree.Node.TheVariants.{File, Folder, Link, Other}
-use Rattle.base_devices.specs.declared.tree.FolderEntry.{FolderEntry}
+use Rattle.base_devices.specs.declared.data_folder.Node.{Node}
+use Rattle.base_devices.specs.declared.data_folder.Node.TheVariants.{File, Folder, Link, Other}
+use Rattle.base_devices.specs.declared.data_folder.FolderEntry.{FolderEntry}
 use Rattle.base_model.specs.declared.wal.ArchiveName.{ArchiveName}
 use Rattle.base_model.specs.Names.{wal_text}
 use Rattle.base_model.specs.Represents.{IsWalName}

@@ -6,9 +6,9 @@ use Rattle.base_text.specs.Sum.{IsSum}
 use Rattle.base_devices.specs.Cause.{Rises}
 use Rattle.base_devices.specs.Content.{Content, Name}
 use Rattle.base_devices.specs.Moments.{View}
-use Rattle.base_devices.specs.declared.stop.DeviceError.{DeviceError}
-use Rattle.base_devices.specs.declared.stop.DeviceError.TheVariants.{Failed as ErrorFailed, NoMemory as ErrorNoMemory}
-use Rattle.base_devices.specs.States.{DiskState, Frame}
+use Rattle.base_devices.specs.declared.device_error.DeviceError.{DeviceError}
+use Rattle.base_devices.specs.declared.device_error.DeviceError.TheVariants.{Failed as ErrorFailed, NoMemory as ErrorNoMemory}
+use Rattle.base_devices.specs.States.{DiskState, CallsProperly}
 use Rattle.base_model.specs.declared.wal.ArchiveName.{ArchiveName}
 use Rattle.base_model.specs.Text.{Text}
 use Rattle.base_model.specs.Represents.{IsWalName}
@@ -33,10 +33,10 @@ use Rattle.cmd_archive_push_wait.proofs.Waiting.{HasCleared, HasLooked, Waiting,
 
 -- ---- frames and counts
 
-pub frame_none : (d : DiskState) → Frame d d
+pub frame_none : (d : DiskState) → CallsProperly d d
 frame_none d = record { opened = refl; proper = refl; later = omega arith }
 
-pub frame_on : (a b c : DiskState) → Frame a b → Frame b c → Frame a c
+pub frame_on : (a b c : DiskState) → CallsProperly a b → CallsProperly b c → CallsProperly a c
 frame_on a b c p q = record { opened = q.opened ∙ p.opened; proper = q.proper ∙ p.proper; later = omega (arith, p.later, q.later) }
 
 pub counts_on : (n before mid after : ℕ) → Counts n before mid → Counts 1 mid after → Counts (n + 1) before after
@@ -95,8 +95,8 @@ started_on P o o2 same h = subst (λ (x : Option Account). IfSome x P) (sym same
 pub record HasWaited (stanza : Text) (name : ArchiveName) (sum : Text) (arguments : List Text) (count : ℕ) (others others2 : ProcessesState)
     (repo repo2 spool spool2 : DiskState) : Type 0 where
   pub waiting : IfSome others2.account (λ k. k.stanza ≡ stanza → Waiting name sum others.account k repo.view repo2.view spool.view spool2.view)
-  pub repo_frame : Frame repo repo2
-  pub spool_frame : Frame spool spool2
+  pub repo_frame : CallsProperly repo repo2
+  pub spool_frame : CallsProperly spool spool2
   pub started : IsStarted arguments others others2
   pub counts : Counts count others.turns others2.turns
   pub later : others.faults ≤ others2.faults

@@ -4,7 +4,7 @@ use Rattle.std.specs.Prelude.{IfSome, IfErr, IsErrOf, IsSome, IsSomeAnd, IsTrue,
 use Rattle.base_devices.specs.Cause.{Rises}
 use Rattle.base_devices.specs.Content.{Content, Name, Value, Holds, LiesDirectlyIn, is_below, put}
 use Rattle.base_devices.specs.Crash.{Leaves}
-use Rattle.base_devices.specs.Moments.{View, Unchanged, SyncsFolders, is_unsynced}
+use Rattle.base_devices.specs.Moments.{View, LeavesNoMore, SyncsFolders, is_unsynced}
 use Rattle.base_devices.proofs.Nows.{known_as}
 use Rattle.base_disk.specs.declared.fault.StoreFault.{StoreFault}
 use Rattle.base_disk.specs.declared.fault.StoreFault.TheVariants as marks
@@ -64,7 +64,7 @@ module _ (stanza : Text) (name : ArchiveName) where
 
   -- no crash brings the receipt back, once its name is synced
   module _ (fits : IsWalName name) (t m u : View) (gives : GivesMarks stanza [] t m) (clear : IfSome m.now (IsClear stanza name))
-      (known : IsSome t.now → IsSome m.now) (rests : Unchanged m u) (same : u.now ≡ m.now) (settled : SyncsFolders (LiesDirectlyIn (marks_folder stanza)) m u) where
+      (known : IsSome t.now → IsSome m.now) (rests : LeavesNoMore m u) (same : u.now ≡ m.now) (settled : SyncsFolders (LiesDirectlyIn (marks_folder stanza)) m u) where
     abbrev at : Name
     at = receipt_name stanza name
 

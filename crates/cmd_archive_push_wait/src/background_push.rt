@@ -2,7 +2,7 @@
 ghost use Rattle.std.specs.Prelude.{◌≡◌, ◌⊎◌, ◌≤◌, [], ℕ, map, IfOk, IfErr, IfSome, string_bytes};
 ghost use Rattle.sha1.specs.Sha1.{sha1};
 ghost use Rattle.base_devices.specs.Cause.{Rises};
-ghost use Rattle.base_devices.specs.States.{Frame, LooksAt};
+ghost use Rattle.base_devices.specs.States.{CallsProperly, OnlyReadsFolder};
 ghost use Rattle.base_model.specs.Names.{wal_text};
 ghost use Rattle.base_crash_lists.specs.Beside.{StaysBeside};
 ghost use Rattle.cmd_types.specs.declared.stages.plan.SyncScope.TheVariants.{Looked};
@@ -53,9 +53,9 @@ pub fn queue_push<D: Disk, S: Disk, T: DataFolder, A: OtherProcesses<D, S>>(
     ensures beside { IfSome (A.state processes.new).account (λ a. a.stanza ≡ stanza.now
         → StaysBeside stanza.now (D.state repo.old).view (D.state repo.new).view
         × StaysBeside stanza.now (S.state spool.old).view (S.state spool.new).view) }
-    ensures repo_frame { Frame (D.state repo.old) (D.state repo.new) }
-    ensures spool_frame { Frame (S.state spool.old) (S.state spool.new) }
-    ensures looks { LooksAt (T.state tree.old) (T.state tree.new) }
+    ensures repo_frame { CallsProperly (D.state repo.old) (D.state repo.new) }
+    ensures spool_frame { CallsProperly (S.state spool.old) (S.state spool.new) }
+    ensures looks { OnlyReadsFolder (T.state tree.old) (T.state tree.new) }
     ensures few { (n : ℕ) × (n ≤ turns) × Counts n (A.state processes.old).turns (A.state processes.new).turns }
     ensures started { ((A.state processes.new).started ≡ (A.state processes.old).started)
         ⊎ IsStarted (map string_bytes arguments.now) (A.state processes.old) (A.state processes.new) }

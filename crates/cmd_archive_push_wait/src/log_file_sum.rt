@@ -2,7 +2,7 @@
 ghost use Rattle.std.specs.Prelude.{◌≡◌, IfOk, IfErr, IfSome};
 ghost use Rattle.sha1.specs.Sha1.{sha1};
 ghost use Rattle.base_devices.specs.Cause.{Rises};
-ghost use Rattle.base_devices.specs.States.{LooksAt};
+ghost use Rattle.base_devices.specs.States.{OnlyReadsFolder};
 ghost use Rattle.base_text.specs.Sum.{IsSum};
 ghost use Rattle.base_model.specs.Names.{wal_text};
 ghost use Rattle.archive_lookup.specs.Causes.{limit_of};
@@ -47,7 +47,7 @@ pub(crate) fn sum_file<T: DataFolder>(
     ensures is_sum { IfOk result (λ sum. IsSum sum.0) }
     ensures sum { IfOk result (λ sum. IfSome
         (known_file (T.state tree.old).nodes (wal_path (wal_text order.now.name))) (λ bytes. sum.0 ≡ sha1 bytes)) }
-    ensures looks { LooksAt (T.state tree.old) (T.state tree.new) }
+    ensures looks { OnlyReadsFolder (T.state tree.old) (T.state tree.new) }
     ensures cause { IfErr result (HaltCause
         (MissCause order.now.path.now (wal_text order.now.name) (limit_of order.now.name) (T.state tree.old).nodes)
         (Only TheFolder (Rises (T.state tree.old).faults (T.state tree.new).faults))) }

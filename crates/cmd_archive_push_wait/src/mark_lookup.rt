@@ -4,7 +4,7 @@ ghost use Rattle.base_text.specs.Sum.{IsSum};
 ghost use Rattle.base_devices.specs.Cause.{Rises};
 ghost use Rattle.base_devices.specs.Content.{LiesDirectlyIn};
 ghost use Rattle.base_devices.specs.Moments.{SyncsFolders, is_unsynced};
-ghost use Rattle.base_devices.specs.States.{Frame, Looks};
+ghost use Rattle.base_devices.specs.States.{CallsProperly, OnlyReads};
 ghost use Rattle.base_model.specs.Names.{receipt_name};
 ghost use Rattle.cmd_types.specs.declared.stages.object.Object.TheVariants.{Spool as TheSpool};
 ghost use Rattle.cmd_types.specs.Halts.{HaltCause, Never, Only};
@@ -27,7 +27,7 @@ use std::alloc::Global;
 fn sync_marks<S: Disk>(alloc: Global, spool: &mut S, stanza: &str) -> Result<(), Halt<QueueFault>>
     ensures settled { OnOk result (SyncsFolders (LiesDirectlyIn (marks_folder stanza.now)) (S.state spool.old).view
         (S.state spool.new).view) }
-    ensures looks { Looks (S.state spool.old) (S.state spool.new) }
+    ensures looks { OnlyReads (S.state spool.old) (S.state spool.new) }
     ensures cause { IfErr result (HaltCause Never
         (Only TheSpool (Rises (S.state spool.old).faults (S.state spool.new).faults))) }
 {
@@ -59,7 +59,7 @@ pub(crate) fn look<S: Disk>(
     ensures known { IsSome (S.state spool.old).view.now → IsSome (S.state spool.new).view.now }
     ensures marks { GivesMarks stanza.now [] (S.state spool.old).view (S.state spool.new).view }
     ensures only { ChangesArchive stanza.now (S.state spool.old).view (S.state spool.new).view }
-    ensures frame { Frame (S.state spool.old) (S.state spool.new) }
+    ensures frame { CallsProperly (S.state spool.old) (S.state spool.new) }
     ensures cause { IfErr result (HaltCause (LongCause stanza.now name (S.state spool.old).view.now)
         (Only TheSpool (Rises (S.state spool.old).faults (S.state spool.new).faults))) }
 {

@@ -2,7 +2,7 @@
 ghost use Rattle.std.specs.Prelude.{◌≡◌, ◌⊎◌, ◌≤◌, ℕ, map, is_ok, IfErr, IfSome, IsSomeAnd, OnOk, string_bytes};
 ghost use Rattle.base_text.specs.Sum.{IsSum};
 ghost use Rattle.base_devices.specs.Cause.{Rises};
-ghost use Rattle.base_devices.specs.States.{Frame};
+ghost use Rattle.base_devices.specs.States.{CallsProperly};
 ghost use Rattle.base_model.specs.Log.{HasReceipt};
 ghost use Rattle.cmd_types.specs.Halts.{HaltCause};
 ghost use Rattle.cmd_types.specs.Risen.{none, rose_in};
@@ -45,8 +45,8 @@ pub fn queue_file<D: Disk, S: Disk, A: OtherProcesses<D, S>>(
     ensures went { IfSome (A.state processes.new).account (λ a. a.stanza ≡ stanza.now
         → TurnsDone (is_ok result) (A.state processes.old).account a (D.state repo.old).view (D.state repo.new).view
         (S.state spool.old).view (S.state spool.new).view) }
-    ensures repo_frame { Frame (D.state repo.old) (D.state repo.new) }
-    ensures spool_frame { Frame (S.state spool.old) (S.state spool.new) }
+    ensures repo_frame { CallsProperly (D.state repo.old) (D.state repo.new) }
+    ensures spool_frame { CallsProperly (S.state spool.old) (S.state spool.new) }
     ensures few { (n : ℕ) × (n ≤ turns) × Counts n (A.state processes.old).turns (A.state processes.new).turns }
     ensures started { ((A.state processes.new).started ≡ (A.state processes.old).started)
         ⊎ IsStarted (map string_bytes arguments.now) (A.state processes.old) (A.state processes.new) }

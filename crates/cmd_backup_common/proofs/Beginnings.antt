@@ -5,10 +5,10 @@ use Rattle.std.specs.List.{list_any}
 use Rattle.std.proofs.lemmas.List.Elements.{Contains-append_right}
 use Rattle.std.proofs.lemmas.Slice.Eq.{bytes_eq-Decides}
 use Rattle.base_devices.specs.Cause.{HasCause, Rises}
-use Rattle.base_devices.specs.declared.stop.DeviceError.{DeviceError}
-use Rattle.base_devices.specs.declared.stop.DeviceError.TheVariants as stops
-use Rattle.base_devices.specs.declared.tree.Node.{Node}
-use Rattle.base_devices.specs.declared.tree.FolderEntry as rust_seen
+use Rattle.base_devices.specs.declared.device_error.DeviceError.{DeviceError}
+use Rattle.base_devices.specs.declared.device_error.DeviceError.TheVariants as stops
+use Rattle.base_devices.specs.declared.data_folder.Node.{Node}
+use Rattle.base_devices.specs.declared.data_folder.FolderEntry as rust_seen
 use Rattle.base_devices.specs.DataFolder.{Nodes, Held, IsTreeListing, shown}
 use Rattle.base_model.specs.Text.{Text}
 use Rattle.base_model.specs.Values.{ArchiveInfo, BackupInfo}

@@ -1,6 +1,6 @@
 -- What a backup takes of a running server leaves the path of the label file free.
 use Rattle.std.proofs.Common.{true, refl, subst, List}
-use Rattle.base_devices.specs.declared.tree.Node.TheVariants as nodes
+use Rattle.base_devices.specs.declared.data_folder.Node.TheVariants as nodes
 use Rattle.base_model.specs.Text.{Text, In}
 use Rattle.backup_plan.specs.Filter.{ListedNode, Takes, kept}
 use Rattle.backup_plan.specs.Listed.{Taken}

@@ -1,6 +1,6 @@
 -- The fault that a failed call of an object becomes. Own.
-use Rattle.base_devices.specs.declared.stop.DeviceError.{DeviceError}
-use Rattle.base_devices.specs.declared.stop.DeviceError.TheVariants as stops
+use Rattle.base_devices.specs.declared.device_error.DeviceError.{DeviceError}
+use Rattle.base_devices.specs.declared.device_error.DeviceError.TheVariants as stops
 use Rattle.cmd_backup_common.specs.declared.drafts.fault.SecondFault.{SecondFault}
 use Rattle.cmd_backup_common.specs.declared.drafts.fault.SecondFault.TheVariants.{Clock, Disk, NoMemory}
 

@@ -3,7 +3,7 @@ use Rattle.std.proofs.Common.{◌≡◌, ⊎_elim, inl, inr, ◌<◌, ℕ, List,
 use Rattle.std.specs.Prelude.{IfSome, IsSome, IsErrAnd, OnOk, IfOk, Result, Ok, Err}
 use Rattle.base_devices.specs.Content.{Content}
 use Rattle.base_devices.specs.Links.{LinkState}
-use Rattle.base_devices.specs.Moments.{View, Unchanged}
+use Rattle.base_devices.specs.Moments.{View, LeavesNoMore}
 use Rattle.base_model.specs.declared.clusters.ArchiveInfo as rust_archive_info
 use Rattle.base_model.specs.declared.clusters.BackupInfo as rust_backup_info
 use Rattle.base_model.specs.declared.labels.Choices.{Choices}
@@ -92,7 +92,7 @@ none_by Full links stanza reached a b not still = no_backup links stanza reached
 none_by Diff links stanza reached a b not still = no_later links stanza reached a b not still
 none_by Incr links stanza reached a b not still = no_later links stanza reached a b not still
 
-pub refused_offline : (kind : BackupKind) (used : List LinkState) (stanza : Text) (result : Result Outcome (Halt OfflineFault)) (h : Halt OfflineFault) → IsErrAnd result (λ x. x ≡ h) → (a b : View) → Unchanged a b → b.now ≡ a.now
+pub refused_offline : (kind : BackupKind) (used : List LinkState) (stanza : Text) (result : Result Outcome (Halt OfflineFault)) (h : Halt OfflineFault) → IsErrAnd result (λ x. x ≡ h) → (a b : View) → LeavesNoMore a b → b.now ≡ a.now
     → On (one (IsBackupBy kind used stanza a.now)) (λ command. RepoEffect Whole stanza command (reached_by offline_early result) a b)
 refused_offline kind used stanza result h is a b rests same = none_by kind used stanza (reached_by offline_early result) a b (not_end result h is) (record { now = same; time = rests })
 
@@ -140,12 +140,12 @@ not_ended (Err (Refused e)) h is at = let e : turned_back ≡ to_end = at in cc
 not_ended (Err (Failed object)) h is at = back_not (fails_early object) at
 not_ended (Err NoMemory) h is at = let e : stopped ≡ to_end = at in cc
 
-pub undrafted_does : (kind : BackupKind) (links : List LinkState) (stanza : Text) (result : Result Outcome (Halt BackupFault)) (h : Halt BackupFault) → IsErrAnd result (λ x. x ≡ h) → (a b : View) → Unchanged a b → b.now ≡ a.now
+pub undrafted_does : (kind : BackupKind) (links : List LinkState) (stanza : Text) (result : Result Outcome (Halt BackupFault)) (h : Halt BackupFault) → IsErrAnd result (λ x. x ≡ h) → (a b : View) → LeavesNoMore a b → b.now ≡ a.now
     → On (one (IsBackupBy kind links stanza a.now)) (λ command. RepoEffect Whole stanza command (reached_by backup_early result) a b)
 undrafted_does kind links stanza result h is a b rests same = none_by kind links stanza (reached_by backup_early result) a b (not_ended result h is) (record { now = same; time = rests })
 
 module _ (stanza : Text) (o : OfflineOrder) (seen : List ListedNode) (list : BackupInfo) (old : List FileEntry) (second : ℕ) (draft : Draft) (later : IsOfflineOf false stanza o seen list old second draft) (first : List LinkState) (planned : IsPlannedBy first o draft) (lines : Text)
-    (line_is : lines ≡ offline_lines o.kind (base_in o.kind list) draft.label) (links : List LinkState) (comes : Comes first links) (a b d : View) (rests : Unchanged a b) (same : b.now ≡ a.now) (law : Law b) (is_draft : IsDraft draft)
+    (line_is : lines ≡ offline_lines o.kind (base_in o.kind list) draft.label) (links : List LinkState) (comes : Comes first links) (a b d : View) (rests : LeavesNoMore a b) (same : b.now ≡ a.now) (law : Law b) (is_draft : IsDraft draft)
     (from : BeginsFrom stanza o a.now list old) where
   begins : BeginsBackup draft b
   begins = begins_later false stanza o seen list old second draft later b law (subst (λ (n : Option Content). BeginsFrom stanza o n list old) (sym same) from) is_draft
@@ -242,7 +242,7 @@ module _ (stanza : Text) (o : OfflineOrder) (seen : List ListedNode) (list : Bac
 
 -- ---- the whole command
 
-module _ (used now : List LinkState) (comes : Comes used now) (stanza : Text) (a c d : View) (rests : Unchanged a c) (same : c.now ≡ a.now) where
+module _ (used now : List LinkState) (comes : Comes used now) (stanza : Text) (a c d : View) (rests : LeavesNoMore a c) (same : c.now ≡ a.now) where
   -- its own part after calls that only read
   pub command_does : (kind : BackupKind) (r : Result Outcome (Halt BackupFault)) (reached : Reached) → reached_by backup_early r ≡ reached → On (one (IsBackupBy kind now stanza c.now)) (λ command. RepoEffect Whole stanza command (reached_by backup_early r) c d)
       → On (one (IsBackupBy kind used stanza a.now)) (λ command. RepoEffect Whole stanza command reached a d)

@@ -1,7 +1,7 @@
 // backup of a stopped server, of any kind.
 ghost use Rattle.std.specs.Prelude.{◌≡◌, ◌≤◌, ◌<◌, ◌^◌, map, take, vec_len, option_map, IfOk, IfErr};
 ghost use Rattle.base_devices.specs.Cause.{Rises};
-ghost use Rattle.base_devices.specs.States.{Frame, LooksAt};
+ghost use Rattle.base_devices.specs.States.{CallsProperly, OnlyReadsFolder};
 ghost use Rattle.base_model.specs.Values.{file_entry_of, manifest_of};
 ghost use Rattle.base_crash_lists.specs.Beside.{StaysBeside};
 ghost use Rattle.worker_pool.specs.Run.{AreReady};
@@ -73,8 +73,8 @@ pub fn back_up_offline<D: Disk, T: DataFolder, C: Clock, K: Locks, L: Link, U: S
         (take order.entry.take.workers (map L.link_state links.old.items)) (D.state repo.old).view.now
         (D.state repo.new).view.now)) }
     ensures beside { StaysBeside stanza.now (D.state repo.old).view (D.state repo.new).view }
-    ensures frame { Frame (D.state repo.old) (D.state repo.new) }
-    ensures looks { LooksAt (T.state tree.old) (T.state tree.new) }
+    ensures frame { CallsProperly (D.state repo.old) (D.state repo.new) }
+    ensures looks { OnlyReadsFolder (T.state tree.old) (T.state tree.new) }
     ensures later { (C.state clock.old).faults ≤ (C.state clock.new).faults }
     ensures least { (C.state clock.old).least ≤ (C.state clock.new).least }
     ensures cause { IfErr result (HaltCause

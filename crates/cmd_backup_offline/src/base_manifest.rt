@@ -1,7 +1,7 @@
 // The manifest of the backup that a further one is based on.
 ghost use Rattle.std.specs.Prelude.{◌≡◌, option_map, IfOk, IfErr, IfSome};
 ghost use Rattle.base_devices.specs.Cause.{Rises};
-ghost use Rattle.base_devices.specs.States.{Looks};
+ghost use Rattle.base_devices.specs.States.{OnlyReads};
 ghost use Rattle.base_model.specs.InfoFiles.{IsBackupInfo, IsLabel};
 ghost use Rattle.base_model.specs.Values.{backup_info_of, manifest_of};
 ghost use Rattle.cmd_types.specs.declared.stages.object.Object.TheVariants.{Repo as TheRepo};
@@ -40,7 +40,7 @@ pub fn load_base<D: Disk>(
     requires { IsBackupInfo (backup_info_of list.now) }
     ensures reads { IfOk result (λ m. ReadsBase stanza.now (D.state repo.old).view.now
         (base_label kind (backup_info_of list.now)) (option_map manifest_of m)) }
-    ensures looks { Looks (D.state repo.old) (D.state repo.new) }
+    ensures looks { OnlyReads (D.state repo.old) (D.state repo.new) }
     ensures cause { IfErr result (HaltCause
         (BaseCause stanza.now (D.state repo.old).view.now (base_label kind (backup_info_of list.now)))
         (Only TheRepo (Rises (D.state repo.old).faults (D.state repo.new).faults))) }

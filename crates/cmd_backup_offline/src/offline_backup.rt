@@ -1,7 +1,7 @@
 // Makes the backup.
 ghost use Rattle.std.specs.Prelude.{◌≡◌, ◌≤◌, ◌<◌, ◌^◌, map, vec_len, IfOk, IfErr};
 ghost use Rattle.base_devices.specs.Cause.{Rises};
-ghost use Rattle.base_devices.specs.States.{Frame};
+ghost use Rattle.base_devices.specs.States.{CallsProperly};
 ghost use Rattle.base_model.specs.InfoFiles.{IsBackupInfo};
 ghost use Rattle.base_model.specs.Values.{backup_info_of, file_entry_of};
 ghost use Rattle.backup_plan.specs.Views.{seen_of};
@@ -55,7 +55,7 @@ pub(crate) fn make_offline<'a, D: Disk, L: Link, U: Scheduler, C: Clock>(
         (backup_info_of begun.list) (map seen_of begun.seen.items) (map L.link_state links.old.items)
         (D.state repo.old).view.now (D.state repo.new).view.now)) }
     ensures beside { StaysBeside stanza.now (D.state repo.old).view (D.state repo.new).view }
-    ensures frame { Frame (D.state repo.old) (D.state repo.new) }
+    ensures frame { CallsProperly (D.state repo.old) (D.state repo.new) }
     ensures later { (C.state clock.old).faults ≤ (C.state clock.new).faults }
     ensures least { (C.state clock.old).least ≤ (C.state clock.new).least }
     ensures cause { IfErr result (HaltCause

@@ -1,7 +1,7 @@
 // What the backup is to be made of.
 ghost use Rattle.std.specs.Prelude.{◌≡◌, ◌≤◌, ◌<◌, ◌^◌, ℕ, map, length, vec_len, string_bytes, IfOk, IfErr, OnOk};
 ghost use Rattle.base_devices.specs.Cause.{Rises};
-ghost use Rattle.base_devices.specs.States.{Looks};
+ghost use Rattle.base_devices.specs.States.{OnlyReads};
 ghost use Rattle.base_model.specs.InfoFiles.{IsBackupInfo, IsLabel};
 ghost use Rattle.base_model.specs.Values.{backup_info_of, file_entry_of};
 ghost use Rattle.worker_pool.specs.Run.{AreReady};
@@ -102,7 +102,7 @@ pub fn draft_offline<'a, D: Disk, L: Link, U: Scheduler, C: Clock>(
         (IsLeft (map L.link_state links.old.items) (map L.link_state links.new.items) lost.old.items lost.new.items) }
     ensures few { OnOk result (vec_len links.new < 2 ^ 32) }
     ensures ready { OnOk result (AreReady (map L.link_state links.new.items)) }
-    ensures looks { Looks (D.state repo.old) (D.state repo.new) }
+    ensures looks { OnlyReads (D.state repo.old) (D.state repo.new) }
     ensures clock { (C.state clock.old).faults ≤ (C.state clock.new).faults }
     ensures least { (C.state clock.old).least ≤ (C.state clock.new).least }
     ensures cause { IfErr result (HaltCause

@@ -1,7 +1,7 @@
 -- A running server's backup keeps to its stanza.
 use Rattle.std.proofs.Common.{◌≡◌, Bool, Option, ◌∙◌, ap, subst}
 use Rattle.std.specs.Prelude.{IfSome}
-use Rattle.base_devices.specs.Moments.{View, Unchanged}
+use Rattle.base_devices.specs.Moments.{View, LeavesNoMore}
 use Rattle.base_model.specs.Text.{Text}
 use Rattle.base_crash_lists.specs.Beside.{StaysBeside}
 use Rattle.base_crash_lists.proofs.Stays.{rests_beside, beside_on}
@@ -14,7 +14,7 @@ use Rattle.cmd_types.proofs.Besides.{archive_beside}
 use Rattle.cmd_backup_online.proofs.Doings.{with_account}
 
 -- the draft was staged while the server was in its backup
-module _ (stanza : Text) (a b t s : View) (rests : Unchanged a b) (now_same : b.now ≡ a.now) (talked : StaysBeside stanza b t) (d : Draft) (stanza_is : stanza_of d ≡ stanza) (closed : StaysBeside (stanza_of d) t s) where
+module _ (stanza : Text) (a b t s : View) (rests : LeavesNoMore a b) (now_same : b.now ≡ a.now) (talked : StaysBeside stanza b t) (d : Draft) (stanza_is : stanza_of d ≡ stanza) (closed : StaysBeside (stanza_of d) t s) where
   pub staged_beside : StaysBeside stanza a s
   staged_beside = beside_on stanza a b s (rests_beside stanza a b rests now_same) (beside_on stanza b t s talked (subst (λ (x : Text). StaysBeside x t s) stanza_is closed))
 

@@ -4,7 +4,7 @@ use Rattle.std.proofs.lemmas.List.{append-nil}
 use Rattle.std.specs.Prelude.{IfSome, IsSome, IsErrAnd, Result, Ok, Err}
 use Rattle.base_devices.specs.Content.{Content}
 use Rattle.base_devices.specs.Links.{LinkState}
-use Rattle.base_devices.specs.Moments.{View, Unchanged}
+use Rattle.base_devices.specs.Moments.{View, LeavesNoMore}
 use Rattle.base_devices.specs.DataFolder.{Nodes}
 use Rattle.base_model.specs.declared.labels.BackupKind.{BackupKind}
 use Rattle.base_model.specs.declared.labels.BackupKind.TheVariants.{Full, Diff, Incr}
@@ -130,12 +130,12 @@ module _ (stanza : Text) (kind : BackupKind) (used : List LinkState) (received_r
   ))
 
   -- nothing was written
-  pub rests_online : ¬ (reached ≡ to_end) → Unchanged a d → d.now ≡ a.now → DoesOnline stanza kind used received_reply reached old_account account a d
+  pub rests_online : ¬ (reached ≡ to_end) → LeavesNoMore a d → d.now ≡ a.now → DoesOnline stanza kind used received_reply reached old_account account a d
   rests_online not rests now = without_turns (rests_does Whole stanza (MakeBackup [] no_files None) reached a d not rests now)
 
 -- ---- a draft reached the repository
 
-module _ (stanza : Text) (kind : BackupKind) (used : List LinkState) (received_reply : Received) (a b : View) (rests : Unchanged a b) (now_same : b.now ≡ a.now) (reached : Reached) (not : ¬ (reached ≡ to_end)) (old_account account : Option Account) (same : account ≡ old_account) (c : View) where
+module _ (stanza : Text) (kind : BackupKind) (used : List LinkState) (received_reply : Received) (a b : View) (rests : LeavesNoMore a b) (now_same : b.now ≡ a.now) (reached : Reached) (not : ¬ (reached ≡ to_end)) (old_account account : Option Account) (same : account ≡ old_account) (c : View) where
   -- it isn't listed
   pub left_online : (d : Draft) → stanza_of d ≡ stanza → BeginsBackup d b → LeavesList d b c → DoesOnline stanza kind used received_reply reached old_account account a c
   left_online d stanza_is begins leaves = without_turns stanza kind used received_reply reached old_account account same a c
@@ -184,7 +184,7 @@ pub based_there : (stanza : Text) (d : Draft) → stanza_of d ≡ stanza → (b 
 based_there stanza d stanza_is b c w spool spool2 begins leaves before law whole old k of went =
     based_after d begins.is_draft b c w begins.based leaves (subst (λ (s : Text). ChangesArchive s c w) (of ∙ sym stanza_is) went.repo_only) before law
 
-module _ (stanza : Text) (kind : BackupKind) (used now : List LinkState) (comes : Comes used now) (received_reply : Received) (a b c w : View) (rests : Unchanged a b) (now_same : b.now ≡ a.now) (d : Draft) (stanza_is : stanza_of d ≡ stanza) (begins : BeginsBackup d b) (leaves : LeavesList d b c)
+module _ (stanza : Text) (kind : BackupKind) (used now : List LinkState) (comes : Comes used now) (received_reply : Received) (a b c w : View) (rests : LeavesNoMore a b) (now_same : b.now ≡ a.now) (d : Draft) (stanza_is : stanza_of d ≡ stanza) (begins : BeginsBackup d b) (leaves : LeavesList d b c)
     (old_account account : Option Account) (spool spool2 : View) where
   -- it waited without success
   pub waited_online : (whole : Bool) (reached : Reached) → ¬ (reached ≡ to_end) → IfSome account (λ k. TurnsDone whole old_account k c w spool spool2) → DoesOnline stanza kind used received_reply reached old_account account a w

@@ -4,8 +4,8 @@ use Rattle.std.specs.Prelude.{IfSome, Result, Err}
 use Rattle.base_devices.specs.Cause.{HasCause, Rises}
 use Rattle.base_devices.specs.Links.{LinkState}
 use Rattle.base_devices.specs.Moments.{View}
-use Rattle.base_devices.specs.declared.stop.DeviceError.{DeviceError}
-use Rattle.base_devices.specs.declared.stop.DeviceError.TheVariants as stops
+use Rattle.base_devices.specs.declared.device_error.DeviceError.{DeviceError}
+use Rattle.base_devices.specs.declared.device_error.DeviceError.TheVariants as stops
 use Rattle.base_devices.specs.DataFolder.{Nodes, IsTreeListing}
 use Rattle.base_model.specs.Text.{Text}
 use Rattle.base_model.specs.Values.{BackupInfo, FileEntry}

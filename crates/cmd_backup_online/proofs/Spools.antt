@@ -4,7 +4,7 @@ use Rattle.std.specs.Prelude.{IsSome, IfSome}
 use Rattle.std.proofs.lemmas.List.{append-nil, append_cancel_left}
 use Rattle.base_devices.specs.Content.{Content}
 use Rattle.base_devices.specs.Links.{LinkState}
-use Rattle.base_devices.specs.Moments.{View, Unchanged}
+use Rattle.base_devices.specs.Moments.{View, LeavesNoMore}
 use Rattle.base_model.specs.declared.labels.BackupKind.{BackupKind}
 use Rattle.base_model.specs.declared.labels.BackupKind.TheVariants.{Full, Diff, Incr}
 use Rattle.base_model.specs.declared.wal.ArchiveName.{ArchiveName}
@@ -86,7 +86,7 @@ module _ (stanza : Text) (ts : List Turn) (b : Backup) (repo spool new_spool : V
 
 -- ---- of the wait
 
-module _ (a b c w : View) (rests : Unchanged a b) (now_same : b.now ≡ a.now) (d : Draft) (begins : BeginsBackup d b) (leaves : LeavesList d b c) where
+module _ (a b c w : View) (rests : LeavesNoMore a b) (now_same : b.now ≡ a.now) (d : Draft) (begins : BeginsBackup d b) (leaves : LeavesList d b c) where
   known_b : IsSome a.now → IsSome b.now
   known_b some = subst (λ (o : Option Content). IsSome o) (sym now_same) some
 

@@ -1,7 +1,7 @@
 -- What lies in the label's folder while the server is in its backup, and why no more does. Own.
 use Rattle.std.specs.Prelude.{◌≡◌, ◌⊎◌, List, Option, None, IfSome, string_bytes}
 use Rattle.base_devices.specs.Links.{LinkState}
-use Rattle.base_devices.specs.Moments.{View, Unchanged}
+use Rattle.base_devices.specs.Moments.{View, LeavesNoMore}
 use Rattle.base_devices.specs.DataFolder.{Nodes, IsTreeListing}
 use Rattle.base_model.specs.InfoFiles.{IsLabel}
 use Rattle.base_model.specs.Repository.{id_of}
@@ -51,7 +51,7 @@ pub record IsGathered (stanza : Text) (o : OfflineOrder) (nodes : Option Nodes) 
 -- The repository is unchanged, or some of a draft lies in the folder of its label and isn't listed.
 pub data GivesUp (stanza : Text) (o : OfflineOrder) (nodes : Option Nodes) (list : BackupInfo) (files : List FileEntry)
     (old new : View) : Type 0 where
-  Untouched : Unchanged old new → new.now ≡ old.now → GivesUp stanza o nodes list files old new
+  Untouched : LeavesNoMore old new → new.now ≡ old.now → GivesUp stanza o nodes list files old new
   Begun : (d : Draft) → IsDraftFrom stanza o nodes list files d → LeavesList d old new
       → GivesUp stanza o nodes list files old new
 

@@ -2,7 +2,7 @@
 ghost use Rattle.std.specs.Prelude.{◌≡◌, ◌≤◌, ℕ, Some, None, List, IfOk, IfErr, IfSome, IsSome, OnOk, is_ok, string_bytes};
 ghost use Rattle.base_devices.specs.Cause.{Rises};
 ghost use Rattle.base_devices.specs.Links.{LinkState};
-ghost use Rattle.base_devices.specs.States.{Frame};
+ghost use Rattle.base_devices.specs.States.{CallsProperly};
 ghost use Rattle.base_model.specs.InfoFiles.{IsLabel};
 ghost use Rattle.base_model.specs.ManifestText.{IsWalPart};
 ghost use Rattle.base_crash_lists.specs.Beside.{StaysBeside};
@@ -50,7 +50,7 @@ pub(crate) fn end_backup<'a, D: Disk, C: Clock>(
     ensures unlisted { LeavesList (fetched_draft fetched.entry) (D.state repo.old).view (D.state repo.new).view }
     ensures beside { StaysBeside (fetched_draft fetched.entry).stanza.now (D.state repo.old).view
         (D.state repo.new).view }
-    ensures frame { Frame (D.state repo.old) (D.state repo.new) }
+    ensures frame { CallsProperly (D.state repo.old) (D.state repo.new) }
     ensures least { (C.state clock.old).least ≤ (C.state clock.new).least }
     ensures later { (C.state clock.old).faults ≤ (C.state clock.new).faults }
     ensures cause { IfErr result (HaltCause Never (rose_in (record none {
@@ -80,8 +80,8 @@ pub(crate) fn wait<D: Disk, S: Disk, A: OtherProcesses<D, S>>(
     ensures went { IfSome (A.state processes.new).account (λ a. TurnsDone (is_ok result) (A.state processes.old).account
         a
         (D.state repo.old).view (D.state repo.new).view (S.state spool.old).view (S.state spool.new).view) }
-    ensures repo_frame { Frame (D.state repo.old) (D.state repo.new) }
-    ensures spool_frame { Frame (S.state spool.old) (S.state spool.new) }
+    ensures repo_frame { CallsProperly (D.state repo.old) (D.state repo.new) }
+    ensures spool_frame { CallsProperly (S.state spool.old) (S.state spool.new) }
     ensures started { (A.state processes.new).started ≡ (A.state processes.old).started }
     ensures few { (n : ℕ) × (n ≤ most) × Counts n (A.state processes.old).turns (A.state processes.new).turns }
     ensures later { (A.state processes.old).faults ≤ (A.state processes.new).faults }
@@ -118,7 +118,7 @@ pub(crate) fn conclude<D: Disk>(
         → IfSome (D.state repo.new).view.now (AgreeAt (main_of (closed_draft closed.entry)))) }
     ensures beside { StaysBeside (closed_draft closed.entry).stanza.now (D.state repo.old).view
         (D.state repo.new).view }
-    ensures frame { Frame (D.state repo.old) (D.state repo.new) }
+    ensures frame { CallsProperly (D.state repo.old) (D.state repo.new) }
     ensures cause { IfErr result (HaltCause
         (OfTake (PublishCause (closed_draft closed.entry) (closed_online closed.entry) (closed_ends closed.entry)))
         (rose_in (record none { repo = Rises (D.state repo.old).faults (D.state repo.new).faults }))) }

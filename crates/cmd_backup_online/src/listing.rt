@@ -1,7 +1,7 @@
 // Lists the data folder, while its server runs.
 ghost use Rattle.std.specs.Prelude.{◌≤◌, ◌<◌, map, IfOk, IfErr, IfSome, OnOk};
 ghost use Rattle.base_devices.specs.Cause.{HasCause, Rises};
-ghost use Rattle.base_devices.specs.States.{LooksAt};
+ghost use Rattle.base_devices.specs.States.{OnlyReadsFolder};
 ghost use Rattle.base_devices.specs.DataFolder.{IsTreeListing};
 ghost use Rattle.backup_plan.specs.Views.{seen_of};
 ghost use Rattle.cmd_types.specs.Halts.{HaltCause, Never};
@@ -33,7 +33,7 @@ pub(crate) fn list_folder<T: DataFolder, C: Clock>(
         (λ f. IsTreeListing f (map seen_of seen.items))) }
     ensures past { OnOk result ((C.state clock.old).least < (C.state clock.new).least) }
     ensures least { (C.state clock.old).least ≤ (C.state clock.new).least }
-    ensures looks { LooksAt (T.state tree.old) (T.state tree.new) }
+    ensures looks { OnlyReadsFolder (T.state tree.old) (T.state tree.new) }
     ensures later { (C.state clock.old).faults ≤ (C.state clock.new).faults }
     ensures cause { IfErr result (HaltCause Never (rose_in (record none {
       tree = Rises (T.state tree.old).faults (T.state tree.new).faults;

@@ -1,7 +1,7 @@
 // backup of a running server.
 ghost use Rattle.std.specs.Prelude.{◌≡◌, ◌∷◌, ◌++◌, ◌⊎◌, [], ◌≤◌, ◌<◌, ◌^◌, ℕ, map, take, vec_len, option_map, IfOk, IfErr, IfSome, OnOk};
 ghost use Rattle.base_devices.specs.Cause.{Rises};
-ghost use Rattle.base_devices.specs.States.{Frame, LooksAt};
+ghost use Rattle.base_devices.specs.States.{CallsProperly, OnlyReadsFolder};
 ghost use Rattle.base_crash_lists.specs.Beside.{StaysBeside};
 ghost use Rattle.worker_pool.specs.Run.{AreReady};
 ghost use Rattle.server_talk.specs.Telling.{starting, stopping};
@@ -108,9 +108,9 @@ pub fn back_up_online<
         ((V.state server.new ≡ V.state server.old) × ((before : Halt OfflineFault) × (halt ≡ of_offline before)))
         ⊎ EndsTalk (Rises (V.state server.old).faults (V.state server.new).faults) (V.state server.new).sent halt) }
 
-    ensures frame { Frame (D.state repo.old) (D.state repo.new) }
-    ensures spool_frame { Frame (S.state spool.old) (S.state spool.new) }
-    ensures looks { LooksAt (T.state tree.old) (T.state tree.new) }
+    ensures frame { CallsProperly (D.state repo.old) (D.state repo.new) }
+    ensures spool_frame { CallsProperly (S.state spool.old) (S.state spool.new) }
+    ensures looks { OnlyReadsFolder (T.state tree.old) (T.state tree.new) }
     ensures started { (A.state processes.new).started ≡ (A.state processes.old).started }
     ensures few { (n : ℕ) × (n ≤ order.entry.archive_timeout)
         × Counts n (A.state processes.old).turns (A.state processes.new).turns }

@@ -1,7 +1,7 @@
 // What comes before the server is asked.
 ghost use Rattle.std.specs.Prelude.{◌≡◌, ◌≤◌, ◌<◌, ◌^◌, [], map, take, length, vec_len, option_map, IfOk, IfErr, OnOk};
 ghost use Rattle.base_devices.specs.Cause.{Rises};
-ghost use Rattle.base_devices.specs.States.{Looks};
+ghost use Rattle.base_devices.specs.States.{OnlyReads};
 ghost use Rattle.base_model.specs.InfoFiles.{IsArchiveInfo, IsBackupInfo};
 ghost use Rattle.base_model.specs.Values.{archive_info_of, backup_info_of, manifest_of};
 ghost use Rattle.repo_stanza.specs.Judging.{Validates, IsOf};
@@ -100,7 +100,7 @@ pub(crate) fn prepare<D: Disk, C: Clock, L: Link>(
         lost.new.items (map L.link_state links.new.items)) }
     ensures few { OnOk result (vec_len links.new < 2 ^ 32) }
     ensures ready { OnOk result (AreReady (map L.link_state links.new.items)) }
-    ensures looks { Looks (D.state repo.old) (D.state repo.new) }
+    ensures looks { OnlyReads (D.state repo.old) (D.state repo.new) }
     ensures least { (C.state clock.old).least ≤ (C.state clock.new).least }
     ensures later { (C.state clock.old).faults ≤ (C.state clock.new).faults }
     ensures cause { IfErr result (HaltCause

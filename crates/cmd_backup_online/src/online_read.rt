@@ -1,7 +1,7 @@
 // Reads the data folder while the server is in its backup.
 ghost use Rattle.std.specs.Prelude.{◌≡◌, ◌≤◌, ◌<◌, ◌^◌, map, vec_len, IfOk, IfErr, OnErr};
 ghost use Rattle.base_devices.specs.Cause.{Rises};
-ghost use Rattle.base_devices.specs.States.{Frame, LooksAt};
+ghost use Rattle.base_devices.specs.States.{CallsProperly, OnlyReadsFolder};
 ghost use Rattle.base_model.specs.InfoFiles.{IsBackupInfo};
 ghost use Rattle.base_model.specs.Repository.{id_of};
 ghost use Rattle.base_model.specs.Values.{backup_info_of, file_entry_of};
@@ -74,8 +74,8 @@ pub(crate) fn gather<'a, D: Disk, T: DataFolder, C: Clock, L: Link, U: Scheduler
         (map file_entry_of old.now)
         (D.state repo.old).view (D.state repo.new).view) }
     ensures beside { StaysBeside stanza.entry.now (D.state repo.old).view (D.state repo.new).view }
-    ensures frame { Frame (D.state repo.old) (D.state repo.new) }
-    ensures looks { LooksAt (T.state tree.old) (T.state tree.new) }
+    ensures frame { CallsProperly (D.state repo.old) (D.state repo.new) }
+    ensures looks { OnlyReadsFolder (T.state tree.old) (T.state tree.new) }
     ensures least { (C.state clock.old).least ≤ (C.state clock.new).least }
     ensures later { (C.state clock.old).faults ≤ (C.state clock.new).faults }
     ensures cause { IfErr result (HaltCause

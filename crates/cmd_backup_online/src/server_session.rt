@@ -1,7 +1,7 @@
 // Asks the server to start and to stop its backup, and reads the data folder between them.
 ghost use Rattle.std.specs.Prelude.{◌≡◌, ◌≢◌, ◌⊎◌, ◌≤◌, ◌<◌, ◌^◌, ◌++◌, map, vec_len, string_bytes, length, option_map, IfOk, IfErr, OnOk, OnErr};
 ghost use Rattle.base_devices.specs.Cause.{Rises};
-ghost use Rattle.base_devices.specs.States.{Frame, LooksAt};
+ghost use Rattle.base_devices.specs.States.{CallsProperly, OnlyReadsFolder};
 ghost use Rattle.base_model.specs.InfoFiles.{IsBackupInfo};
 ghost use Rattle.base_model.specs.ManifestText.{IsSegSize, IsWalPart};
 ghost use Rattle.base_model.specs.Values.{backup_info_of, file_entry_of};
@@ -141,8 +141,8 @@ pub(crate) fn talk<
         (backup_info_of list) (map file_entry_of old.now)
         (D.state repo.old).view (D.state repo.new).view) }
     ensures beside { StaysBeside stanza.entry.now (D.state repo.old).view (D.state repo.new).view }
-    ensures frame { Frame (D.state repo.old) (D.state repo.new) }
-    ensures looks { LooksAt (T.state tree.old) (T.state tree.new) }
+    ensures frame { CallsProperly (D.state repo.old) (D.state repo.new) }
+    ensures looks { OnlyReadsFolder (T.state tree.old) (T.state tree.new) }
     ensures later { (V.state server.old).faults ≤ (V.state server.new).faults }
     ensures least { (C.state clock.old).least ≤ (C.state clock.new).least }
     ensures clock_later { (C.state clock.old).faults ≤ (C.state clock.new).faults }

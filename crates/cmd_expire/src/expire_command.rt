@@ -2,7 +2,7 @@
 ghost use Rattle.std.specs.Prelude.{◌≡◌, ◌∷◌, [], ◌≤◌, false, Some, length, IfOk, IfErr, IfSome, IsSome};
 ghost use Rattle.std.specs.List.{AllByRecursion};
 ghost use Rattle.base_devices.specs.Cause.{Rises};
-ghost use Rattle.base_devices.specs.States.{Frame};
+ghost use Rattle.base_devices.specs.States.{CallsProperly};
 ghost use Rattle.base_disk.specs.Store.{ChangesOnly};
 ghost use Rattle.base_model.specs.InfoFiles.{IsArchiveInfo, IsBackupInfo, IsLabel, info_limit};
 ghost use Rattle.base_model.specs.Now.{NowRepresents};
@@ -103,7 +103,7 @@ fn expire_at<D: Disk>(
         → ChangesOnly (IsTouched stanza.now rules.now moment s) (D.state repo.old).view (D.state repo.new).view }
     ensures only { ChangesOnly (MayExpire stanza.now) (D.state repo.old).view (D.state repo.new).view }
     ensures beside { StaysBeside stanza.now (D.state repo.old).view (D.state repo.new).view }
-    ensures frame { Frame (D.state repo.old) (D.state repo.new) }
+    ensures frame { CallsProperly (D.state repo.old) (D.state repo.new) }
     ensures cause { IfErr result (HaltCause Never
         (Only TheRepo (Rises (D.state repo.old).faults (D.state repo.new).faults))) }
 {
@@ -139,7 +139,7 @@ pub fn expire_stanza<D: Disk, C: Clock, K: Locks>(
     // timelines.
     ensures only { ChangesOnly (MayExpire stanza.now) (D.state repo.old).view (D.state repo.new).view }
     ensures beside { StaysBeside stanza.now (D.state repo.old).view (D.state repo.new).view }
-    ensures frame { Frame (D.state repo.old) (D.state repo.new) }
+    ensures frame { CallsProperly (D.state repo.old) (D.state repo.new) }
     ensures unread { counts_days rules.now.full ≡ false → clock.new ≡ clock.old }
     ensures later { (C.state clock.old).faults ≤ (C.state clock.new).faults }
     ensures cause { IfErr result (HaltCause (ExpireCommandCause stanza.now (D.state repo.old).view.now)

@@ -2,7 +2,7 @@
 ghost use Rattle.std.specs.Prelude.{◌≡◌, ◌∷◌, ◌++◌, [], ◌≤◌, false, IfOk, IfErr, OnOk, OnErr, string_bytes};
 ghost use Rattle.std.specs.List.{AllByRecursion};
 ghost use Rattle.base_devices.specs.Cause.{Rises};
-ghost use Rattle.base_devices.specs.States.{Frame};
+ghost use Rattle.base_devices.specs.States.{CallsProperly};
 ghost use Rattle.base_disk.specs.Store.{ChangesOnly};
 ghost use Rattle.base_model.specs.InfoFiles.{IsLabel};
 ghost use Rattle.base_model.specs.Steps.{Expire};
@@ -76,7 +76,7 @@ fn after_at<D: Disk>(
     ensures stays { OnErr result (string_bytes lines.new ≡ string_bytes lines.old) }
     ensures only { ChangesOnly (MayExpire stanza.now) (D.state repo.old).view (D.state repo.new).view }
     ensures beside { StaysBeside stanza.now (D.state repo.old).view (D.state repo.new).view }
-    ensures frame { Frame (D.state repo.old) (D.state repo.new) }
+    ensures frame { CallsProperly (D.state repo.old) (D.state repo.new) }
     ensures cause { IfErr result (FollowUpCause stanza.now (D.state repo.old).view.now
         (Rises (D.state repo.old).faults (D.state repo.new).faults) ⊥) }
 {
@@ -106,7 +106,7 @@ pub fn expire_after<D: Disk, C: Clock, K: Locks>(
     // timelines.
     ensures only { ChangesOnly (MayExpire stanza.now) (D.state repo.old).view (D.state repo.new).view }
     ensures beside { StaysBeside stanza.now (D.state repo.old).view (D.state repo.new).view }
-    ensures frame { Frame (D.state repo.old) (D.state repo.new) }
+    ensures frame { CallsProperly (D.state repo.old) (D.state repo.new) }
     ensures unread { counts_days rules.now.full ≡ false → clock.new ≡ clock.old }
     ensures later { (C.state clock.old).faults ≤ (C.state clock.new).faults }
     ensures cause { IfErr result (FollowUpCause stanza.now (D.state repo.old).view.now

@@ -2,7 +2,7 @@
 use Rattle.std.proofs.Common.{◌≡◌, inr, Bool, List, [], ◌∷◌, Result, Ok, Err, Option, refl, sym, subst}
 use Rattle.std.specs.Prelude.{IsSome}
 use Rattle.base_devices.specs.Content.{Content}
-use Rattle.base_devices.specs.Moments.{View, Unchanged}
+use Rattle.base_devices.specs.Moments.{View, LeavesNoMore}
 use Rattle.base_model.specs.Text.{Text}
 use Rattle.base_model.specs.Steps.{Command, Then, Reading, Move, One, Any, IsPartOf, after, all_of, steps_of}
 use Rattle.base_model.specs.Now.{NowRepresents}
@@ -46,10 +46,10 @@ module _ {T E : Type 0} (stanza : Text) (first second : Command) (a m : View) wh
   }
 
 -- nothing was done
-pub stays_part : {T E : Type 0} (stanza : Text) (command : Command) (e : E) (a d : View) → Unchanged a d → d.now ≡ a.now → Advances {T = T} stanza command (Err e) a d
+pub stays_part : {T E : Type 0} (stanza : Text) (command : Command) (e : E) (a d : View) → LeavesNoMore a d → d.now ≡ a.now → Advances {T = T} stanza command (Err e) a d
 stays_part stanza command e a d rests same = record { part = rests_part Whole stanza command a d rests same; whole = tt; sound = tt }
 
-pub stays_whole : {T E : Type 0} (stanza : Text) (result : Result T E) (a d : View) → Unchanged a d → d.now ≡ a.now → Advances stanza Reading result a d
+pub stays_whole : {T E : Type 0} (stanza : Text) (result : Result T E) (a d : View) → LeavesNoMore a d → d.now ≡ a.now → Advances stanza Reading result a d
 stays_whole stanza (Err e) a d rests same = stays_part stanza Reading e a d rests same
 stays_whole stanza (Ok x) a d rests same = record { part = rests_part Whole stanza Reading a d rests same; whole = rests_whole Whole stanza a d rests same; sound = λ r some now sound. sound }
 
@@ -60,7 +60,7 @@ all_is_part [] = refl
 all_is_part (One t ∷ moves) = inr (all_of moves, refl, all_is_part moves)
 all_is_part (Any groups ∷ moves) = inr (all_of moves, refl, all_is_part moves)
 
-module _ (stanza : Text) (command : Command) (a m d : View) (part : DoesPart Whole stanza command a m) (whole : DoesWhole Whole stanza command a m) (rests : Unchanged m d) (same : d.now ≡ m.now) where
+module _ (stanza : Text) (command : Command) (a m d : View) (part : DoesPart Whole stanza command a m) (whole : DoesWhole Whole stanza command a m) (rests : LeavesNoMore m d) (same : d.now ≡ m.now) where
   some_on : IsSome m.now → IsSome d.now
   some_on some = subst (λ (o : Option Content). IsSome o) (sym same) some
 
@@ -80,7 +80,7 @@ module _ (stanza : Text) (command : Command) (a m d : View) (part : DoesPart Who
     ends = λ r some steady sound. let e = whole.ends r some steady sound in (steady_rests stanza (after r (all_of (steps_of command r))) m d rests same e.0, e.1);
   }
 
-pub still_on : {T E U F : Type 0} (stanza : Text) (command : Command) (x : T) (result : Result U F) (a m d : View) → Advances {E = E} stanza command (Ok x) a m → Unchanged m d → d.now ≡ m.now → Advances stanza command result a d
+pub still_on : {T E U F : Type 0} (stanza : Text) (command : Command) (x : T) (result : Result U F) (a m d : View) → Advances {E = E} stanza command (Ok x) a m → LeavesNoMore m d → d.now ≡ m.now → Advances stanza command result a d
 still_on stanza command x (Err f) a m d h rests same = record { part = still_part stanza command a m d h.part h.whole rests same; whole = tt; sound = tt }
 still_on stanza command x (Ok y) a m d h rests same = record { part = still_part stanza command a m d h.part h.whole rests same; whole = still_whole stanza command a m d h.part h.whole rests same; sound = h.sound }
 
@@ -104,7 +104,7 @@ pub first_ends : {T E U F : Type 0} (stanza : Text) (first second : Command) (e 
 first_ends stanza first second e f a m h = record { part = prefix_does first second stanza a m h.part; whole = tt }
 
 -- calls after it that only read
-pub carries_still : {T E U F : Type 0} (stanza : Text) (command : Command) (x : T) (result : Result U F) (a m d : View) → Carries {E = E} stanza command (Ok x) a m → Unchanged m d → d.now ≡ m.now → Carries stanza command result a d
+pub carries_still : {T E U F : Type 0} (stanza : Text) (command : Command) (x : T) (result : Result U F) (a m d : View) → Carries {E = E} stanza command (Ok x) a m → LeavesNoMore m d → d.now ≡ m.now → Carries stanza command result a d
 carries_still stanza command x (Err f) a m d h rests same = record { part = still_part stanza command a m d h.part h.whole rests same; whole = tt }
 carries_still stanza command x (Ok y) a m d h rests same = record { part = still_part stanza command a m d h.part h.whole rests same; whole = still_whole stanza command a m d h.part h.whole rests same }
 

@@ -3,7 +3,7 @@ use Rattle.std.proofs.Common.{◌≡◌, ℕ, Result, Ok, Err, refl, subst, stri
 use Rattle.std.specs.Prelude.{IfOk}
 use Rattle.base_devices.specs.Content.{Content}
 use Rattle.base_devices.specs.DataFolder.{Nodes}
-use Rattle.base_devices.specs.Moments.{View, Unchanged}
+use Rattle.base_devices.specs.Moments.{View, LeavesNoMore}
 use Rattle.base_model.specs.Steps.{Command}
 use Rattle.base_model.specs.Text.{Text}
 use Rattle.cmd_types.specs.declared.stages.object.Object.TheVariants as objects
@@ -78,7 +78,7 @@ module _ (stanza : Text) (command : Command) (a d : View) where
     stopped_does NoMemory cause h = record { part = h.part; whole = tt; turned = tt }
 
   -- nothing was done
-  pub idle_does : Unchanged a d → d.now ≡ a.now → (h : Halt RehearseFault) → RepoEffect Whole stanza command (reached_by rehearse_early (Err h)) a d
+  pub idle_does : LeavesNoMore a d → d.now ≡ a.now → (h : Halt RehearseFault) → RepoEffect Whole stanza command (reached_by rehearse_early (Err h)) a d
   idle_does rests same h = rests_does Whole stanza command (reached_by rehearse_early (Err h)) a d (not_end h) rests same
     where
       not_end : (h : Halt RehearseFault) → ¬ (reached_by rehearse_early (Err h) ≡ to_end)

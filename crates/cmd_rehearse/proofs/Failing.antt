@@ -2,8 +2,8 @@
 use Rattle.std.proofs.Common.{ℕ, ◌≡◌, ◌≤◌, Result, Err, arith, refl, sym, subst}
 use Rattle.std.specs.Prelude.{IsErrOf}
 use Rattle.base_devices.specs.Cause.{Rises, HasCause}
-use Rattle.base_devices.specs.declared.stop.DeviceError.{DeviceError}
-use Rattle.base_devices.specs.declared.stop.DeviceError.TheVariants as stops
+use Rattle.base_devices.specs.declared.device_error.DeviceError.{DeviceError}
+use Rattle.base_devices.specs.declared.device_error.DeviceError.TheVariants as stops
 use Rattle.cmd_types.specs.declared.stages.object.Object.{Object}
 use Rattle.cmd_types.specs.declared.stages.object.Object.TheVariants as objects
 use Rattle.cmd_types.specs.Halts.{HaltCause, Only, halt_of}

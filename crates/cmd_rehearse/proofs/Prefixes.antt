@@ -4,7 +4,7 @@ use Rattle.std.specs.Prelude.{true, IfOk, OnOk}
 use Rattle.base_devices.specs.Content.{Content}
 use Rattle.base_devices.specs.Cause.{Rises}
 use Rattle.base_devices.specs.Moments.{View}
-use Rattle.base_devices.specs.States.{DataFolderState, LooksAt}
+use Rattle.base_devices.specs.States.{DataFolderState, OnlyReadsFolder}
 use Rattle.base_model.specs.Repository.{Backup}
 use Rattle.base_model.specs.Now.{NowEffect}
 use Rattle.base_model.specs.Steps.{Command, Then, Reading}
@@ -101,7 +101,7 @@ module _ (stanza : Text) (number : ℕ) where
   folder_fails old nodes a d t w x y folders.NoMemory h = tt
 
 -- a folder that isn't empty is left unchanged
-pub folder_stays : (old new : DataFolderState) (fault : FolderFault) → IfFull fault (LooksAt old new) → IfEarly (new.nodes ≡ old.nodes) (of_folder fault)
+pub folder_stays : (old new : DataFolderState) (fault : FolderFault) → IfFull fault (OnlyReadsFolder old new) → IfEarly (new.nodes ≡ old.nodes) (of_folder fault)
 folder_stays old new (folders.NotEmpty path) h = h.nodes
 folder_stays old new folders.DataFolder h = tt
 folder_stays old new folders.NoMemory h = tt

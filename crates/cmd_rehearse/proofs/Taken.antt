@@ -4,7 +4,7 @@ use Rattle.std.specs.Prelude.{IsSome, Contains}
 use Rattle.std.proofs.lemmas.List.{map-append}
 use Rattle.base_devices.specs.Content.{Content}
 use Rattle.base_devices.specs.Links.{LinkState}
-use Rattle.base_devices.specs.Moments.{View, Unchanged}
+use Rattle.base_devices.specs.Moments.{View, LeavesNoMore}
 use Rattle.base_model.specs.declared.labels.BackupKind.{BackupKind}
 use Rattle.base_model.specs.declared.labels.BackupKind.TheVariants.{Full, Diff, Incr}
 use Rattle.base_model.specs.Text.{Text}
@@ -37,7 +37,7 @@ use Rattle.cmd_rehearse.proofs.Advanced.{finished_whole}
 
 -- ---- after calls that only read
 
-module _ (stanza : Text) (command : Command) (a n d : View) (rests : Unchanged a n) (same : n.now ≡ a.now) where
+module _ (stanza : Text) (command : Command) (a n d : View) (rests : LeavesNoMore a n) (same : n.now ≡ a.now) where
   some_there : IsSome a.now → IsSome n.now
   some_there some = subst (λ (o : Option Content). IsSome o) (sym same) some
 

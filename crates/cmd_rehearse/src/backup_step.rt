@@ -1,7 +1,7 @@
 // Makes a backup.
 ghost use Rattle.std.specs.Prelude.{◌≤◌, ◌<◌, ◌^◌, map, vec_len, IfOk, IfErr, OnOk};
 ghost use Rattle.base_devices.specs.Cause.{Rises};
-ghost use Rattle.base_devices.specs.States.{Frame, Looks, LooksAt};
+ghost use Rattle.base_devices.specs.States.{CallsProperly, OnlyReads, OnlyReadsFolder};
 ghost use Rattle.base_model.specs.Repository.{Backup};
 ghost use Rattle.base_crash_lists.specs.Beside.{StaysBeside};
 ghost use Rattle.worker_pool.specs.Run.{AreReady};
@@ -42,7 +42,7 @@ pub(crate) fn read_backup<D: Disk>(
     stanza: &str,
 ) -> Result<BackupInfo, Halt<StepFault>>
     ensures found { IfOk result (IsBackupOf stanza.now (D.state repo.old).view.now) }
-    ensures looks { Looks (D.state repo.old) (D.state repo.new) }
+    ensures looks { OnlyReads (D.state repo.old) (D.state repo.new) }
     ensures cause { IfErr result (HaltCause (LostCause stanza.now (D.state repo.old).view.now)
         (Only TheRepo (Rises (D.state repo.old).faults (D.state repo.new).faults))) }
 {
@@ -74,8 +74,8 @@ pub(crate) fn back_up<D: Disk, T: DataFolder, C: Clock, K: Locks, L: Link, U: Sc
     ensures taken { OnOk result
         (IsTakenBy stanza.now kind (D.state repo.old).view.now (D.state repo.new).view.now) }
     ensures beside { StaysBeside stanza.now (D.state repo.old).view (D.state repo.new).view }
-    ensures frame { Frame (D.state repo.old) (D.state repo.new) }
-    ensures looks { LooksAt (T.state tree.old) (T.state tree.new) }
+    ensures frame { CallsProperly (D.state repo.old) (D.state repo.new) }
+    ensures looks { OnlyReadsFolder (T.state tree.old) (T.state tree.new) }
     ensures later { (C.state clock.old).faults ≤ (C.state clock.new).faults }
     ensures least { (C.state clock.old).least ≤ (C.state clock.new).least }
     ensures cause { IfErr result (HaltCause (StepCause stanza.now (D.state repo.old).view.now)

@@ -1,7 +1,7 @@
 // The files and the bytes of a backup.
 ghost use Rattle.std.specs.Prelude.{◌≡◌, ◌<◌, ◌≤◌, ◌^◌, map, IfOk, IfErr};
 ghost use Rattle.base_devices.specs.Cause.{Rises};
-ghost use Rattle.base_devices.specs.States.{Looks};
+ghost use Rattle.base_devices.specs.States.{OnlyReads};
 ghost use Rattle.base_model.specs.Values.{file_entry_of};
 ghost use Rattle.backup_record.specs.Making.{size_of};
 ghost use Rattle.cmd_types.specs.declared.stages.object.Object.TheVariants.{Repo as TheRepo};
@@ -71,7 +71,7 @@ pub(crate) fn count_last<D: Disk>(
     counted: Counted,
 ) -> Result<Amount, Halt<StepFault>>
     ensures known { IfOk result (ShowsLast stanza.now counted (D.state repo.old).view.now) }
-    ensures looks { Looks (D.state repo.old) (D.state repo.new) }
+    ensures looks { OnlyReads (D.state repo.old) (D.state repo.new) }
     ensures cause { IfErr result (HaltCause (StepCause stanza.now (D.state repo.old).view.now)
         (Only TheRepo (Rises (D.state repo.old).faults (D.state repo.new).faults))) }
 {

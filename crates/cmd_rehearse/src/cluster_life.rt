@@ -1,7 +1,7 @@
 // The life of a cluster, from its stanza to its expiry.
 ghost use Rattle.std.specs.Prelude.{◌≡◌, ◌≤◌, ◌∷◌, [], map, IfOk, IfErr, OnOk};
 ghost use Rattle.base_devices.specs.Cause.{Rises};
-ghost use Rattle.base_devices.specs.States.{Frame, LooksAt};
+ghost use Rattle.base_devices.specs.States.{CallsProperly, OnlyReadsFolder};
 ghost use Rattle.base_model.specs.declared.labels.BackupKind.TheVariants.{Full as TheFull};
 ghost use Rattle.base_model.specs.Repository.{Backup};
 ghost use Rattle.base_model.specs.Steps.{Expire};
@@ -74,8 +74,8 @@ fn back_up_counted<D: Disk, T: DataFolder, C: Clock, K: Locks, L: Link, U: Sched
         (IsTakenBy stanza.now kind (D.state repo.old).view.now (D.state repo.new).view.now) }
     ensures known { IfOk result (ShowsLast stanza.now counted (D.state repo.new).view.now) }
     ensures beside { StaysBeside stanza.now (D.state repo.old).view (D.state repo.new).view }
-    ensures frame { Frame (D.state repo.old) (D.state repo.new) }
-    ensures looks { LooksAt (T.state tree.old) (T.state tree.new) }
+    ensures frame { CallsProperly (D.state repo.old) (D.state repo.new) }
+    ensures looks { OnlyReadsFolder (T.state tree.old) (T.state tree.new) }
     ensures later { (C.state clock.old).faults ≤ (C.state clock.new).faults }
     ensures least { (C.state clock.old).least ≤ (C.state clock.new).least }
     ensures left { AreReady (map L.link_state links.new.items) }
@@ -115,7 +115,7 @@ fn with_first<
     ensures known { IfOk result (IsStep stanza.now (prepared order.now.number) TheFull TheOwn
         (D.state repo.old).view.now (D.state repo.new).view.now) }
     ensures beside { StaysBeside stanza.now (D.state repo.old).view (D.state repo.new).view }
-    ensures frame { Frame (D.state repo.old) (D.state repo.new) }
+    ensures frame { CallsProperly (D.state repo.old) (D.state repo.new) }
     ensures folder { StaysOpen (T.state tree.old) (T.state tree.new) }
     ensures quiet { connection.new ≡ connection.old }
     ensures later { (C.state clock.old).faults ≤ (C.state clock.new).faults }
@@ -170,7 +170,7 @@ fn with_second<
         × IfOk result (λ x. AreTwo stanza.now order.now.number b (D.state repo.old).view.now
         (D.state repo.new).view.now x.0 x.1) }
     ensures beside { StaysBeside stanza.now (D.state repo.old).view (D.state repo.new).view }
-    ensures frame { Frame (D.state repo.old) (D.state repo.new) }
+    ensures frame { CallsProperly (D.state repo.old) (D.state repo.new) }
     ensures folder { StaysOpen (T.state tree.old) (T.state tree.new) }
     ensures quiet { connection.new ≡ connection.old }
     ensures later { (C.state clock.old).faults ≤ (C.state clock.new).faults }
@@ -231,7 +231,7 @@ fn with_third<
         × IfOk result (λ x. AreThree stanza.now order.now.number b c (D.state repo.old).view.now
         (D.state repo.new).view.now x.0 x.1 x.2) }
     ensures beside { StaysBeside stanza.now (D.state repo.old).view (D.state repo.new).view }
-    ensures frame { Frame (D.state repo.old) (D.state repo.new) }
+    ensures frame { CallsProperly (D.state repo.old) (D.state repo.new) }
     ensures folder { StaysOpen (T.state tree.old) (T.state tree.new) }
     ensures quiet { connection.new ≡ connection.old }
     ensures later { (C.state clock.old).faults ≤ (C.state clock.new).faults }
@@ -265,7 +265,7 @@ fn let_go<D: Disk>(alloc: Global, repo: &mut D, stanza: &str) -> Result<usize, H
     ensures carries { Carries stanza.now (Expire keeps_one) result (D.state repo.old).view (D.state repo.new).view }
     ensures expired { IfOk result (CountsExpired stanza.now (D.state repo.old).view.now) }
     ensures beside { StaysBeside stanza.now (D.state repo.old).view (D.state repo.new).view }
-    ensures frame { Frame (D.state repo.old) (D.state repo.new) }
+    ensures frame { CallsProperly (D.state repo.old) (D.state repo.new) }
     ensures cause { IfErr result (HaltCause (StepCause stanza.now (D.state repo.old).view.now)
         (Only TheRepo (Rises (D.state repo.old).faults (D.state repo.new).faults))) }
 {
@@ -304,7 +304,7 @@ pub(crate) fn live<
         (D.state repo.new).view
         × IfOk result (IsLived stanza.now order.now.number b c d (D.state repo.old).view.now) }
     ensures beside { StaysBeside stanza.now (D.state repo.old).view (D.state repo.new).view }
-    ensures frame { Frame (D.state repo.old) (D.state repo.new) }
+    ensures frame { CallsProperly (D.state repo.old) (D.state repo.new) }
     ensures folder { StaysOpen (T.state tree.old) (T.state tree.new) }
     ensures quiet { connection.new ≡ connection.old }
     ensures later { (C.state clock.old).faults ≤ (C.state clock.new).faults }

@@ -1,7 +1,7 @@
 // Restores the last backup over a damaged data folder, and verifies the repository.
 ghost use Rattle.std.specs.Prelude.{◌≡◌, true, map, IfOk, IfErr, OnOk};
 ghost use Rattle.base_devices.specs.Cause.{Rises};
-ghost use Rattle.base_devices.specs.States.{Looks};
+ghost use Rattle.base_devices.specs.States.{OnlyReads};
 ghost use Rattle.options_table.specs.Values.{is_stanza};
 ghost use Rattle.worker_pool.specs.Run.{AreReady};
 ghost use Rattle.cmd_types.specs.declared.stages.object.Object.TheVariants.{Repo as TheRepo};
@@ -48,7 +48,7 @@ fn restore_last<D: Disk, T: DataFolder, L: Link, U: Scheduler>(
     requires stanza { is_stanza stanza.now ≡ true }
     ensures restored { OnOk result
         (IsRestoredLast stanza.now (D.state repo.old).view.now (T.state tree.new).nodes) }
-    ensures looks { Looks (D.state repo.old) (D.state repo.new) }
+    ensures looks { OnlyReads (D.state repo.old) (D.state repo.new) }
     ensures folder { StaysOpen (T.state tree.old) (T.state tree.new) }
     ensures cause { IfErr result (HaltCause (StepCause stanza.now (D.state repo.old).view.now)
         (FailsBoth (D.state repo.old).faults (D.state repo.new).faults (T.state tree.old).faults
@@ -79,7 +79,7 @@ fn count_stored<D: Disk>(
     stanza: &str,
 ) -> Result<usize, Halt<StepFault>>
     ensures stored { IfOk result (CountsStored stanza.now (D.state repo.old).view.now) }
-    ensures looks { Looks (D.state repo.old) (D.state repo.new) }
+    ensures looks { OnlyReads (D.state repo.old) (D.state repo.new) }
     ensures cause { IfErr result (HaltCause (StepCause stanza.now (D.state repo.old).view.now)
         (Only TheRepo (Rises (D.state repo.old).faults (D.state repo.new).faults))) }
 {
@@ -97,7 +97,7 @@ fn verify_all<D: Disk>(
 ) -> Result<Outcome, Halt<StepFault>>
     ensures examined { IfOk result (IsVerified stanza.now (D.state repo.old).view.now) }
     ensures sound { IfOk result (EndsWithNone stanza.now (D.state repo.old).view.now) }
-    ensures looks { Looks (D.state repo.old) (D.state repo.new) }
+    ensures looks { OnlyReads (D.state repo.old) (D.state repo.new) }
     ensures cause { IfErr result (HaltCause (StepCause stanza.now (D.state repo.old).view.now)
         (Only TheRepo (Rises (D.state repo.old).faults (D.state repo.new).faults))) }
 {
@@ -115,7 +115,7 @@ fn look_around<D: Disk>(
     stanza: &str,
 ) -> Result<RehearsalEnd, Halt<StepFault>>
     ensures ended { IfOk result (λ e. ComesTo stanza.now (D.state repo.old).view.now e.kept e.restored e.found) }
-    ensures looks { Looks (D.state repo.old) (D.state repo.new) }
+    ensures looks { OnlyReads (D.state repo.old) (D.state repo.new) }
     ensures cause { IfErr result (HaltCause (StepCause stanza.now (D.state repo.old).view.now)
         (Only TheRepo (Rises (D.state repo.old).faults (D.state repo.new).faults))) }
 {
@@ -143,7 +143,7 @@ pub(crate) fn end<D: Disk, T: DataFolder, L: Link, U: Scheduler>(
     requires stanza { is_stanza stanza.now ≡ true }
     ensures ended { IfOk result (λ e. IsEnded stanza.now (D.state repo.old).view.now (T.state tree.new).nodes
         e.kept e.restored e.found) }
-    ensures looks { Looks (D.state repo.old) (D.state repo.new) }
+    ensures looks { OnlyReads (D.state repo.old) (D.state repo.new) }
     ensures folder { StaysOpen (T.state tree.old) (T.state tree.new) }
     ensures cause { IfErr result (HaltCause (StepCause stanza.now (D.state repo.old).view.now)
         (FailsBoth (D.state repo.old).faults (D.state repo.new).faults (T.state tree.old).faults

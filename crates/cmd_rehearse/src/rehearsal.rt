@@ -1,6 +1,6 @@
 // Rehearses a sample cluster's whole life.
 ghost use Rattle.std.specs.Prelude.{◌≡◌, ◌≤◌, ◌∷◌, ◌++◌, ◌⊎◌, [], true, map, IfOk, IfErr, IfSome, string_bytes};
-ghost use Rattle.base_devices.specs.States.{Frame};
+ghost use Rattle.base_devices.specs.States.{CallsProperly};
 ghost use Rattle.base_model.specs.Repository.{Backup};
 ghost use Rattle.options_table.specs.Values.{is_stanza};
 ghost use Rattle.base_sample.specs.Having.{IsEmpty};
@@ -113,7 +113,7 @@ fn go<D: Disk, T: DataFolder, V: ServerConnection, C: Clock, K: Locks, L: Link, 
         × IfOk result (IsRehearsed stanza.now order.now.number b c d (D.state repo.old).view.now
         (D.state repo.new).view.now (T.state tree.new).nodes) }
     ensures beside { StaysBeside stanza.now (D.state repo.old).view (D.state repo.new).view }
-    ensures frame { Frame (D.state repo.old) (D.state repo.new) }
+    ensures frame { CallsProperly (D.state repo.old) (D.state repo.new) }
     ensures folder { StaysOpen (T.state tree.old) (T.state tree.new) }
     ensures quiet { connection.new ≡ connection.old }
     ensures later { (C.state clock.old).faults ≤ (C.state clock.new).faults }
@@ -163,7 +163,7 @@ pub fn rehearse<
         × IfOk result (IsRehearsed stanza.now order.now.number b c d (D.state repo.old).view.now
         (D.state repo.new).view.now (T.state tree.new).nodes) }
     ensures beside { StaysBeside stanza.now (D.state repo.old).view (D.state repo.new).view }
-    ensures frame { Frame (D.state repo.old) (D.state repo.new) }
+    ensures frame { CallsProperly (D.state repo.old) (D.state repo.new) }
     // A refusal before its first step leaves the data folder unchanged, and so does every answer where that isn't
     // empty.
     ensures nodes { IfErr result (IfEarly ((T.state tree.new).nodes ≡ (T.state tree.old).nodes)) }

@@ -1,7 +1,7 @@
 // Pushes the segments.
 ghost use Rattle.std.specs.Prelude.{◌≡◌, ◌≤◌, ◌<◌, ◌^◌, ◌%◌, IfErr, IfSome, IsSome, OnOk, Some};
 ghost use Rattle.base_devices.specs.Cause.{Rises};
-ghost use Rattle.base_devices.specs.States.{Frame};
+ghost use Rattle.base_devices.specs.States.{CallsProperly};
 ghost use Rattle.base_model.specs.declared.clusters.ClusterId.{ClusterId};
 ghost use Rattle.base_model.specs.Steps.{ArchivePush};
 ghost use Rattle.base_sample.specs.Bytes.{segment_bytes};
@@ -58,7 +58,7 @@ fn push_one<D: Disk>(
         → IsSome (D.state repo.old).view.now
         → IfSome (D.state repo.new).view.now (λ f. HasCurrent stanza.now f c) }
     ensures beside { StaysBeside stanza.now (D.state repo.old).view (D.state repo.new).view }
-    ensures frame { Frame (D.state repo.old) (D.state repo.new) }
+    ensures frame { CallsProperly (D.state repo.old) (D.state repo.new) }
     ensures cause { IfErr result (HaltCause (StepCause stanza.now (D.state repo.old).view.now)
         (Only TheRepo (Rises (D.state repo.old).faults (D.state repo.new).faults))) }
 {
@@ -84,7 +84,7 @@ pub(crate) fn push_segments<D: Disk>(
         → IfSome (D.state repo.old).view.now (λ f. HasCurrent stanza.now f c)
         → Advances stanza.now (pushed count) result (D.state repo.old).view (D.state repo.new).view }
     ensures beside { StaysBeside stanza.now (D.state repo.old).view (D.state repo.new).view }
-    ensures frame { Frame (D.state repo.old) (D.state repo.new) }
+    ensures frame { CallsProperly (D.state repo.old) (D.state repo.new) }
     ensures cause { (c : ClusterId) → id.now ≡ id_kept c
         → IfSome (D.state repo.old).view.now (λ f. HasCurrent stanza.now f c)
         → IfErr result (HaltCause (PushesCause stanza.now count (D.state repo.old).view.now)

@@ -1,7 +1,7 @@
 // The stanza and its segments.
 ghost use Rattle.std.specs.Prelude.{◌≡◌, ◌≤◌, ◌<◌, ◌^◌, ◌∷◌, [], Some, IfOk, IfErr, IfSome, OnOk};
 ghost use Rattle.base_devices.specs.Cause.{Rises};
-ghost use Rattle.base_devices.specs.States.{Frame, Looks};
+ghost use Rattle.base_devices.specs.States.{CallsProperly, OnlyReads};
 ghost use Rattle.base_model.specs.declared.clusters.ClusterId.{ClusterId};
 ghost use Rattle.base_model.specs.Fields.{at_number};
 ghost use Rattle.base_model.specs.InfoFiles.{IsArchiveInfo};
@@ -53,7 +53,7 @@ pub(crate) fn check_new<D: Disk>(
     stanza: &str,
 ) -> Result<(), Halt<RehearseFault>>
     ensures new { OnOk result (IfSome (D.state repo.old).view.now (λ f. PairAbsent f (archive_info stanza.now))) }
-    ensures looks { Looks (D.state repo.old) (D.state repo.new) }
+    ensures looks { OnlyReads (D.state repo.old) (D.state repo.new) }
     ensures cause { IfErr result (HaltCause (ExistsCause stanza.now (D.state repo.old).view.now)
         (Only TheRepo (Rises (D.state repo.old).faults (D.state repo.new).faults))) }
 {
@@ -75,7 +75,7 @@ pub(crate) fn read_archive<D: Disk>(
     stanza: &str,
 ) -> Result<ArchiveInfo, Halt<StepFault>>
     ensures found { IfOk result (IsArchiveOf stanza.now (D.state repo.old).view.now) }
-    ensures looks { Looks (D.state repo.old) (D.state repo.new) }
+    ensures looks { OnlyReads (D.state repo.old) (D.state repo.new) }
     ensures cause { IfErr result (HaltCause (LostCause stanza.now (D.state repo.old).view.now)
         (Only TheRepo (Rises (D.state repo.old).faults (D.state repo.new).faults))) }
 {
@@ -111,7 +111,7 @@ fn create_sample<D: Disk, V: ServerConnection, K: Locks>(
     requires locked { (K.state locks.now).taken ≡ archive_lock stanza.now ∷ backup_lock stanza.now ∷ [] }
     ensures advances { Advances stanza.now created result (D.state repo.old).view (D.state repo.new).view }
     ensures beside { StaysBeside stanza.now (D.state repo.old).view (D.state repo.new).view }
-    ensures frame { Frame (D.state repo.old) (D.state repo.new) }
+    ensures frame { CallsProperly (D.state repo.old) (D.state repo.new) }
     ensures quiet { connection.new ≡ connection.old }
     ensures cause { IfErr result (HaltCause (StepCause stanza.now (D.state repo.old).view.now)
         (Only TheRepo (Rises (D.state repo.old).faults (D.state repo.new).faults))) }
@@ -135,7 +135,7 @@ pub(crate) fn prepare_stanza<D: Disk, V: ServerConnection, K: Locks>(
     requires locked { (K.state locks.now).taken ≡ archive_lock stanza.now ∷ backup_lock stanza.now ∷ [] }
     ensures advances { Advances stanza.now (prepared number) result (D.state repo.old).view (D.state repo.new).view }
     ensures beside { StaysBeside stanza.now (D.state repo.old).view (D.state repo.new).view }
-    ensures frame { Frame (D.state repo.old) (D.state repo.new) }
+    ensures frame { CallsProperly (D.state repo.old) (D.state repo.new) }
     ensures quiet { connection.new ≡ connection.old }
     ensures cause { IfErr result (HaltCause (PrefixCause stanza.now number (D.state repo.old).view.now)
         (Only TheRepo (Rises (D.state repo.old).faults (D.state repo.new).faults))) }

@@ -3,8 +3,8 @@ use Rattle.std.proofs.Common.{◌≡◌, inl, inr, List, [], ◌∷◌, map, sli
 use Rattle.std.specs.Prelude.{IfSome, IsSome}
 use Rattle.std.specs.List.{list_any}
 use Rattle.std.proofs.lemmas.Slice.Eq.{bytes_eq-Decides}
-use Rattle.base_devices.specs.declared.tree.Node.{Node}
-use Rattle.base_devices.specs.declared.tree.FolderEntry as rust_seen
+use Rattle.base_devices.specs.declared.data_folder.Node.{Node}
+use Rattle.base_devices.specs.declared.data_folder.FolderEntry as rust_seen
 use Rattle.base_devices.specs.DataFolder.{Nodes, Held, IsTreeListing, shown}
 use Rattle.base_model.specs.Text.{Text, In}
 use Rattle.restore_steps.specs.Clearing.{seen_of}

@@ -1,7 +1,7 @@
 -- Which data folder a backup may be put into. Own.
 use Rattle.std.specs.Prelude.{Bool, true, ◌≡◌, ◌⊎◌, [], ◌∷◌, List, codes, Option, None, IfSome, IsSome, string_bytes}
 use Rattle.base_devices.specs.DataFolder.{Nodes, IsTreeListing}
-use Rattle.base_devices.specs.declared.tree.Node.{Node}
+use Rattle.base_devices.specs.declared.data_folder.Node.{Node}
 use Rattle.base_model.specs.Text.{Text, In}
 use Rattle.cmd_restore.specs.declared.fault.RestoreCommandFault.{RestoreCommandFault}
 use Rattle.cmd_restore.specs.declared.fault.RestoreCommandFault.TheVariants.{Running, NotEmpty}

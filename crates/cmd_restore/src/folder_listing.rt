@@ -2,7 +2,7 @@
 ghost use Rattle.std.specs.Prelude.{◌≡◌, bytes_eq, string_bytes, map, IfOk, IfErr, IfSome, OnOk};
 ghost use Rattle.std.specs.List.{list_any};
 ghost use Rattle.base_devices.specs.Cause.{Rises};
-ghost use Rattle.base_devices.specs.States.{LooksAt};
+ghost use Rattle.base_devices.specs.States.{OnlyReadsFolder};
 ghost use Rattle.base_devices.specs.DataFolder.{IsTreeListing};
 ghost use Rattle.restore_steps.specs.Clearing.{seen_of};
 ghost use Rattle.cmd_types.specs.declared.stages.object.Object.TheVariants.{TheDataFolder as TheFolder};
@@ -68,7 +68,7 @@ pub(crate) fn look<T: DataFolder>(
     ensures listing { IfOk result (λ seen. IfSome (T.state tree.old).nodes
         (λ f. IsTreeListing f (map seen_of seen.items))) }
     ensures open { OnOk result (IfSome (T.state tree.old).nodes (IsOpen delta)) }
-    ensures looks { LooksAt (T.state tree.old) (T.state tree.new) }
+    ensures looks { OnlyReadsFolder (T.state tree.old) (T.state tree.new) }
     ensures cause { IfErr result (HaltCause (FolderCause delta (T.state tree.old).nodes)
         (Only TheFolder (Rises (T.state tree.old).faults (T.state tree.new).faults))) }
 {

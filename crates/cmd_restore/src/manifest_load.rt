@@ -1,7 +1,7 @@
 // Reads the backup's manifest.
 ghost use Rattle.std.specs.Prelude.{◌≡◌, ◌≢◌, IfOk, IfErr, IfSome};
 ghost use Rattle.base_devices.specs.Cause.{Rises};
-ghost use Rattle.base_devices.specs.States.{Looks};
+ghost use Rattle.base_devices.specs.States.{OnlyReads};
 ghost use Rattle.base_model.specs.InfoFiles.{IsLabel};
 ghost use Rattle.base_model.specs.ManifestText.{IsManifest};
 ghost use Rattle.base_model.specs.Values.{manifest_of};
@@ -45,7 +45,7 @@ pub(crate) fn load<D: Disk>(
     ensures found { IfOk result (λ m. IfSome (D.state repo.old).view.now
         (HasManifest stanza.now label.now (manifest_of m))) }
     ensures rules { IfOk result (λ m. IsManifest (manifest_of m)) }
-    ensures looks { Looks (D.state repo.old) (D.state repo.new) }
+    ensures looks { OnlyReads (D.state repo.old) (D.state repo.new) }
     ensures cause { IfErr result (HaltCause (LoadCause stanza.now label.now (D.state repo.old).view.now)
         (Only TheRepo (Rises (D.state repo.old).faults (D.state repo.new).faults))) }
 {

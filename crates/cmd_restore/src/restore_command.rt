@@ -2,7 +2,7 @@
 ghost use Rattle.std.specs.Prelude.{◌≡◌, ◌⊎◌, ◌≤◌, ◌<◌, ◌^◌, Some, true, map, take, vec_len, IfOk, IfErr, OnErr};
 ghost use Rattle.base_devices.specs.Cause.{Rises};
 ghost use Rattle.base_devices.specs.Content.{Content};
-ghost use Rattle.base_devices.specs.States.{Looks};
+ghost use Rattle.base_devices.specs.States.{OnlyReads};
 ghost use Rattle.base_model.specs.Now.{NowRepresents};
 ghost use Rattle.base_model.specs.Repository.{Stanza};
 ghost use Rattle.options_table.specs.Values.{is_stanza};
@@ -46,7 +46,7 @@ pub fn restore_backup<D: Disk, T: DataFolder, L: Link, U: Scheduler>(
     requires ready { AreReady (map L.link_state links.old.items) }
     requires stanza { is_stanza stanza.now ≡ true }
     requires backup { IsBackupOf stanza.now (D.state repo.old).view.now backup.now }
-    ensures looks { Looks (D.state repo.old) (D.state repo.new) }
+    ensures looks { OnlyReads (D.state repo.old) (D.state repo.new) }
     ensures restored { IfOk result (λ outcome. OnFinished outcome (Recovers (record {
       stanza = stanza.now;
       set = order.now.set;

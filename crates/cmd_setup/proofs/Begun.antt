@@ -2,7 +2,7 @@
 use Rattle.std.proofs.Common.{rules, ◌≡◌, ◌⊎◌, ⊎_elim, inl, inr, false, List, ◌∷◌, ◌++◌, append_assoc, Option, Some, None, refl, ◌∙◌, sym, subst}
 use Rattle.std.specs.Prelude.{IsSome, IsTrue, codes}
 use Rattle.base_devices.specs.Content.{Name, Content, LiesDirectlyIn}
-use Rattle.base_devices.specs.Moments.{View, Unchanged, SyncsFolders, is_unsynced}
+use Rattle.base_devices.specs.Moments.{View, LeavesNoMore, SyncsFolders, is_unsynced}
 use Rattle.base_devices.specs.Crash.{IsAlikeAt}
 use Rattle.base_devices.proofs.Nows.{known_as}
 use Rattle.base_model.specs.Text.{Text}
@@ -66,7 +66,7 @@ steady_pair stanza r v steady f g x now leaves has = by r (steady.represents f (
     by None of_f of_g = absurd (no_pair f (archive_info stanza) x of_f.archive_pair has)
     by (Some s) of_f of_g = subst (λ (u : ArchiveInfo). PairIs IsArchiveText g (archive_info stanza) u) (one_archive_pair f (archive_info stanza) (archive_value s) x of_f.archive_pair has) of_g.archive_pair
 
-module _ (stanza : Text) (a b : View) (rests : Unchanged a b) (same : b.now ≡ a.now) where
+module _ (stanza : Text) (a b : View) (rests : LeavesNoMore a b) (same : b.now ≡ a.now) where
   -- both members are alike in all that is left
   settled_alike : SyncsFolders (IsMember (archive_info stanza)) a b → IsSynced stanza a → IsSome a.now → IsAlikeAt (IsMember (archive_info stanza)) b
   settled_alike settles synced some h g now leaves n is =

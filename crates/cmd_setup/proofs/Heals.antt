@@ -2,7 +2,7 @@
 use Rattle.std.proofs.Common.{◌≡◌, ◌≢◌, ⊎_elim, inl, inr, [], ◌≤◌, length, Option, Some, None, refl, ap, ◌∙◌, sym, subst, true, false}
 use Rattle.std.specs.Prelude.{IfSome, IsSome}
 use Rattle.base_devices.specs.Content.{Name, Content, put, at}
-use Rattle.base_devices.specs.Moments.{View, Unchanged, is_unsynced}
+use Rattle.base_devices.specs.Moments.{View, LeavesNoMore, is_unsynced}
 use Rattle.base_devices.specs.Crash.{Alike, IsTemporary, Leaves, Crash, SomeOf, NowChanges}
 use Rattle.base_devices.proofs.Nows.{known_as}
 use Rattle.base_model.specs.Text.{Text}
@@ -62,14 +62,14 @@ CrashAt name old new = (v : ArchiveInfo) → IfSome old.now (λ f. PairIs IsArch
 
 -- a pair without a value is left alone
 abbrev pub IdleAt : Text → View → View → Type 0
-IdleAt name old new = ((v : ArchiveInfo) → IfSome old.now (λ f. PairIs IsArchiveText f name v → ⊥)) → IsSome old.now → (new.now ≡ old.now) × Unchanged old new
+IdleAt name old new = ((v : ArchiveInfo) → IfSome old.now (λ f. PairIs IsArchiveText f name v → ⊥)) → IsSome old.now → (new.now ≡ old.now) × LeavesNoMore old new
 
 module _ (stanza : Text) (old new : View) (part : PartAt (archive_info stanza) old new) (crash : CrashAt (archive_info stanza) old new)
     (idle : IdleAt (archive_info stanza) old new) (known : IsSome old.now → IsSome new.now) where
   abbrev Has : ArchiveInfo → Content → Type 0
   Has v f = PairIs IsArchiveText f (archive_info stanza) v
 
-  idle_at : (f : Content) → old.now ≡ Some f → IsVacant stanza f → (new.now ≡ old.now) × Unchanged old new
+  idle_at : (f : Content) → old.now ≡ Some f → IsVacant stanza f → (new.now ≡ old.now) × LeavesNoMore old new
   idle_at f is vacant = idle (λ v. known_at (λ f. Has v f → ⊥) old.now f is (no_pair f (archive_info stanza) v vacant.archive_pair))
       (subst (λ (o : Option Content). IsSome o) (sym is) refl)
 

@@ -1,6 +1,6 @@
 // The cluster of a data folder.
 ghost use Rattle.std.specs.Prelude.{◌≡◌, IfOk, IfErr, IfSome, IsSome, false};
-ghost use Rattle.base_devices.specs.States.{LooksAt};
+ghost use Rattle.base_devices.specs.States.{OnlyReadsFolder};
 ghost use Rattle.cmd_types.specs.Cluster.{control_bytes, ClusterCause};
 ghost use Rattle.cmd_setup.specs.Folder.{IsControlPrefix, IsVersionPrefix, IsKnown, NoCluster, FolderCause};
 ghost use Rattle.cmd_setup.specs.Readies.{IfAsked};
@@ -22,7 +22,7 @@ fn read_control_file<T: DataFolder>(
 ) -> Result<Vec<u8>, Halt<StageFault>>
     ensures bytes { IfOk result (λ v. IsControlPrefix (T.state tree.old).nodes v.items) }
     ensures cause { IfErr result (FolderCause ClusterCause (T.state tree.old) (T.state tree.new)) }
-    ensures looks { LooksAt (T.state tree.old) (T.state tree.new) }
+    ensures looks { OnlyReadsFolder (T.state tree.old) (T.state tree.new) }
 {
     match read_prefix(alloc, tree, &ReadableFile::Control, CONTROL_PREFIX) {
         Ok(Some(bytes)) => Ok(bytes),
@@ -40,7 +40,7 @@ fn read_version_file<T: DataFolder>(
     requires { IfSome (T.state tree.old).nodes (λ f. IsSome (control_bytes f)) }
     ensures bytes { IfOk result (λ v. IsVersionPrefix (T.state tree.old).nodes v.items) }
     ensures cause { IfErr result (FolderCause ClusterCause (T.state tree.old) (T.state tree.new)) }
-    ensures looks { LooksAt (T.state tree.old) (T.state tree.new) }
+    ensures looks { OnlyReadsFolder (T.state tree.old) (T.state tree.new) }
 {
     match read_prefix(alloc, tree, &ReadableFile::Version, VERSION_PREFIX) {
         Ok(Some(bytes)) => Ok(bytes),
@@ -55,7 +55,7 @@ fn read_version_file<T: DataFolder>(
 fn read_cluster<T: DataFolder>(alloc: Global, tree: &mut T) -> Result<Control, Halt<StageFault>>
     ensures known { IfOk result (IsKnown (T.state tree.old).nodes) }
     ensures cause { IfErr result (FolderCause ClusterCause (T.state tree.old) (T.state tree.new)) }
-    ensures looks { LooksAt (T.state tree.old) (T.state tree.new) }
+    ensures looks { OnlyReadsFolder (T.state tree.old) (T.state tree.new) }
 {
     let control = read_control_file(alloc, tree)?;
     let version = read_version_file(alloc, tree)?;
@@ -80,7 +80,7 @@ pub(crate) fn cluster_by<T: DataFolder>(
     ensures known { IfOk result (IfAsked asked (IsKnown (T.state tree.old).nodes)) }
     ensures unread { asked ≡ false → tree.new ≡ tree.old }
     ensures cause { IfErr result (FolderCause (NoCluster asked) (T.state tree.old) (T.state tree.new)) }
-    ensures looks { LooksAt (T.state tree.old) (T.state tree.new) }
+    ensures looks { OnlyReadsFolder (T.state tree.old) (T.state tree.new) }
 {
     if asked {
         Ok(Some(read_cluster(alloc, tree)?))

@@ -4,7 +4,7 @@ ghost use Rattle.cmd_types.specs.Plans.{when, with_one, with_held, first_lock, s
 ghost use Rattle.cmd_setup.specs.Taking.{name_of, AreNames, MayHold, HoldsOnly, MayTake, released};
 ghost use Rattle.cmd_setup.specs.Taking.{IsHeldName, HeldCause, LocksCause};
 
-use base_devices::{Locks, Take};
+use base_devices::{LockAnswer, Locks};
 use cmd_types::{Halt, Object, Plan, StageFault, halted};
 use std::alloc::{AllocError, Global};
 
@@ -43,9 +43,9 @@ fn take_one<K: Locks>(
     requires { IfSome (name_of name.now) (λ n. ¬ Contains (K.state locks.old).taken n) }
     ensures held { OnOk result ((K.state locks.new).taken ≡ with_held (name_of name.now) (K.state locks.old).taken) }
     ensures may { MayHold (name_of name.now) (K.state locks.old).taken (K.state locks.new).taken }
-    ensures took { OnOk result ((K.state locks.new).took ≡
-        option_map (with_one folder.now (name_of name.now)) (K.state locks.old).took) }
-    ensures free { OnErr result ((K.state locks.new).took ≡ (K.state locks.old).took) }
+    ensures ever_taken { OnOk result ((K.state locks.new).ever_taken ≡
+        option_map (with_one folder.now (name_of name.now)) (K.state locks.old).ever_taken) }
+    ensures free { OnErr result ((K.state locks.new).ever_taken ≡ (K.state locks.old).ever_taken) }
     ensures none { name_of name.now ≡ None → locks.new ≡ locks.old }
     ensures later { (K.state locks.old).faults ≤ (K.state locks.new).faults }
     ensures refusals { (K.state locks.old).refusals ≤ (K.state locks.new).refusals }
@@ -57,8 +57,8 @@ fn take_one<K: Locks>(
         return Ok(());
     };
     match locks.take(folder, name) {
-        Ok(Take::Taken) => Ok(()),
-        Ok(Take::Held) => Err(Halt::Refused(StageFault::Held {
+        Ok(LockAnswer::Acquired) => Ok(()),
+        Ok(LockAnswer::Busy) => Err(Halt::Refused(StageFault::Busy {
             name: String::from_str(alloc, name)?,
         })),
         Err(error) => Err(halted(Object::Locks, error)),
@@ -79,10 +79,10 @@ pub fn take_locks<K: Locks>(
     ensures held { OnOk result (AreHeld plan.now stanza.now (K.state locks.new).taken) }
     ensures only { HoldsOnly (first_lock plan.now stanza.now) (second_lock plan.now stanza.now)
         (K.state locks.new).taken }
-    ensures took { OnOk result (TakesLocks plan.now folder.now stanza.now (K.state locks.old).took
-        (K.state locks.new).took) }
-    ensures may { OnErr result (MayTake plan.now folder.now stanza.now (K.state locks.old).took
-        (K.state locks.new).took) }
+    ensures ever_taken { OnOk result (TakesLocks plan.now folder.now stanza.now (K.state locks.old).ever_taken
+        (K.state locks.new).ever_taken) }
+    ensures may { OnErr result (MayTake plan.now folder.now stanza.now (K.state locks.old).ever_taken
+        (K.state locks.new).ever_taken) }
     ensures idle { plan.now.backup_lock ≡ false → plan.now.archive_lock ≡ false → locks.new ≡ locks.old }
     ensures later { (K.state locks.old).faults ≤ (K.state locks.new).faults }
     ensures refusals { (K.state locks.old).refusals ≤ (K.state locks.new).refusals }
@@ -98,7 +98,7 @@ pub fn take_locks<K: Locks>(
 fn release_one<K: Locks>(locks: &mut K, name: &Option<String>)
     ensures taken { (K.state locks.new).taken ≡ released (name_of name.now) (K.state locks.old).taken }
     ensures none { name_of name.now ≡ None → locks.new ≡ locks.old }
-    ensures took { (K.state locks.new).took ≡ (K.state locks.old).took }
+    ensures ever_taken { (K.state locks.new).ever_taken ≡ (K.state locks.old).ever_taken }
     ensures refusals { (K.state locks.new).refusals ≡ (K.state locks.old).refusals }
     ensures faults { (K.state locks.new).faults ≡ (K.state locks.old).faults }
 {
@@ -114,7 +114,7 @@ pub fn release_locks<K: Locks>(locks: &mut K, names: &LockNames, plan: &Plan, st
         (K.state locks.old).taken }
     ensures released { (K.state locks.new).taken ≡ [] }
     ensures idle { plan.now.backup_lock ≡ false → plan.now.archive_lock ≡ false → locks.new ≡ locks.old }
-    ensures took { (K.state locks.new).took ≡ (K.state locks.old).took }
+    ensures ever_taken { (K.state locks.new).ever_taken ≡ (K.state locks.old).ever_taken }
     ensures refusals { (K.state locks.new).refusals ≡ (K.state locks.old).refusals }
     ensures faults { (K.state locks.new).faults ≡ (K.state locks.old).faults }
 {

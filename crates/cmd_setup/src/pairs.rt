@@ -1,6 +1,6 @@
 // Reads or heals the stanza's info pairs.
 ghost use Rattle.std.specs.Prelude.{◌≡◌, string_bytes, OnOk, IfOk, IfErr, IfSome};
-ghost use Rattle.base_devices.specs.States.{Frame, Looks};
+ghost use Rattle.base_devices.specs.States.{CallsProperly, OnlyReads};
 ghost use Rattle.base_model.specs.Names.{archive_info};
 ghost use Rattle.repo_pair.specs.Member.{KeepsMembers};
 ghost use Rattle.archive_store.specs.Still.{IsStill};
@@ -44,7 +44,7 @@ fn read_archive<D: Disk>(
     stanza: &str,
 ) -> Result<ArchiveInfo, Halt<StageFault>>
     ensures found { IfOk result (IsArchiveOf stanza.now (D.state repo.old).view.now) }
-    ensures looks { Looks (D.state repo.old) (D.state repo.new) }
+    ensures looks { OnlyReads (D.state repo.old) (D.state repo.new) }
     ensures cause { IfErr result (RepoCause (ArchiveCause stanza.now) (D.state repo.old) (D.state repo.new)) }
 {
     let name = archive_info_name(alloc, stanza)?;
@@ -68,7 +68,7 @@ fn heal_pair_at<D: Disk>(
     ensures lasts { OnOk result (KeepsMembers (archive_info stanza.now) (D.state repo.old).view
         (D.state repo.new).view) }
     ensures only { OnOk result (Heals Healing stanza.now (D.state repo.old).view.now (D.state repo.new).view.now) }
-    ensures frame { Frame (D.state repo.old) (D.state repo.new) }
+    ensures frame { CallsProperly (D.state repo.old) (D.state repo.new) }
     ensures cause { IfErr result (ArchivePairCause stanza.now (D.state repo.old) (D.state repo.new)) }
 {
     let info = heal_pair(alloc, repo, name)?;
@@ -87,7 +87,7 @@ fn heal_archive<D: Disk>(
     ensures lasts { OnOk result (KeepsMembers (archive_info stanza.now) (D.state repo.old).view
         (D.state repo.new).view) }
     ensures only { OnOk result (Heals Healing stanza.now (D.state repo.old).view.now (D.state repo.new).view.now) }
-    ensures frame { Frame (D.state repo.old) (D.state repo.new) }
+    ensures frame { CallsProperly (D.state repo.old) (D.state repo.new) }
     ensures cause { IfErr result (RepoCause (ArchiveCause stanza.now) (D.state repo.old) (D.state repo.new)) }
 {
     let name = archive_info_name(alloc, stanza)?;
@@ -105,7 +105,7 @@ fn read_backup<D: Disk>(
 ) -> Result<BackupInfo, Halt<StageFault>>
     ensures found { IfOk result (IsBackupOf stanza.now (D.state repo.old).view.now) }
     ensures fits { IfOk result FitsLimit }
-    ensures looks { Looks (D.state repo.old) (D.state repo.new) }
+    ensures looks { OnlyReads (D.state repo.old) (D.state repo.new) }
     ensures cause { IfErr result (RepoCause (BackupCause stanza.now) (D.state repo.old) (D.state repo.new)) }
 {
     let name = backup_info_name(alloc, stanza)?;
@@ -138,7 +138,7 @@ pub(crate) fn archive_by<D: Disk>(
     ensures lasts { OnOk result (KeepsMembers (archive_info stanza.now) (D.state repo.old).view
         (D.state repo.new).view) }
     ensures still { OnReading pairs (IsStill (D.state repo.old).view (D.state repo.new).view) }
-    ensures frame { Frame (D.state repo.old) (D.state repo.new) }
+    ensures frame { CallsProperly (D.state repo.old) (D.state repo.new) }
     ensures cause { IfErr result (RepoCause (NoArchive pairs stanza.now) (D.state repo.old) (D.state repo.new)) }
 {
     match pairs {
@@ -157,7 +157,7 @@ pub(crate) fn backup_by<D: Disk>(
 ) -> Result<Option<BackupInfo>, Halt<StageFault>>
     ensures found { IfOk result (IfAsked (has_backup pairs) (IsBackupOf stanza.now (D.state repo.old).view.now)) }
     ensures fits { IfOk result (IfAsked (has_backup pairs) FitsLimit) }
-    ensures looks { Looks (D.state repo.old) (D.state repo.new) }
+    ensures looks { OnlyReads (D.state repo.old) (D.state repo.new) }
     ensures cause { IfErr result (RepoCause (NoBackup pairs stanza.now) (D.state repo.old) (D.state repo.new)) }
 {
     match pairs {

@@ -1,7 +1,7 @@
 // What is done under the locks, before a command's own part.
 ghost use Rattle.std.specs.Prelude.{◌≡◌, false, OnOk, IfOk, IfErr, IfSome, IsSome, string_bytes};
 ghost use Rattle.base_devices.specs.Moments.{SyncsFolders};
-ghost use Rattle.base_devices.specs.States.{Frame, Looks, LooksAt};
+ghost use Rattle.base_devices.specs.States.{CallsProperly, OnlyReads, OnlyReadsFolder};
 ghost use Rattle.repo_pair.specs.Member.{IsMember, KeepsMembers};
 ghost use Rattle.archive_store.specs.Still.{IsStill};
 ghost use Rattle.cmd_types.specs.declared.stages.plan.SyncScope.TheVariants.{Whole, Looked};
@@ -43,8 +43,8 @@ pub fn prepare<D: Disk, T: DataFolder, K: Locks>(
     ensures lasts { OnOk result (IsSynced stanza.now (D.state repo.old).view → IsSome (D.state repo.old).view.now
         → HealsToLast plan.now.pairs stanza.now (D.state repo.new).view) }
     ensures still { OnReading plan.now.pairs (IsStill (D.state repo.old).view (D.state repo.new).view) }
-    ensures frame { Frame (D.state repo.old) (D.state repo.new) }
-    ensures looks { LooksAt (T.state tree.old) (T.state tree.new) }
+    ensures frame { CallsProperly (D.state repo.old) (D.state repo.new) }
+    ensures looks { OnlyReadsFolder (T.state tree.old) (T.state tree.new) }
     ensures unread { plan.now.control ≡ false → tree.new ≡ tree.old }
     ensures cause { IfErr result (StopCause plan.now stanza.now (D.state repo.old) (D.state repo.new)
         (T.state tree.old) (T.state tree.new)) }
@@ -58,7 +58,7 @@ fn sync_whole<D: Disk>(alloc: Global, repo: &mut D, stanza: &str) -> Result<(), 
     ensures settled { OnOk result (SettlesFor Whole stanza.now (D.state repo.old).view (D.state repo.new).view) }
     ensures members { OnOk result (SyncsFolders (IsMember (archive_info stanza.now)) (D.state repo.old).view
         (D.state repo.new).view) }
-    ensures looks { Looks (D.state repo.old) (D.state repo.new) }
+    ensures looks { OnlyReads (D.state repo.old) (D.state repo.new) }
     ensures cause { IfErr result (RepoCause (λ _. Never) (D.state repo.old) (D.state repo.new)) }
 {
     match begin(alloc, repo, stanza) {
@@ -79,7 +79,7 @@ fn sync_pair<D: Disk>(alloc: Global, repo: &mut D, stanza: &str) -> Result<(), H
     ensures settled { OnOk result (SettlesFor Looked stanza.now (D.state repo.old).view (D.state repo.new).view) }
     ensures members { OnOk result (SyncsFolders (IsMember (archive_info stanza.now)) (D.state repo.old).view
         (D.state repo.new).view) }
-    ensures looks { Looks (D.state repo.old) (D.state repo.new) }
+    ensures looks { OnlyReads (D.state repo.old) (D.state repo.new) }
     ensures cause { IfErr result (RepoCause (λ _. Never) (D.state repo.old) (D.state repo.new)) }
 {
     let folder = pair_folder(alloc, stanza)?;
@@ -99,7 +99,7 @@ fn sync_directories<D: Disk>(
     ensures settled { OnOk result (SettlesFor sync_scope stanza.now (D.state repo.old).view (D.state repo.new).view) }
     ensures members { OnOk result (SyncsFolders (IsMember (archive_info stanza.now)) (D.state repo.old).view
         (D.state repo.new).view) }
-    ensures looks { Looks (D.state repo.old) (D.state repo.new) }
+    ensures looks { OnlyReads (D.state repo.old) (D.state repo.new) }
     ensures cause { IfErr result (RepoCause (λ _. Never) (D.state repo.old) (D.state repo.new)) }
 {
     match sync_scope {
@@ -124,8 +124,8 @@ fn find<D: Disk, T: DataFolder>(
         (D.state repo.new).view.now) }
     ensures healed { OnOk result (IfSome (D.state repo.new).view.now (AreHealed plan.now.pairs stanza.now)) }
     ensures still { OnReading plan.now.pairs (IsStill (D.state repo.old).view (D.state repo.new).view) }
-    ensures frame { Frame (D.state repo.old) (D.state repo.new) }
-    ensures looks { LooksAt (T.state tree.old) (T.state tree.new) }
+    ensures frame { CallsProperly (D.state repo.old) (D.state repo.new) }
+    ensures looks { OnlyReadsFolder (T.state tree.old) (T.state tree.new) }
     ensures unread { plan.now.control ≡ false → tree.new ≡ tree.old }
     ensures cause { IfErr result (StopCause plan.now stanza.now (D.state repo.old) (D.state repo.new)
         (T.state tree.old) (T.state tree.new)) }

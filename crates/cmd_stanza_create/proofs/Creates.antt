@@ -2,7 +2,7 @@
 use Rattle.std.proofs.Common.{◌≡◌, ◌⊎◌, inl, inr, ℕ, List, [], ◌∷◌, Option, Some, None, Bool, true, false, refl, sym, ◌∙◌, subst}
 use Rattle.std.specs.Prelude.{IfSome, IsSome, Result, Ok, Err, IfErr, IsErrAnd}
 use Rattle.base_devices.specs.Content.{Content}
-use Rattle.base_devices.specs.Moments.{View, Unchanged}
+use Rattle.base_devices.specs.Moments.{View, LeavesNoMore}
 use Rattle.base_model.specs.declared.clusters.Cluster.{Cluster}
 use Rattle.base_model.specs.Text.{Text}
 use Rattle.base_model.specs.Repository.{Repository, IsSound}
@@ -99,14 +99,14 @@ module _ (stanza : Text) (c : Cluster) (first : c.id ≡ 1) (a d : View) (known 
       RepoEffect Whole stanza command to_end a d
   made_does done made = record { part = does_part; whole = does_whole done made; turned = tt }
 
-  refused_does : Unchanged a d → d.now ≡ a.now → RepoEffect Whole stanza command turned_back a d
+  refused_does : LeavesNoMore a d → d.now ≡ a.now → RepoEffect Whole stanza command turned_back a d
   refused_does rests same = record { part = does_part; whole = tt; turned = rests_part Whole stanza Reading a d rests same }
 
   stopped_does : RepoEffect Whole stanza command stopped a d
   stopped_does = record { part = does_part; whole = tt; turned = tt }
 
   -- it was refused, or stopped
-  pub halted_does : (e : StanzaFault) (halt : Halt CreateFault) → IsStanzaFault e halt → OnContent e (Unchanged a d) →
+  pub halted_does : (e : StanzaFault) (halt : Halt CreateFault) → IsStanzaFault e halt → OnContent e (LeavesNoMore a d) →
       OnContent e (d.now ≡ a.now) → RepoEffect Whole stanza command (reached_by create_early (Err halt)) a d
   halted_does e halt (Damaged name main copy) rests same = refused_does rests same
   halted_does e halt (Differs at) rests same = refused_does rests same
@@ -119,7 +119,7 @@ module _ (stanza : Text) (c : Cluster) (first : c.id ≡ 1) (a d : View) (known 
 
 -- a refusal leaves the disk still
 pub halted_still : (a d : View) (e : StanzaFault) (halt : Halt CreateFault) → IsStanzaFault e halt →
-    OnContent e (Unchanged a d) → OnContent e (d.now ≡ a.now) → OnNone (reached_by create_early (Err halt)) (IsStill a d)
+    OnContent e (LeavesNoMore a d) → OnContent e (d.now ≡ a.now) → OnNone (reached_by create_early (Err halt)) (IsStill a d)
 halted_still a d e halt (Damaged name main copy) rests same = record { now = same; time = rests }
 halted_still a d e halt (Differs at) rests same = record { now = same; time = rests }
 halted_still a d e halt (Mismatch kept found) rests same = record { now = same; time = rests }

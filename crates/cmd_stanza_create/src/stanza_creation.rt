@@ -1,7 +1,7 @@
 // stanza-create: makes the stanza, or keeps the one that is there.
 ghost use Rattle.std.specs.Prelude.{◌≡◌, ◌∷◌, [], ◌≤◌, None, Some, option_map, OnOk, IfOk, IfErr, IfSome};
 ghost use Rattle.base_devices.specs.Cause.{Rises};
-ghost use Rattle.base_devices.specs.States.{Frame};
+ghost use Rattle.base_devices.specs.States.{CallsProperly};
 ghost use Rattle.base_disk.specs.Store.{ChangesOnly};
 ghost use Rattle.base_model.specs.InfoFiles.{IsLabel};
 ghost use Rattle.base_model.specs.Steps.{StanzaCreate};
@@ -66,7 +66,7 @@ fn make<D: Disk>(
     ensures refused { OnNone (reached_by create_early result)
         (IsStill (D.state repo.old).view (D.state repo.new).view) }
     ensures only { ChangesOnly (IsOfPairs stanza.now) (D.state repo.old).view (D.state repo.new).view }
-    ensures frame { Frame (D.state repo.old) (D.state repo.new) }
+    ensures frame { CallsProperly (D.state repo.old) (D.state repo.new) }
     ensures cause { IfErr result (HaltCause (MakeCause stanza.now known.now (D.state repo.old).view.now)
         (Only TheRepo (Rises (D.state repo.old).faults (D.state repo.new).faults))) }
 {
@@ -97,7 +97,7 @@ pub fn create_stanza<D: Disk, V: ServerConnection, K: Locks>(
     ensures refused { OnNone (reached_by create_early result)
         (IsStill (D.state repo.old).view (D.state repo.new).view) }
     ensures only { ChangesOnly (IsOfPairs stanza.now) (D.state repo.old).view (D.state repo.new).view }
-    ensures frame { Frame (D.state repo.old) (D.state repo.new) }
+    ensures frame { CallsProperly (D.state repo.old) (D.state repo.new) }
 
     // The server is asked at its socket, and the talk is ended; without one the connection isn't used.
     ensures same { OnOk result (IfSome server.entry (λ _. IsOf known.now.system (V.state connection.old).pending)) }

@@ -2,7 +2,7 @@
 use Rattle.std.proofs.Common.{◌≡◌, ◌⊎◌, ⊎_elim, inl, inr, ℕ, ◌≤◌, List, [], ◌∷◌, Option, refl, ◌∙◌, sym, subst, arith, Bool, true, false}
 use Rattle.std.specs.Prelude.{IsSome}
 use Rattle.base_devices.specs.Content.{Content, Name}
-use Rattle.base_devices.specs.Moments.{View, Unchanged, IsImage, is_unsynced}
+use Rattle.base_devices.specs.Moments.{View, LeavesNoMore, IsImage, is_unsynced}
 use Rattle.base_devices.specs.Crash.{Leaves}
 use Rattle.base_devices.proofs.Nows.{known_as}
 use Rattle.base_model.specs.Text.{Text}
@@ -51,12 +51,12 @@ either t s = grind arith
 
 -- ---- calls that only read
 
-image_back : (a b : View) → Unchanged a b → (t : ℕ) → a.moment ≤ t → t ≤ b.moment → (f : Content) → IsImage b t f → IsImage a a.moment f
+image_back : (a b : View) → LeavesNoMore a b → (t : ℕ) → a.moment ≤ t → t ≤ b.moment → (f : Content) → IsImage b t f → IsImage a a.moment f
 image_back a b rests t lo hi f image n = ⊎_elim
     (λ k. ⊎_elim (λ o. inl o) (λ x. absurd x) (rests.grows t n (f n) lo hi k))
     (λ l. ⊎_elim (λ o. inr (o, l.1)) (λ x. absurd x) (rests.unsyncs t n lo hi l.0)) (image n)
 
-leaves_back : (a b : View) → Unchanged a b → b.now ≡ a.now → (t : ℕ) → a.moment ≤ t → t ≤ b.moment → (f : Content) → Leaves b t f → Leaves a a.moment f
+leaves_back : (a b : View) → LeavesNoMore a b → b.now ≡ a.now → (t : ℕ) → a.moment ≤ t → t ≤ b.moment → (f : Content) → Leaves b t f → Leaves a a.moment f
 leaves_back a b rests same t lo hi f (inl now) = inl (sym same ∙ now)
 leaves_back a b rests same t lo hi f (inr image) = inr (image_back a b rests t lo hi f image)
 
@@ -64,13 +64,13 @@ false_or : (x y : Bool) → (y ≡ true → (x ≡ true) ⊎ ⊥) → x ≡ fals
 false_or x true h is = ⊎_elim (λ (e : x ≡ true). let c : ◌≡◌ {A = Bool} true false = sym e ∙ is in cc) (λ (e : ⊥). absurd e) (h refl)
 false_or x false h is = refl
 
-is_synced_at : (a b : View) → Unchanged a b → (n : Name) → is_unsynced a n ≡ false → is_unsynced b n ≡ false
+is_synced_at : (a b : View) → LeavesNoMore a b → (n : Name) → is_unsynced a n ≡ false → is_unsynced b n ≡ false
 is_synced_at a b rests n is = false_or (is_unsynced a n) (is_unsynced b n) (λ l. rests.unsyncs b.moment n rests.later (omega arith) l) is
 
-rests_past : (a b : View) → Unchanged a b → Past a b
+rests_past : (a b : View) → LeavesNoMore a b → Past a b
 rests_past a b rests = record { later = rests.later; kept = rests.same; unsynced = rests.same_unsynced }
 
-pub spool_rests : (stanza : Text) (q : Repository) (log : List Done) (a b : View) → Unchanged a b → b.now ≡ a.now → KeepsSpool stanza q log a → KeepsSpool stanza q log b
+pub spool_rests : (stanza : Text) (q : Repository) (log : List Done) (a b : View) → LeavesNoMore a b → b.now ≡ a.now → KeepsSpool stanza q log a → KeepsSpool stanza q log b
 spool_rests stanza q log a b rests same keeps = record {
   fixed = λ name fits. is_synced_at a b rests (receipt_name stanza name) (keeps.fixed name fits);
   receipts = λ f leaves. keeps.receipts f (leaves_back a b rests same b.moment rests.later (omega arith) f leaves);
@@ -114,7 +114,7 @@ module _ (stanza : Text) (command : Command) (q : Repository) (log : List Done) 
   }
 
 -- nothing was done, or only was read
-pub rests_quiet : (stanza : Text) (a b : View) → Unchanged a b → b.now ≡ a.now → Quiet stanza a b
+pub rests_quiet : (stanza : Text) (a b : View) → LeavesNoMore a b → b.now ≡ a.now → Quiet stanza a b
 rests_quiet stanza a b rests same = record {
   now = record { known = λ some. on_some a.now b.now same some; does = λ r from some now. ([], refl, subst (λ (o : Option Content). NowRepresents stanza r o) (sym same) now) };
   beside = rests_beside stanza a b rests same;
@@ -320,7 +320,7 @@ begun_takes how stanza a b quiet begun command reached s d t h = record {
 
 -- ---- places are opened, and then all that
 
-module _ (stanza : Text) (a b s t : View) (rests : Unchanged a b) (same : b.now ≡ a.now) (spool_rest : Unchanged s t) (spool_same : t.now ≡ s.now) where
+module _ (stanza : Text) (a b s t : View) (rests : LeavesNoMore a b) (same : b.now ≡ a.now) (spool_rest : LeavesNoMore s t) (spool_same : t.now ≡ s.now) where
   opened_with : (q : Repository) (log : List Done) → Keeps stanza q log a s → Keeps stanza q log b t
   opened_with q log keeps = record { repository = rests_still stanza q log a b rests same keeps.repository; receipts = spool_rests stanza q log s t spool_rest spool_same keeps.receipts }
 

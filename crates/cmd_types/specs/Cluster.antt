@@ -2,7 +2,7 @@
 use Rattle.std.specs.Prelude.{◌≡◌, Option, Some, None, IfSome, IsSome, IsSomeAnd}
 use Rattle.base_devices.specs.Content.{Value}
 use Rattle.base_devices.specs.DataFolder.{Nodes, file_bytes, known_path}
-use Rattle.base_devices.specs.declared.tree.ReadableFile.TheVariants.{Control as ControlName, Version as VersionName}
+use Rattle.base_devices.specs.declared.data_folder.ReadableFile.TheVariants.{Control as ControlName, Version as VersionName}
 use Rattle.base_model.specs.Text.{Text}
 use Rattle.base_model.specs.declared.clusters.Cluster.{Cluster}
 use Rattle.repo_stanza.specs.declared.control.Control.{Control as Known}

@@ -11,7 +11,7 @@ use Rattle.cmd_types.specs.declared.stages.object.Object.TheVariants.{Repo, Spoo
 
 -- the locks that were ever taken, how often one was held by another, and how often they failed
 pub record LocksSeen : Type 0 where
-  pub took : Option (List (Name × Name))
+  pub ever_taken : Option (List (Name × Name))
   pub refusals : ℕ
   pub faults : ℕ
 

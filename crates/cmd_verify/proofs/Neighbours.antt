@@ -18,7 +18,7 @@ use Rattle.base_model.specs.Names.{archive_folder, id_text, segment_text, segmen
 use Rattle.base_model.specs.Represents.{IsArchivePlace}
 use Rattle.archive_lookup.specs.declared.stored.files.Stored.{Stored}
 use Rattle.archive_lookup.specs.Ends.{RepresentsAt}
-use Rattle.archive_lookup.specs.Looks.{dash, file_prefix, file_place, sum_digits}
+use Rattle.archive_lookup.specs.OnlyReads.{dash, file_prefix, file_place, sum_digits}
 use Rattle.archive_lookup.specs.Paths.{Lacks, below_id, has_sum}
 use Rattle.archive_lookup.specs.Stored.{AreStored, IsStoredFile, archive_path}
 use Rattle.archive_lookup.proofs.Bounding.{one_place}

@@ -26,7 +26,7 @@ use Rattle.base_model.specs.Represents.{HasStanza, IsManifestOf, IsArchivePlace,
 use Rattle.base_model.specs.Log.{Lists}
 use Rattle.archive_lookup.specs.Stored.{archive_path}
 use Rattle.archive_lookup.specs.Paths.{has_sum}
-use Rattle.archive_lookup.specs.Looks.{file_prefix, sum_digits}
+use Rattle.archive_lookup.specs.OnlyReads.{file_prefix, sum_digits}
 use Rattle.archive_lookup.proofs.OnePath.{one_path}
 use Rattle.archive_lookup.proofs.Looked.{with_prefix}
 use Rattle.archive_lookup.proofs.Orders.{in_map, from_map, not_itself}

@@ -1,8 +1,8 @@
 -- What the faults of the layers below become, and why a repository isn't looked at to its end.
 use Rattle.std.specs.Prelude.{Option}
 use Rattle.base_devices.specs.Content.{Content}
-use Rattle.base_devices.specs.declared.stop.DeviceError.{DeviceError}
-use Rattle.base_devices.specs.declared.stop.DeviceError.TheVariants.{Failed, NoMemory as ErrorNoMemory}
+use Rattle.base_devices.specs.declared.device_error.DeviceError.{DeviceError}
+use Rattle.base_devices.specs.declared.device_error.DeviceError.TheVariants.{Failed, NoMemory as ErrorNoMemory}
 use Rattle.base_model.specs.Text.{Text}
 use Rattle.archive_lookup.specs.Causes.{AllCause}
 use Rattle.archive_lookup.specs.declared.stored.fault.ArchiveFault.{ArchiveFault}

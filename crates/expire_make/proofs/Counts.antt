@@ -17,10 +17,10 @@ use Rattle.expire_make.specs.Removed.{pair_of, Took, Nothing, Further, Counted, 
 
 module _ (these : Name → Type 0) where
   pub counted_none : (o p : Option Content) → p ≡ o → Counted these 0 o p
-  counted_none o p same = record { names = []; took = Nothing o p same; count = refl }
+  counted_none o p same = record { names = []; ever_taken = Nothing o p same; count = refl }
 
   pub counted_one : (o p : Option Content) (n : Name) → these n → IsThere o n → p ≡ option_map (put n None) o → Counted these 1 o p
-  counted_one o p n one there is = record { names = n ∷ []; took = Further [] o o p n (Nothing o o refl) one there is; count = refl }
+  counted_one o p n one there is = record { names = n ∷ []; ever_taken = Further [] o o p n (Nothing o o refl) one there is; count = refl }
 
   took_on : (ms ns : List Name) (o p q : Option Content) → Took these ms o p → Took these ns p q → Took these (ns ++ ms) o q
   took_on ms ns o p q before (Nothing p' q' same) = subst (λ (x : Option Content). Took these ms o x) (sym same) before
@@ -29,7 +29,7 @@ module _ (these : Name → Type 0) where
   pub counted_on : (j k r : ℕ) (o p q : Option Content) → r ≡ min (j + k) (2 ^ 64 - 1) → Counted these j o p → Counted these k p q → Counted these r o q
   counted_on j k r o p q is first next = record {
     names = next.names ++ first.names;
-    took = took_on first.names next.names o p q first.took next.took;
+    ever_taken = took_on first.names next.names o p q first.ever_taken next.ever_taken;
     count = let l = length-append next.names first.names in omega (arith, is, first.count, next.count, l);
   }
 
@@ -41,7 +41,7 @@ took_wide these those wider ns o p (Nothing o' p' same) = Nothing o p same
 took_wide these those wider ns o p (Further ks o' mid p' n more one there is) = Further ks o mid p n (took_wide these those wider ks o mid more) (wider n one) there is
 
 pub counted_wide : (these those : Name → Type 0) (k : ℕ) (o p : Option Content) → ((n : Name) → these n → those n) → Counted these k o p → Counted those k o p
-counted_wide these those k o p wider c = record { names = c.names; took = took_wide these those wider c.names o p c.took; count = c.count }
+counted_wide these those k o p wider c = record { names = c.names; ever_taken = took_wide these those wider c.names o p c.ever_taken; count = c.count }
 
 -- ---- the files of a listing
 

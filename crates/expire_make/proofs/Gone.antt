@@ -66,7 +66,7 @@ module _ (stanza : Text) where
         goes f g first last =
             let m = known_as c.view.now (known (some_f f first)) in
             let x = counted (known (some_f f first)) in
-            let shows = took_shows (IsUnneeded stanza keeps) x.names c.view.now d.view.now x.took m.0 g m.1 last in
+            let shows = took_shows (IsUnneeded stanza keeps) x.names c.view.now d.view.now x.ever_taken m.0 g m.1 last in
             let same : (n : Name) → IsArchiveFile stanza n → m.0 n ≡ f n = λ n file. some_is (m.0 n) (f n) (sym (ap (at n) m.1) ∙ files_same n file ∙ ap (at n) first) in (
               x.names,
               shows.distinct,

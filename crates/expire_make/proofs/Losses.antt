@@ -8,7 +8,7 @@ use Rattle.base_devices.proofs.Nows.{known_as}
 use Rattle.base_devices.proofs.Crashes.{unknown}
 use Rattle.base_disk.proofs.Images.{Law}
 use Rattle.base_disk.specs.Store.{ChangesOnly}
-use Rattle.base_devices.specs.States.{DiskState, Looks}
+use Rattle.base_devices.specs.States.{DiskState, OnlyReads}
 use Rattle.base_devices.proofs.Steps.{goes_on, goes_wide}
 use Rattle.expire_make.specs.Losing.{Loses, LosesAll, Drops, TakesAway}
 
@@ -138,7 +138,7 @@ module _ (these : Name → Type 0) where
   pub takes_none : (a : DiskState) → TakesAway these a a
   takes_none a = record { works = record { time = no_time these a.view; opened = refl; proper = refl; later = omega arith }; now = λ n. inl refl }
 
-  pub takes_looks : (a b : DiskState) → Looks a b → TakesAway these a b
+  pub takes_looks : (a b : DiskState) → OnlyReads a b → TakesAway these a b
   takes_looks a b looks = record {
     works = record {
       time = goes_wide (λ _ _. ⊥) (λ n v. these n × (v ≡ None)) (λ _. ⊥) (λ _. ⊥) a.view b.view (λ n v h. absurd h) (λ n h. h) looks.time;

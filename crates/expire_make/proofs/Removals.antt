@@ -4,7 +4,7 @@ use Rattle.std.specs.Prelude.{IfSome, IsSome, option_map}
 use Rattle.base_devices.specs.declared.disk.Found.{Found}
 use Rattle.base_devices.specs.Content.{Name, Value, Content, Holds, at, put, Changes, is_below, IsListing}
 use Rattle.base_devices.specs.Moments.{View, GrowsBy, MayKeep, is_unsynced}
-use Rattle.base_devices.specs.States.{DiskState, Looks, Works}
+use Rattle.base_devices.specs.States.{DiskState, OnlyReads, Works}
 use Rattle.base_disk.specs.Dropped.{IsAbsent}
 use Rattle.base_disk.proofs.Images.{put_same, put_other, by_name}
 use Rattle.base_model.specs.Text.{Text, In, ◌⫽◌}
@@ -78,7 +78,7 @@ module _ (prefix : Text) (kept : KeptFiles) where
   gone_last found i now end gone stanza prefix_is n at off = ⊎_elim (λ h. h) (λ (j : In n (names_of (drop i found))). absurd (subst (λ (l : List Found). In n (names_of l)) (ended (λ (y : Found). string_bytes y.name) found i end) j)) (gone stanza prefix_is n at off)
 
 -- what the listing doesn't report is absent
-pub found_gone : (these : Name → Type 0) (place : Name) (found : List Found) (a m b : DiskState) → Looks a m → IfSome a.view.now (λ f. IsListing place f (map pair_of found)) → TakesAway these m b
+pub found_gone : (these : Name → Type 0) (place : Name) (found : List Found) (a m b : DiskState) → OnlyReads a m → IfSome a.view.now (λ f. IsListing place f (map pair_of found)) → TakesAway these m b
     → (n : Name) → IsTrue (is_below place n) → (In n (names_of found) → IsAbsent b.view.now n) → IsAbsent b.view.now n
 found_gone these place found a m b looks listing takes n below gone = by a.view.now refl listing
   where

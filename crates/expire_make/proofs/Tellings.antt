@@ -4,7 +4,7 @@ use Rattle.std.specs.Prelude.{IfSome, IsSome, nat_eq}
 use Rattle.std.proofs.lemmas.Bool.{false≢true}
 use Rattle.base_text.specs.Sum.{IsSum, sum_text}
 use Rattle.base_devices.specs.Content.{Name, Value, Content, is_below, AreFolders}
-use Rattle.base_devices.specs.States.{DiskState, Looks}
+use Rattle.base_devices.specs.States.{DiskState, OnlyReads}
 use Rattle.base_disk.specs.Dropped.{IsAbsent}
 use Rattle.base_disk.proofs.Below.{below_prefix}
 use Rattle.base_model.specs.declared.clusters.ClusterId.{ClusterId}
@@ -92,7 +92,7 @@ module _ (rules : Rules) (current : ℕ) (es : List Entry) (id : ArchiveId) (kep
       by (History timeline) is off = absurd (false≢true (sym off))
 
   -- all are gone, once the folders of the log were gone through
-  pub gone_under : (prefix place : Text) (known : List Name) (a m b : DiskState) → Looks a m → IfSome a.view.now (λ f. AreFolders place f known) → TakesAway (Forgets prefix kept) m b
+  pub gone_under : (prefix place : Text) (known : List Name) (a m b : DiskState) → OnlyReads a m → IfSome a.view.now (λ f. AreFolders place f known) → TakesAway (Forgets prefix kept) m b
       → ((stanza : Text) → prefix ≡ prefix_of stanza → (n x : Name) → In x known → IsTrue (is_below (place ⫽ x) n) → IsForgotten stanza kept n → IsAbsent b.view.now n)
       → place ≡ prefix ++ id_text id → (stanza : Text) → prefix ≡ prefix_of stanza → (n : Name) → (u : IsUnneeded stanza (keeps_by rules current es) n) → u.id ≡ id → IsAbsent b.view.now n
   gone_under prefix place known a m b looks folders takes gone place_is stanza prefix_is n u at_id = by a.view.now refl folders

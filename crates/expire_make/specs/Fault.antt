@@ -1,8 +1,8 @@
 -- The fault of an expiry that a fault below becomes, and why an expiry is refused.
 use Rattle.std.specs.Prelude.{◌⊎◌, Option, IfSome}
 use Rattle.base_devices.specs.Content.{Content}
-use Rattle.base_devices.specs.declared.stop.DeviceError.{DeviceError}
-use Rattle.base_devices.specs.declared.stop.DeviceError.TheVariants.{Failed, NoMemory as ErrorNoMemory}
+use Rattle.base_devices.specs.declared.device_error.DeviceError.{DeviceError}
+use Rattle.base_devices.specs.declared.device_error.DeviceError.TheVariants.{Failed, NoMemory as ErrorNoMemory}
 use Rattle.base_disk.specs.declared.fault.StoreFault.{StoreFault}
 use Rattle.base_disk.specs.declared.fault.StoreFault.TheVariants.{Disk as StoreDisk, TooLong as StoreTooLong, NoMemory as StoreNoMemory}
 use Rattle.repo_pair.specs.declared.fault.SaveFault.{SaveFault}

@@ -27,7 +27,7 @@ IsCount k ns = k ≡ min (length ns) (2 ^ 64 - 1)
 -- k of these names were removed, and nothing else changed
 pub record Counted (these : Name → Type 0) (k : ℕ) (old new : Option Content) : Type 0 where
   pub names : List Name
-  pub took : Took these names old new
+  pub ever_taken : Took these names old new
   pub count : IsCount k names
 
 -- k archive files are gone that the disk had, where that is known

@@ -2,7 +2,7 @@
 ghost use Rattle.std.specs.Prelude.{◌≡◌, ◌≤◌, false, OnOk, IsErrOf, length};
 ghost use Rattle.base_devices.specs.Moments.{is_unsynced};
 ghost use Rattle.base_devices.specs.Crash.{Crash, Ends, NowChanges, FirstOf, AllOf};
-ghost use Rattle.base_devices.specs.States.{Frame};
+ghost use Rattle.base_devices.specs.States.{CallsProperly};
 ghost use Rattle.base_disk.specs.Store.{ChangesOnly};
 ghost use Rattle.repo_pair.specs.Member.{IsOfPair};
 ghost use Rattle.base_devices.specs.Cause.{Rises};
@@ -42,7 +42,7 @@ pub(crate) fn save_left<D: Disk>(
         (NowChanges (AllOf (member_writes (backup_info stanza.now) (list_text (backup_info_of left.now))))
         (D.state d.old).view.now (D.state d.new).view.now) }
     ensures only { ChangesOnly (IsOfPair (backup_info stanza.now)) (D.state d.old).view (D.state d.new).view }
-    ensures frame { Frame (D.state d.old) (D.state d.new) }
+    ensures frame { CallsProperly (D.state d.old) (D.state d.new) }
     ensures cause { IsErrOf result SaveFault.Disk → Rises (D.state d.old).faults (D.state d.new).faults }
 {
     let name = backup_info_name(alloc, stanza)?;

@@ -2,7 +2,7 @@
 ghost use Rattle.std.specs.Prelude.{◌≡◌, ◌≤◌, IfOk, IfErr, IfSome, length};
 ghost use Rattle.std.specs.List.{AllByRecursion};
 ghost use Rattle.base_devices.specs.Content.{Content};
-ghost use Rattle.base_devices.specs.States.{Looks};
+ghost use Rattle.base_devices.specs.States.{OnlyReads};
 ghost use Rattle.base_devices.specs.Cause.{Rises};
 ghost use Rattle.base_model.specs.Names.{archive_info, backup_info};
 ghost use Rattle.base_model.specs.Pair.{PairIs};
@@ -62,7 +62,7 @@ fn clusters<D: Disk>(alloc: Global, d: &mut D, stanza: &str) -> Result<ArchiveIn
     ensures found { IfOk result (λ v. IfSome (D.state d.old).view.now
         (λ f. PairIs IsArchiveText f (archive_info stanza.now) (archive_info_of v))) }
     ensures valid { IfOk result (λ v. IsArchiveInfo (archive_info_of v)) }
-    ensures looks { Looks (D.state d.old) (D.state d.new) }
+    ensures looks { OnlyReads (D.state d.old) (D.state d.new) }
     ensures cause { IfErr result (ExpireCause stanza.now (D.state d.old).view.now
         (Rises (D.state d.old).faults (D.state d.new).faults)) }
 {
@@ -77,7 +77,7 @@ fn backups<D: Disk>(alloc: Global, d: &mut D, stanza: &str) -> Result<BackupInfo
         (λ f. PairIs IsBackupText f (backup_info stanza.now) (backup_info_of v))) }
     ensures valid { IfOk result (λ v. IsBackupInfo (backup_info_of v)) }
     ensures within { IfOk result (λ v. length (list_text (backup_info_of v)) ≤ info_limit) }
-    ensures looks { Looks (D.state d.old) (D.state d.new) }
+    ensures looks { OnlyReads (D.state d.old) (D.state d.new) }
     ensures cause { IfErr result (ExpireCause stanza.now (D.state d.old).view.now
         (Rises (D.state d.old).faults (D.state d.new).faults)) }
 {
@@ -96,7 +96,7 @@ pub(crate) fn read_list<D: Disk>(
         (λ f. HasList stanza.now f (archive_info_of v.0) (backup_info_of v.1))) }
     ensures valid { IfOk result (λ v. IsBackupInfo (backup_info_of v.1)) }
     ensures within { IfOk result (λ v. length (list_text (backup_info_of v.1)) ≤ info_limit) }
-    ensures looks { Looks (D.state d.old) (D.state d.new) }
+    ensures looks { OnlyReads (D.state d.old) (D.state d.new) }
     ensures cause { IfErr result (ExpireCause stanza.now (D.state d.old).view.now
         (Rises (D.state d.old).faults (D.state d.new).faults)) }
 {

@@ -1,7 +1,7 @@
 // An expiry: plans it, and carries it out.
 ghost use Rattle.std.specs.Prelude.{◌≡◌, ◌≤◌, Some, IfOk, IfErr, IfSome, IsSome, OnOk, length};
 ghost use Rattle.std.specs.List.{AllByRecursion};
-ghost use Rattle.base_devices.specs.States.{Frame, Looks};
+ghost use Rattle.base_devices.specs.States.{CallsProperly, OnlyReads};
 ghost use Rattle.base_devices.specs.Cause.{Rises};
 ghost use Rattle.base_disk.specs.Store.{ChangesOnly};
 ghost use Rattle.base_model.specs.Repository.{Stanza, IsSoundStanza};
@@ -68,7 +68,7 @@ pub fn expire<D: Disk>(
     ensures removed { IfOk result
         (λ e. CountsGone stanza.now e.removed (D.state d.old).view.now (D.state d.new).view.now) }
     // Where it is refused only was read.
-    ensures refused { IfErr result (λ e. IfRefused e (Looks (D.state d.old) (D.state d.new))) }
+    ensures refused { IfErr result (λ e. IfRefused e (OnlyReads (D.state d.old) (D.state d.new))) }
     // Nothing changes but the backup pair, folders of labels, and files of the archive that aren't histories of
     // timelines.
     ensures only { ChangesOnly (MayExpire stanza.now) (D.state d.old).view (D.state d.new).view }
@@ -76,7 +76,7 @@ pub fn expire<D: Disk>(
         → NowRepresents stanza.now (Some s) (D.state d.old).view.now
         → ChangesOnly (IsTouched stanza.now rules.now moment s) (D.state d.old).view (D.state d.new).view }
     ensures beside { StaysBeside stanza.now (D.state d.old).view (D.state d.new).view }
-    ensures frame { Frame (D.state d.old) (D.state d.new) }
+    ensures frame { CallsProperly (D.state d.old) (D.state d.new) }
     ensures cause { IfErr result (ExpireCause stanza.now (D.state d.old).view.now
         (Rises (D.state d.old).faults (D.state d.new).faults)) }
 {
@@ -124,7 +124,7 @@ pub fn expire_list<D: Disk>(
         → NowRepresents stanza.now (Some s) (D.state d.old).view.now
         → ChangesOnly (IsTouched stanza.now rules.now moment s) (D.state d.old).view (D.state d.new).view }
     ensures beside { StaysBeside stanza.now (D.state d.old).view (D.state d.new).view }
-    ensures frame { Frame (D.state d.old) (D.state d.new) }
+    ensures frame { CallsProperly (D.state d.old) (D.state d.new) }
     ensures cause { IfErr result (IsDeviceFault (Rises (D.state d.old).faults (D.state d.new).faults)) }
 {
     let planned = plan(alloc, archive, list, rules, moment)?;

@@ -1,6 +1,6 @@
 // Carries out what was planned: the backup pair first, then the folders, then the files of the archive.
 ghost use Rattle.std.specs.Prelude.{◌≤◌, ℕ, IfOk, IfErr, IfSome, IsSome, OnOk, length};
-ghost use Rattle.base_devices.specs.States.{Frame};
+ghost use Rattle.base_devices.specs.States.{CallsProperly};
 ghost use Rattle.base_disk.specs.Store.{ChangesOnly};
 ghost use Rattle.base_devices.specs.Cause.{Rises};
 ghost use Rattle.base_model.specs.Values.{archive_info_of, backup_info_of};
@@ -55,7 +55,7 @@ pub(crate) fn carry_out<D: Disk>(
         (keeps_by rules.now (archive_info_of plan.now.archive).current (backup_info_of plan.now.left).backups))
         (D.state d.old).view (D.state d.new).view }
     ensures beside { StaysBeside stanza.now (D.state d.old).view (D.state d.new).view }
-    ensures frame { Frame (D.state d.old) (D.state d.new) }
+    ensures frame { CallsProperly (D.state d.old) (D.state d.new) }
     ensures cause { IfErr result (IsDeviceFault (Rises (D.state d.old).faults (D.state d.new).faults)) }
 {
     save_left(alloc, d, stanza, &plan.left)?;

@@ -3,7 +3,7 @@ ghost use Rattle.std.specs.Prelude.{◌≡◌, false, map, nat_eq, IfErr, IfOk, 
 ghost use Rattle.std.specs.List.{starts_with};
 ghost use Rattle.base_devices.specs.Content.{is_below};
 ghost use Rattle.base_devices.specs.Cause.{Rises};
-ghost use Rattle.base_devices.specs.States.{Looks};
+ghost use Rattle.base_devices.specs.States.{OnlyReads};
 ghost use Rattle.base_model.specs.Text.{◌⫽◌};
 ghost use Rattle.base_model.specs.Names.{backup_folder};
 ghost use Rattle.base_model.specs.Values.{entry_of};
@@ -67,7 +67,7 @@ fn drop_one<D: Disk>(
 ) -> Result<bool, ExpireFault>
     ensures takes { TakesAway (IsUnlisted stanza.now (labels_of (map entry_of entries.now)))
         (D.state d.old) (D.state d.new) }
-    ensures idle { IfOk result (λ is_dropped. is_dropped ≡ false → Looks (D.state d.old) (D.state d.new)) }
+    ensures idle { IfOk result (λ is_dropped. is_dropped ≡ false → OnlyReads (D.state d.old) (D.state d.new)) }
     ensures cause { IfErr result (IsDeviceFault (Rises (D.state d.old).faults (D.state d.new).faults)) }
 {
     if is_unlisted(name.as_bytes(), entries) {
@@ -87,7 +87,7 @@ fn drop_each<D: Disk>(
 ) -> Result<bool, ExpireFault>
     ensures takes { TakesAway (IsUnlisted stanza.now (labels_of (map entry_of entries.now)))
         (D.state d.old) (D.state d.new) }
-    ensures idle { IfOk result (λ is_dropped. is_dropped ≡ false → Looks (D.state d.old) (D.state d.new)) }
+    ensures idle { IfOk result (λ is_dropped. is_dropped ≡ false → OnlyReads (D.state d.old) (D.state d.new)) }
     ensures cause { IfErr result (IsDeviceFault (Rises (D.state d.old).faults (D.state d.new).faults)) }
 {
     let mut is_dropped = false;

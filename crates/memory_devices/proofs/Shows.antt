@@ -1,10 +1,10 @@
 -- What a call of a disk in memory did, as it is known.
 use Rattle.std.proofs.Common.{◌≡◌, ◌⊎◌, inl, inr, ℕ, Bool, true, false, cond, List, [], ◌∷◌, take, length, Result, Ok, Err, None, refl, sym, ◌∙◌, ap, subst, arith}
 use Rattle.std.specs.Prelude.{OnOk, OnErr, IsErrOf, IsTrue, ◌&&◌, not, is_some}
-use Rattle.base_devices.specs.declared.stop.DeviceError.{DeviceError}
-use Rattle.base_devices.specs.declared.stop.DeviceError.TheVariants.{Failed, NoMemory}
+use Rattle.base_devices.specs.declared.device_error.DeviceError.{DeviceError}
+use Rattle.base_devices.specs.declared.device_error.DeviceError.TheVariants.{Failed, NoMemory}
 use Rattle.base_devices.specs.Content.{Name, Value, Holds, HasBytes}
-use Rattle.base_devices.specs.Moments.{GrowsBy, Unchanged, SyncsFolders, is_unsynced}
+use Rattle.base_devices.specs.Moments.{GrowsBy, LeavesNoMore, SyncsFolders, is_unsynced}
 use Rattle.memory_devices.specs.declared.held.Held.{Held}
 use Rattle.memory_devices.specs.State.{State, after, first_state, Among, view_at, begun, appended, after_sync, renamed, removed, settled, all_synced}
 use Rattle.memory_devices.specs.Held.{state_of, view_of, Notes, IsAsBefore, FailsAt}
@@ -64,7 +64,7 @@ module _ (old new : Held) where
   pub removed_goes : (n : Name) → Notes (removed n) old new → GrowsBy (λ q v. (q ≡ n) × (v ≡ None)) (λ _. ⊥) (view_of old) (view_of new)
   removed_goes n notes = lift _ (λ _. ⊥) notes.given (goes_removed first old.changes.items new.changes.items n notes.adds)
 
-  pub settled_goes : (these : Name → Bool) → Notes (settled these) old new → Unchanged (view_of old) (view_of new)
+  pub settled_goes : (these : Name → Bool) → Notes (settled these) old new → LeavesNoMore (view_of old) (view_of new)
   settled_goes these notes = lift (λ _ _. ⊥) (λ _. ⊥) notes.given (goes_settled first old.changes.items new.changes.items (fair_after old.changes.items first (fair_first old.given.items)) these notes.adds)
 
   pub all_synced_goes : (these : Name → Bool) → Notes (all_synced these) old new → GrowsBy (λ q v. IsTrue (these q) × Holds (view_of old).now q v) (λ q. IsTrue (these q)) (view_of old) (view_of new)

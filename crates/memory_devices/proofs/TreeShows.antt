@@ -1,7 +1,7 @@
 -- What a call of a tree in memory did, as it is known.
 use Rattle.std.proofs.Common.{◌≡◌, ℕ, Bool, true, false, cond, ◌&&◌, ◌||◌, not, List, [], Result, Ok, Err, Option, Some, None, IsSome, refl, sym, ◌∙◌, ap}
 use Rattle.std.specs.Prelude.{OnOk, OnErr, IfOk, is_none, option_map}
-use Rattle.base_devices.specs.declared.stop.DeviceError.{DeviceError}
+use Rattle.base_devices.specs.declared.device_error.DeviceError.{DeviceError}
 use Rattle.base_devices.specs.Content.{Name, at, SameBut}
 use Rattle.base_devices.specs.DataFolder.{Held, file, folder, link, other, Nodes, with_node, file_bytes, longer, lengthened_file, ChangesFile, BeginsNew}
 use Rattle.memory_devices.specs.declared.failing.Failing.{Failing}

@@ -4,7 +4,7 @@ use Rattle.std.specs.Prelude.{option_map, Contains, filter}
 use Rattle.std.specs.declared.alloc.Global.{Global}
 use Rattle.std.specs.String.{string_cmp}
 use Rattle.std.specs.BTreeMap.{BTreeMap, IsOrdered, get_by_text}
-use Rattle.base_devices.specs.declared.tree.Node.{Node}
+use Rattle.base_devices.specs.declared.data_folder.Node.{Node}
 use Rattle.base_devices.specs.Content.{Name}
 use Rattle.base_devices.specs.DataFolder.{Held, folder, shown, IsTreeListing}
 use Rattle.memory_devices.specs.declared.nodes.MemNode.{MemNode}

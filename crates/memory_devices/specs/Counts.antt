@@ -1,8 +1,8 @@
 -- How a device in memory counts its calls.
 use Rattle.std.specs.Prelude.{◌≡◌, ℕ, ◌+◌, ◌-◌, ◌^◌, min, Bool, true, ◌||◌, ◌&&◌, nat_eq, if◌then◌else◌, Result, IsErr, IsErrOf}
 use Rattle.std.specs.List.{list_any}
-use Rattle.base_devices.specs.declared.stop.DeviceError.{DeviceError}
-use Rattle.base_devices.specs.declared.stop.DeviceError.TheVariants.{Failed}
+use Rattle.base_devices.specs.declared.device_error.DeviceError.{DeviceError}
+use Rattle.base_devices.specs.declared.device_error.DeviceError.TheVariants.{Failed}
 use Rattle.memory_devices.specs.declared.failing.Failing.{Failing}
 
 -- one more, or the end of a count

@@ -3,7 +3,7 @@ ghost use Rattle.std.specs.Prelude.{◌↔◌, true, false, ℕ, List, Option, C
 ghost use Rattle.base_devices.specs.Cause.{HasCause};
 ghost use Rattle.base_devices.specs.States.{Opens, last_opened};
 ghost use Rattle.base_devices.specs.Content.{IsListing, AreFolders, Reads};
-ghost use Rattle.base_devices.specs.declared.stop.DeviceError.TheVariants.{Failed, NoMemory};
+ghost use Rattle.base_devices.specs.declared.device_error.DeviceError.TheVariants.{Failed, NoMemory};
 ghost use Rattle.base_devices.specs.Moments.{IsImage};
 ghost use Rattle.memory_devices.specs.Replay.{value_of};
 ghost use Rattle.memory_devices.specs.Image.{states_then, image_of, are_unsynced, are_kept};

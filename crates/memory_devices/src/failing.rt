@@ -14,7 +14,7 @@ pub(crate) struct Failing {
 impl Failing {
     ghost use Rattle.std.specs.Prelude.{◌≡◌, ◌≤◌, IsTrue};
     ghost use Rattle.base_devices.specs.Cause.{Rises};
-    ghost use Rattle.base_devices.specs.declared.stop.DeviceError.TheVariants.{Failed};
+    ghost use Rattle.base_devices.specs.declared.device_error.DeviceError.TheVariants.{Failed};
     ghost use Rattle.memory_devices.specs.Counts.{is_to_fail, counted, was_faulty_call, faulted};
 
     pub(crate) fn new(fail: Vec<u64>) -> Self

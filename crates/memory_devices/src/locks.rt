@@ -3,12 +3,12 @@ ghost use Rattle.std.specs.Prelude.{◌≡◌, ◌≤◌, ◌↔◌, ◌∷◌, 
 ghost use Rattle.std.specs.List.{list_any};
 ghost use Rattle.base_devices.specs.Cause.{HasCause, Rises};
 ghost use Rattle.base_devices.specs.Locking.{with_lock, without};
-ghost use Rattle.base_devices.specs.declared.locks.Take.TheVariants.{Held};
+ghost use Rattle.base_devices.specs.declared.locks.LockAnswer.TheVariants.{Busy};
 ghost use Rattle.memory_devices.specs.Counts.{is_to_fail, counted, FailsWhere};
 ghost use Rattle.memory_devices.specs.Locks.{names_in, locks_in, refused};
 
 use crate::failing::Failing;
-use base_devices::{DeviceError, Locks, Take};
+use base_devices::{DeviceError, LockAnswer, Locks};
 use std::alloc::{AllocError, Global};
 
 /// Locks that others hold or that were taken here, by their names.
@@ -19,7 +19,7 @@ pub struct MemLocks {
     // the last one first
     taken: Vec<String>,
     // folder and name of each lock, the last one first
-    took: Vec<(String, String)>,
+    ever_taken: Vec<(String, String)>,
     refusals: u64,
     failing: Failing,
 }
@@ -29,7 +29,7 @@ impl MemLocks {
     /// the first being 0.
     pub fn new(alloc: Global, held: Vec<String>, fail: Vec<u64>) -> Self
         ensures taken { (⟦<MemLocks as Locks>⟧.state result).taken ≡ [] }
-        ensures took { (⟦<MemLocks as Locks>⟧.state result).took ≡ Some [] }
+        ensures ever_taken { (⟦<MemLocks as Locks>⟧.state result).ever_taken ≡ Some [] }
         ensures others { (⟦<MemLocks as Locks>⟧.state result).others ≡ Some (names_in held.items) }
         ensures refusals { (⟦<MemLocks as Locks>⟧.state result).refusals ≡ 0 }
         ensures counts { result.failing ≡ record { fail = fail; calls = 0; faults = 0; faulty_calls = 0 } }
@@ -38,7 +38,7 @@ impl MemLocks {
             alloc,
             others: held,
             taken: Vec::new(alloc),
-            took: Vec::new(alloc),
+            ever_taken: Vec::new(alloc),
             refusals: 0,
             failing: Failing::new(fail),
         }
@@ -52,10 +52,10 @@ impl MemLocks {
     }
 
     /// Folder and name of each lock that was ever taken, the last one first.
-    pub fn took(&self) -> &[(String, String)]
-        ensures { (⟦<MemLocks as Locks>⟧.state self.now).took ≡ Some (locks_in result.now) }
+    pub fn ever_taken(&self) -> &[(String, String)]
+        ensures { (⟦<MemLocks as Locks>⟧.state self.now).ever_taken ≡ Some (locks_in result.now) }
     {
-        &self.took
+        &self.ever_taken
     }
 
     /// The names that were taken and not released, the last one first.
@@ -82,10 +82,10 @@ impl MemLocks {
     // Notes a lock that was taken.
     fn note(&mut self, folder: &str, name: &str) -> Result<(), AllocError>
         ensures taken { OnOk result (names_in self.new.taken.items ≡ name.now ∷ names_in self.old.taken.items) }
-        ensures took { OnOk result
-            (locks_in self.new.took.items ≡ (folder.now, name.now) ∷ locks_in self.old.took.items) }
+        ensures ever_taken { OnOk result
+            (locks_in self.new.ever_taken.items ≡ (folder.now, name.now) ∷ locks_in self.old.ever_taken.items) }
         ensures err { OnErr result ((self.new.taken.items ≡ self.old.taken.items)
-            × (self.new.took.items ≡ self.old.took.items)) }
+            × (self.new.ever_taken.items ≡ self.old.ever_taken.items)) }
         ensures others { self.new.others ≡ self.old.others }
         ensures refusals { self.new.refusals ≡ self.old.refusals }
         ensures counts { self.new.failing ≡ self.old.failing }
@@ -94,7 +94,7 @@ impl MemLocks {
         let of_folder = String::from_str(self.alloc, folder)?;
         let of_took = String::from_str(self.alloc, name)?;
         self.taken.insert(0, of_taken)?;
-        if self.took.insert(0, (of_folder, of_took)).is_err() {
+        if self.ever_taken.insert(0, (of_folder, of_took)).is_err() {
             let _ = self.taken.remove(0);
             return Err(AllocError);
         }
@@ -105,24 +105,24 @@ impl MemLocks {
 impl Locks for MemLocks {
     ghost state = { λ l. record {
       taken = names_in l.taken.items;
-      took = Some (locks_in l.took.items);
+      ever_taken = Some (locks_in l.ever_taken.items);
       others = Some (names_in l.others.items);
       refusals = l.refusals;
       faults = l.failing.faults;
     } };
 
-    fn take(&mut self, folder: &str, name: &str) -> Result<Take, DeviceError>
+    fn take(&mut self, folder: &str, name: &str) -> Result<LockAnswer, DeviceError>
         requires { ¬ Contains (names_in self.old.taken.items) name.now }
         ensures taken { IfOk result
             (λ t. names_in self.new.taken.items ≡ with_lock t name.now (names_in self.old.taken.items)) }
-        ensures took { IfOk result
-            (λ t. locks_in self.new.took.items ≡ with_lock t (folder.now, name.now) (locks_in self.old.took.items)) }
-        ensures known { IfOk result (λ t. (t ≡ Held) ↔ Contains (names_in self.old.others.items) name.now) }
-        ensures held { IfOk result (λ t. t ≡ Held → Rises self.old.refusals self.new.refusals) }
+        ensures ever_taken { IfOk result
+            (λ t. locks_in self.new.ever_taken.items ≡ with_lock t (folder.now, name.now) (locks_in self.old.ever_taken.items)) }
+        ensures known { IfOk result (λ t. (t ≡ Busy) ↔ Contains (names_in self.old.others.items) name.now) }
+        ensures held { IfOk result (λ t. t ≡ Busy → Rises self.old.refusals self.new.refusals) }
         ensures later { self.old.refusals ≤ self.new.refusals }
         ensures refusals { IfOk result (λ t. self.new.refusals ≡ refused t self.old.refusals) }
         ensures err { OnErr result ((self.new.taken.items ≡ self.old.taken.items)
-            × (self.new.took.items ≡ self.old.took.items)) }
+            × (self.new.ever_taken.items ≡ self.old.ever_taken.items)) }
         ensures err_refusals { OnErr result (self.new.refusals ≡ self.old.refusals) }
         ensures others { self.new.others ≡ self.old.others }
         ensures fails { FailsWhere (is_to_fail self.old.failing) result }
@@ -135,15 +135,15 @@ impl Locks for MemLocks {
         if has_name(&self.others, name) {
             let refusals = self.refusals;
             self.refusals = refusals.saturating_add(1);
-            return Ok(Take::Held);
+            return Ok(LockAnswer::Busy);
         }
         self.note(folder, name)?;
-        Ok(Take::Taken)
+        Ok(LockAnswer::Acquired)
     }
 
     fn release(&mut self, name: &str)
         ensures taken { names_in self.new.taken.items ≡ without name.now (names_in self.old.taken.items) }
-        ensures took { self.new.took ≡ self.old.took }
+        ensures ever_taken { self.new.ever_taken ≡ self.old.ever_taken }
         ensures others { self.new.others ≡ self.old.others }
         ensures refusals { self.new.refusals ≡ self.old.refusals }
         ensures failing { self.new.failing ≡ self.old.failing }

@@ -4,7 +4,7 @@ use Rattle.std.specs.Prelude.{IfSome, IsSome, IsTrue, IfOk, IfErr, OnOk}
 use Rattle.sha1.specs.Sha1.{sha1}
 use Rattle.base_text.specs.Sum.{IsSum}
 use Rattle.base_devices.specs.Content.{Content, is_below}
-use Rattle.base_devices.specs.Moments.{View, Unchanged}
+use Rattle.base_devices.specs.Moments.{View, LeavesNoMore}
 use Rattle.base_devices.specs.Crash.{NowChanges, AllOf}
 use Rattle.base_devices.proofs.Nows.{known_as}
 use Rattle.base_devices.proofs.Steps.{goes_on}
@@ -75,7 +75,7 @@ module _ (stanza : Text) (id : ArchiveId) (segment : Segment) (fits : (sum : Tex
 
 -- ---- a step of others without the file
 
-module _ (stanza : Text) (id : ArchiveId) (segment : Segment) (bytes : Text) (v b : View) (rests : Unchanged v b) (same : b.now ≡ v.now) where
+module _ (stanza : Text) (id : ArchiveId) (segment : Segment) (bytes : Text) (v b : View) (rests : LeavesNoMore v b) (same : b.now ≡ v.now) where
   under_none : (ended : Bool) (r : Repository) → IsUnder r (turn_of id segment bytes false ended)
   under_none ended None = refl
   under_none ended (Some s) = inl refl
@@ -94,7 +94,7 @@ turn_idle stanza v = turn_none stanza (record { version = 0; number = 0 }) (reco
 
 -- ---- a step of others with the file
 
-module _ (stanza : Text) (id : ArchiveId) (first segment : Segment) (bytes : Text) (v b d : View) (rests : Unchanged v b) (same : b.now ≡ v.now)
+module _ (stanza : Text) (id : ArchiveId) (first segment : Segment) (bytes : Text) (v b d : View) (rests : LeavesNoMore v b) (same : b.now ≡ v.now)
     (begun : (q : Repository) (log : List Done) → KeepsRepository stanza q log v → IsSome v.now → IsBegun stanza q log b)
     (fits : (sum : Text) → IsSum sum → IsArchivePlace id (Whole first) sum)
     (stored : IfSome v.now (λ f. (sum : Text) × Stores stanza id (Whole first) f sum))
@@ -238,7 +238,7 @@ module _ (stanza : Text) (id : ArchiveId) (first segment : Segment) (bytes : Tex
 
 -- ---- by the push's answer
 
-module _ (stanza : Text) (id : ArchiveId) (first segment : Segment) (bytes : Text) (v b d : View) (rests : Unchanged v b) (same : b.now ≡ v.now)
+module _ (stanza : Text) (id : ArchiveId) (first segment : Segment) (bytes : Text) (v b d : View) (rests : LeavesNoMore v b) (same : b.now ≡ v.now)
     (begun : (q : Repository) (log : List Done) → KeepsRepository stanza q log v → IsSome v.now → IsBegun stanza q log b)
     (fits : (sum : Text) → IsSum sum → IsArchivePlace id (Whole first) sum)
     (stored : IfSome v.now (λ f. (sum : Text) × Stores stanza id (Whole first) f sum))
@@ -249,7 +249,7 @@ module _ (stanza : Text) (id : ArchiveId) (first segment : Segment) (bytes : Tex
   none : (ended : Bool) → IsStill b d → GoesByTurn stanza (turn_of id segment bytes false ended) v d
   none ended h = turn_none stanza id segment bytes v d (rests_on h.time) (h.now ∙ same) ended
     where
-      rests_on : Unchanged b d → Unchanged v d
+      rests_on : LeavesNoMore b d → LeavesNoMore v d
       rests_on later = goes_on (λ _ _. ⊥) (λ _. ⊥) v b d rests later
 
   refused_none : (fault : ArchiveFault) (ended : Bool) → OnFinding fault (IsStill b d) → MayEnd (went_of (Err fault)) ended → GoesByTurn stanza (turn_of id segment bytes (was_tried (went_of (Err fault))) ended) v d
@@ -314,9 +314,9 @@ pub went_stored : (went known : PushResult) (P : Type 0) → went ≡ known → 
 went_stored went known P is h = subst (λ (k : PushResult). IfStored k P) (sym is) h
 
 -- a stanza that was begun is still so after calls that only read
-pub begun_still : (stanza : Text) (a b : View) → Unchanged a b → b.now ≡ a.now → (q : Repository) (log : List Done) → IsBegun stanza q log a → IsBegun stanza q log b
+pub begun_still : (stanza : Text) (a b : View) → LeavesNoMore a b → b.now ≡ a.now → (q : Repository) (log : List Done) → IsBegun stanza q log a → IsBegun stanza q log b
 begun_still stanza a b rests same q log x = record { repository = x.repository; reached = x.reached; sound = x.sound; steady = steady_rests stanza x.repository a b rests same x.steady }
 
 -- a push after calls that only read
-pub only_after : (stanza : Text) (v b d : View) → Unchanged v b → b.now ≡ v.now → ChangesArchive stanza b d → ChangesArchive stanza v d
+pub only_after : (stanza : Text) (v b d : View) → LeavesNoMore v b → b.now ≡ v.now → ChangesArchive stanza b d → ChangesArchive stanza v d
 only_after stanza v b d rests same only = only_on (λ n. IsTrue (is_below (archive_folder stanza) n)) v b d (still_only stanza v b rests same) only

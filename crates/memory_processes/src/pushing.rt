@@ -2,7 +2,7 @@
 ghost use Rattle.std.specs.Prelude.{◌≡◌, ◌∷◌, [], Bool, true, false, None, List, IfOk, IfErr, IfSome, IsSome, OnOk, is_ok};
 ghost use Rattle.sha1.specs.Sha1.{sha1};
 ghost use Rattle.base_text.specs.Sum.{IsSum};
-ghost use Rattle.base_devices.specs.States.{Frame, Looks};
+ghost use Rattle.base_devices.specs.States.{CallsProperly, OnlyReads};
 ghost use Rattle.base_devices.specs.Cause.{Rises};
 ghost use Rattle.base_devices.specs.Moments.{is_unsynced};
 ghost use Rattle.base_devices.specs.Crash.{Crash, NowChanges, FirstOf, AllOf};
@@ -41,7 +41,7 @@ fn sync_directories<D: Disk>(alloc: Global, d: &mut D, stanza: &str) -> Result<(
     ensures begun { OnOk result ((q : Repository) (log : List Done)
         → KeepsRepository stanza.now q log (D.state d.old).view → IsSome (D.state d.old).view.now
         → IsBegun stanza.now q log (D.state d.new).view) }
-    ensures looks { Looks (D.state d.old) (D.state d.new) }
+    ensures looks { OnlyReads (D.state d.old) (D.state d.new) }
     ensures cause { IfErr result (IsRepoFault (Rises (D.state d.old).faults (D.state d.new).faults)) }
 {
     match begin(alloc, d, stanza) {
@@ -63,7 +63,7 @@ fn is_stored<D: Disk>(
         (λ b. b ≡ true → IfSome (D.state d.old).view.now (λ f. (sum : Text)
         × Stores stanza.now id.now (Whole segment.now) f sum)) }
     ensures fits { OnOk result ((sum : Text) → IsSum sum → IsArchivePlace id.now (Whole segment.now) sum) }
-    ensures looks { Looks (D.state d.old) (D.state d.new) }
+    ensures looks { OnlyReads (D.state d.old) (D.state d.new) }
     ensures cause { IfErr result (IsRepoFault (Rises (D.state d.old).faults (D.state d.new).faults)) }
 {
     let Ok(names) = file_names(alloc, stanza, *id, ArchiveName::Segment(*segment)) else {
@@ -93,7 +93,7 @@ fn may_push<D: Disk>(
         (λ b. b ≡ true → IfSome (D.state d.old).view.now (λ f. (sum : Text)
         × Stores stanza.now id.now (Whole before.now) f sum)) }
     ensures fits { OnOk result ((sum : Text) → IsSum sum → IsArchivePlace id.now (Whole before.now) sum) }
-    ensures looks { Looks (D.state d.old) (D.state d.new) }
+    ensures looks { OnlyReads (D.state d.old) (D.state d.new) }
     ensures cause { IfErr result (IsRepoFault (Rises (D.state d.old).faults (D.state d.new).faults)) }
 {
     sync_directories(alloc, d, stanza)?;
@@ -129,7 +129,7 @@ pub(crate) fn push_after<D: Disk>(
         → KeepsRepository stanza.now q log (D.state d.old).view
         → HasFile stanza.now id segment (sha1 bytes.now) (D.state d.new).view) }
     ensures only { ChangesArchive stanza.now (D.state d.old).view (D.state d.new).view }
-    ensures frame { Frame (D.state d.old) (D.state d.new) }
+    ensures frame { CallsProperly (D.state d.old) (D.state d.new) }
     ensures cause { IfDeviceError result (IsRepoFault (Rises (D.state d.old).faults (D.state d.new).faults)) }
 {
     match may_push(alloc, d, stanza, &id, &before) {
@@ -198,7 +198,7 @@ fn mark<S: Disk>(
         (NowChanges (AllOf ((receipt_name stanza.now (Whole segment.now), receipt_text bytes.now) ∷ []))
         (S.state spool.old).view.now (S.state spool.new).view.now) }
     ensures only { ChangesArchive stanza.now (S.state spool.old).view (S.state spool.new).view }
-    ensures frame { Frame (S.state spool.old) (S.state spool.new) }
+    ensures frame { CallsProperly (S.state spool.old) (S.state spool.new) }
     ensures cause { IfErr result (IsSpoolFault (Rises (S.state spool.old).faults (S.state spool.new).faults)) }
 {
     let Ok(names) = mark_names(alloc, stanza, segment, bytes) else {
@@ -239,7 +239,7 @@ pub(crate) fn end_turn<S: Disk>(
     ensures fits { IsSegment segment }
     ensures known { IsSome (S.state spool.old).view.now → IsSome (S.state spool.new).view.now }
     ensures only { ChangesArchive stanza.now (S.state spool.old).view (S.state spool.new).view }
-    ensures frame { Frame (S.state spool.old) (S.state spool.new) }
+    ensures frame { CallsProperly (S.state spool.old) (S.state spool.new) }
     ensures cause { IfErr result (StopsBy went (Rises (S.state spool.old).faults (S.state spool.new).faults)) }
 {
     match went {

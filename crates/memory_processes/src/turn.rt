@@ -1,6 +1,6 @@
 // One step of other processes: a segment that is pushed, or nothing.
 ghost use Rattle.std.specs.Prelude.{◌≡◌, IsSome, IfErr, IsErrOf, OnOk, is_ok};
-ghost use Rattle.base_devices.specs.States.{Frame};
+ghost use Rattle.base_devices.specs.States.{CallsProperly};
 ghost use Rattle.base_devices.specs.Cause.{Rises};
 ghost use Rattle.archive_lookup.specs.Stored.{ChangesArchive};
 ghost use Rattle.archive_lookup.specs.Turns.{GoesByTurn, GivesReceipts, LeavesMarks};
@@ -76,8 +76,8 @@ impl OtherTurn {
         ensures repo_only { ChangesArchive stanza.now (D.state repo.old).view (D.state repo.new).view }
         ensures spool_only { ChangesArchive stanza.now (S.state spool.old).view (S.state spool.new).view }
         ensures spool_known { IsSome (S.state spool.old).view.now → IsSome (S.state spool.new).view.now }
-        ensures repo_frame { Frame (D.state repo.old) (D.state repo.new) }
-        ensures spool_frame { Frame (S.state spool.old) (S.state spool.new) }
+        ensures repo_frame { CallsProperly (D.state repo.old) (D.state repo.new) }
+        ensures spool_frame { CallsProperly (S.state spool.old) (S.state spool.new) }
         ensures repo { IsErrOf result.done TurnError.Repo → Rises (D.state repo.old).faults (D.state repo.new).faults }
         ensures spool { IsErrOf result.done TurnError.Spool
             → Rises (S.state spool.old).faults (S.state spool.new).faults }

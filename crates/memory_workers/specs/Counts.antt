@@ -2,8 +2,8 @@
 use Rattle.std.specs.Prelude.{Bool, nat_eq, if◌then◌else◌, true, ◌≡◌, Result, IsErr, IsErrOf}
 use Rattle.std.specs.List.{list_any}
 use Rattle.base_devices.specs.Links.{bumped}
-use Rattle.base_devices.specs.declared.stop.DeviceError.{DeviceError}
-use Rattle.base_devices.specs.declared.stop.DeviceError.TheVariants.{Failed}
+use Rattle.base_devices.specs.declared.device_error.DeviceError.{DeviceError}
+use Rattle.base_devices.specs.declared.device_error.DeviceError.TheVariants.{Failed}
 use Rattle.memory_workers.specs.declared.failing.Failing.{Failing}
 
 -- the next call is one that is to fail

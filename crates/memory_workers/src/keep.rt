@@ -5,7 +5,7 @@ ghost use Rattle.worker_protocol.specs.Views.{job_of};
 ghost use Rattle.worker_protocol.specs.PartSinkState.{KeepLeaves, Adds, Ends, Clears, IsFresh, IsNext, HasRoom};
 ghost use Rattle.memory_workers.specs.Counts.{is_to_fail, counted, FailsWhere};
 ghost use Rattle.memory_workers.specs.Keeps.{kept_of, done_of, state_of, IsEmpty};
-ghost use Rattle.base_devices.specs.declared.stop.DeviceError.TheVariants.{NoMemory};
+ghost use Rattle.base_devices.specs.declared.device_error.DeviceError.TheVariants.{NoMemory};
 
 use crate::failing::Failing;
 use base_devices::DeviceError;

@@ -3,7 +3,7 @@ use Rattle.std.proofs.Common.{◌≡◌, ◌≤◌, ◌⊎◌, ⊎_elim, inl, in
 use Rattle.std.specs.Prelude.{OnOk, IfSome, IsSome, IsErrAnd, option_map, Some, None}
 use Rattle.base_devices.specs.Cause.{Rises}
 use Rattle.base_devices.specs.Content.{Content}
-use Rattle.base_devices.specs.Moments.{View, Unchanged}
+use Rattle.base_devices.specs.Moments.{View, LeavesNoMore}
 use Rattle.base_devices.specs.Links.{LinkState}
 use Rattle.base_devices.specs.States.{IsOpened, OpensOnly, ConnectionState, ClockState}
 use Rattle.archive_lookup.specs.Turns.{ProcessesState}
@@ -192,14 +192,14 @@ did_from a b m k r read did = record {
 }
 
 abbrev as_locks : Option (List (List ℕ × List ℕ)) → ℕ → ℕ → LocksSeen
-as_locks t u v = record { took = t; refusals = u; faults = v }
+as_locks t u v = record { ever_taken = t; refusals = u; faults = v }
 
 -- that no lock is held any more doesn't matter
-pub did_released : (a : Asked) (b k : World) (l : LocksSeen) (r : Result Outcome Fault) → l.took ≡ k.locks.took → l.refusals ≡ k.locks.refusals → l.faults ≡ k.locks.faults → CallEffect a b k r → CallEffect a b (record k { locks = l }) r
-did_released a b k l r took refusals faults did = subst (λ (x : LocksSeen). CallEffect a b (record k { locks = x }) r) (sym same) did
+pub did_released : (a : Asked) (b k : World) (l : LocksSeen) (r : Result Outcome Fault) → l.ever_taken ≡ k.locks.ever_taken → l.refusals ≡ k.locks.refusals → l.faults ≡ k.locks.faults → CallEffect a b k r → CallEffect a b (record k { locks = l }) r
+did_released a b k l r ever_taken refusals faults did = subst (λ (x : LocksSeen). CallEffect a b (record k { locks = x }) r) (sym same) did
   where
     same : l ≡ k.locks
-    same = ap (λ t. as_locks t l.refusals l.faults) took ∙ ap (λ u. as_locks k.locks.took u l.faults) refusals ∙ ap (λ v. as_locks k.locks.took k.locks.refusals v) faults
+    same = ap (λ t. as_locks t l.refusals l.faults) ever_taken ∙ ap (λ u. as_locks k.locks.ever_taken u l.faults) refusals ∙ ap (λ v. as_locks k.locks.ever_taken k.locks.refusals v) faults
 
 -- ---- a stage refuses
 
@@ -210,7 +210,7 @@ stage_reached fault = go (is_early fault)
     go true e = let x : ◌≡◌ {A = Reached} turned_back to_end = e in cc
     go false e = let x : ◌≡◌ {A = Reached} stopped to_end = e in cc
 
-pub did_nothing : (a : Asked) (b k : World) (fault : Fault) → Quiet a.stanza b.repo.view k.repo.view → Unchanged b.spool.view k.spool.view → k.spool.view.now ≡ b.spool.view.now → k.others ≡ b.others → Spares a b k (Err fault) → AreLater b k → Cause a b k fault → CallEffect a b k (Err fault)
+pub did_nothing : (a : Asked) (b k : World) (fault : Fault) → Quiet a.stanza b.repo.view k.repo.view → LeavesNoMore b.spool.view k.spool.view → k.spool.view.now ≡ b.spool.view.now → k.others ≡ b.others → Spares a b k (Err fault) → AreLater b k → Cause a b k fault → CallEffect a b k (Err fault)
 did_nothing a b k fault quiet rests same others spares later cause = record {
   steps = idle a a.request (known_world b) (known_world k) others _ (λ command. opened_takes a.stanza b.repo.view b.repo.view b.spool.view k.spool.view (rests_none b.repo.view) refl rests same (plan_of a.request).sync_scope command (reached_of (ending_of (Err fault))) k.repo.view k.spool.view
       (quiet_takes (plan_of a.request).sync_scope a.stanza command (reached_of (ending_of (Err fault))) b.repo.view k.repo.view k.spool.view (stage_reached fault) quiet));
@@ -309,7 +309,7 @@ did_err : (a : Asked) (b k : World) (fault : Fault) (r : Result Outcome Fault) �
 did_err a b k fault (Ok x) is h = absurd is
 did_err a b k fault (Err f) is h = subst (λ (e : Fault). CallEffect a b k (Err e)) (sym is) h
 
-halted_at : (a : Asked) (b k : World) (r : Result Outcome Fault) (halt : Halt StageFault) → IsErrAnd r (λ f. f ≡ of_stage halt) → Quiet a.stanza b.repo.view k.repo.view → Unchanged b.spool.view k.spool.view → k.spool.view.now ≡ b.spool.view.now →
+halted_at : (a : Asked) (b k : World) (r : Result Outcome Fault) (halt : Halt StageFault) → IsErrAnd r (λ f. f ≡ of_stage halt) → Quiet a.stanza b.repo.view k.repo.view → LeavesNoMore b.spool.view k.spool.view → k.spool.view.now ≡ b.spool.view.now →
     OnReader a.request (IsStill b.repo.view k.repo.view) → OnCreate a.request (IsStill b.repo.view k.repo.view) → OnExpire a.request (λ rules. IsStill b.repo.view k.repo.view) → k.tree.nodes ≡ b.tree.nodes → k.server ≡ b.server → k.others ≡ b.others → k.links ≡ b.links → k.clock ≡ b.clock → AreLater b k →
     (why : StageFault → Type 0) (failed : Object → Type 0) → ((fault : StageFault) → why fault → StageCause (plan_of a.request) a.stanza b k fault) → ((object : Object) → failed object → Failed b k object) → HaltCause why failed halt → CallEffect a b k r
 halted_at a b k r halt is quiet rests same reads creates expires nodes server others links clock later why failed each rose cause = did_err a b k (of_stage halt) r is (did_nothing a b k (of_stage halt) quiet rests same others
@@ -395,7 +395,7 @@ not_taken a plan is b l r halt err refusals faults cause = halted_at a b (record
     (HeldCause plan a.stanza (Rises b.locks.refusals l.refusals)) (Only Locks (Rises b.locks.faults l.faults)) (held_at a plan is b (record b { locks = l }))
     (only_rose b (record b { locks = l }) Locks (Rises b.locks.faults l.faults) (λ h. h)) cause
 
-pub unprepared : (a : Asked) (plan : Plan) → plan ≡ plan_of a.request → (b k : World) (r : Result Outcome Fault) (halt : Halt StageFault) → IsErrAnd r (λ f. f ≡ of_stage halt) → Quiet a.stanza b.repo.view k.repo.view → Unchanged b.spool.view k.spool.view → k.spool.view.now ≡ b.spool.view.now →
+pub unprepared : (a : Asked) (plan : Plan) → plan ≡ plan_of a.request → (b k : World) (r : Result Outcome Fault) (halt : Halt StageFault) → IsErrAnd r (λ f. f ≡ of_stage halt) → Quiet a.stanza b.repo.view k.repo.view → LeavesNoMore b.spool.view k.spool.view → k.spool.view.now ≡ b.spool.view.now →
     OnReading plan.pairs (IsStill b.repo.view k.repo.view) → k.tree.nodes ≡ b.tree.nodes → k.server ≡ b.server → k.others ≡ b.others → k.links ≡ b.links → k.clock ≡ b.clock → AreLater b k → (failed : Object → Type 0) → ((object : Object) → failed object → Failed b k object) →
     HaltCause (FoundCause plan a.stanza b.repo.view.now b.tree.nodes) failed halt → CallEffect a b k r
 unprepared a plan is b k r halt err quiet rests same still nodes server others links clock later failed rose cause =
@@ -423,8 +423,8 @@ names_open text None named old new is opens none = subst (λ (o : Option Text). 
 names_open text (Some x) named old new is opens none = subst (λ (o : Option Text). OpensNamed o old new) is opens
 
 -- places are opened, and then locks are taken
-pub brackets_on : (a : Asked) (b m k : World) (r : Result Outcome Fault) → IsStill b.repo.view m.repo.view → m.locks.took ≡ b.locks.took → OpensPlaces a b m → ArePlacesOpened a b m → SamePlaces m k → OnOk r (TakesAll a m k) → OnlyLocked a m k → Brackets a b k r
-brackets_on a b m k r still none places opened same took only =
+pub brackets_on : (a : Asked) (b m k : World) (r : Result Outcome Fault) → IsStill b.repo.view m.repo.view → m.locks.ever_taken ≡ b.locks.ever_taken → OpensPlaces a b m → ArePlacesOpened a b m → SamePlaces m k → OnOk r (TakesAll a m k) → OnlyLocked a m k → Brackets a b k r
+brackets_on a b m k r still none places opened same ever_taken only =
     let plan = plan_of a.request in record {
       places = record {
         spool = subst (λ (ts : List Text). OpensNamed (spool_of a.request) b.spool.opened ts) (sym same.spool) places.spool;
@@ -436,7 +436,7 @@ brackets_on a b m k r still none places opened same took only =
         folder = subst (λ (ts : List Text). IsOpenedIf plan.folder a.data_folder b.tree.opened ts) (sym same.tree) opened.folder;
         repository = subst (λ (ts : List Text). IsOpened a.repository b.repo.opened ts) (sym same.repo) opened.repository;
       });
-      took = subst (λ (t : Option (List (Text × Text))). OnOk r (TakesLocks plan a.lock_folder a.stanza t k.locks.took)) none took;
+      ever_taken = subst (λ (t : Option (List (Text × Text))). OnOk r (TakesLocks plan a.lock_folder a.stanza t k.locks.ever_taken)) none ever_taken;
       locked = ⊎_elim (λ x. inl x) (λ x. inr (x.0, still_on b.repo.view m.repo.view k.repo.view still x.1))
-          (subst (λ (t : Option (List (Text × Text))). TakesLocks plan a.lock_folder a.stanza t k.locks.took ⊎ (MayTake plan a.lock_folder a.stanza t k.locks.took × IsStill m.repo.view k.repo.view)) none only);
+          (subst (λ (t : Option (List (Text × Text))). TakesLocks plan a.lock_folder a.stanza t k.locks.ever_taken ⊎ (MayTake plan a.lock_folder a.stanza t k.locks.ever_taken × IsStill m.repo.view k.repo.view)) none only);
     }

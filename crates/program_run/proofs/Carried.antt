@@ -110,7 +110,7 @@ brackets_written : (a : Asked) (b k : World) (o : OutputState) (r : Result Outco
 brackets_written a b k o r h = record {
   places = record { spool = h.places.spool; folder = h.places.folder; repository = h.places.repository };
   opened = on_ok r (ArePlacesOpened a b k) (ArePlacesOpened a b (record k { out = o })) (λ p. record { spool = p.spool; folder = p.folder; repository = p.repository }) h.opened;
-  took = h.took;
+  ever_taken = h.ever_taken;
   locked = h.locked;
 }
 
@@ -179,7 +179,7 @@ brackets_from : (a : Asked) (b k : World) (i : InputState) (r : Result Outcome F
 brackets_from a b k i r h = record {
   places = record { spool = h.places.spool; folder = h.places.folder; repository = h.places.repository };
   opened = on_ok r (ArePlacesOpened a (record b { config = i }) k) (ArePlacesOpened a b k) (λ p. record { spool = p.spool; folder = p.folder; repository = p.repository }) h.opened;
-  took = h.took;
+  ever_taken = h.ever_taken;
   locked = h.locked;
 }
 

@@ -114,7 +114,7 @@ module _ (a : Asked) (b k : World) (n : ℕ) where
         ends = on_as (manner_of a a.request (known_world b) (known_world k)) _ _ (λ command h. all_at (reached_of (ending_of c.ended)) _ (zero_ends c.ended is) h.ends) c.did.steps;
         healed = ok_at c.ended _ is c.did.healed;
         opened = ok_at c.ended _ is c.brackets.opened;
-        took = ok_at c.ended _ is c.brackets.took;
+        ever_taken = ok_at c.ended _ is c.brackets.ever_taken;
       }
 
   pub part_done : Either a b k n → PartDone a b k
@@ -197,7 +197,7 @@ module _ (a : Asked) (b k : World) (n : ℕ) where
   opens_places (inr x) = x.1.brackets.places
 
   pub only_locked : Either a b k n → OnlyLocked a b k
-  only_locked (inl x) = inr (inl (ap (λ (l : LocksSeen). l.took) x.0.locks), x.0.repo)
+  only_locked (inl x) = inr (inl (ap (λ (l : LocksSeen). l.ever_taken) x.0.locks), x.0.repo)
   only_locked (inr x) = x.1.brackets.locked
 
   -- no refusal is reported as if it had succeeded

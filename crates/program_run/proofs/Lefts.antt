@@ -175,17 +175,17 @@ left_from a b m k read = on_left a.request _ _ (λ path h. record {
 
 -- ---- places and locks
 
-nothing_taken : (took : Option (List (Text × Text))) → took ≡ option_map (λ (l : List (Text × Text)). l) took
+nothing_taken : (ever_taken : Option (List (Text × Text))) → ever_taken ≡ option_map (λ (l : List (Text × Text)). l) ever_taken
 nothing_taken None = refl
 nothing_taken (Some l) = refl
 
 -- it takes no lock
-pub takes_none : (a : Asked) (path : Text) (how : QueueHow) → a.request ≡ queue_file path how → (m k : World) → k.locks.took ≡ m.locks.took → TakesAll a m k
-takes_none a path how is m k same = subst (λ (q : Request). TakesLocks (plan_of q) a.lock_folder a.stanza m.locks.took k.locks.took) (sym is) (same ∙ nothing_taken m.locks.took)
+pub takes_none : (a : Asked) (path : Text) (how : QueueHow) → a.request ≡ queue_file path how → (m k : World) → k.locks.ever_taken ≡ m.locks.ever_taken → TakesAll a m k
+takes_none a path how is m k same = subst (λ (q : Request). TakesLocks (plan_of q) a.lock_folder a.stanza m.locks.ever_taken k.locks.ever_taken) (sym is) (same ∙ nothing_taken m.locks.ever_taken)
 
 -- places are opened, and no lock is taken
-pub left_brackets : (a : Asked) (path : Text) (how : QueueHow) → a.request ≡ queue_file path how → (b m k : World) (r : Result Outcome Fault) → IsStill b.repo.view m.repo.view → m.locks.took ≡ b.locks.took → OpensPlaces a b m → ArePlacesOpened a b m → SamePlaces m k → k.locks.took ≡ m.locks.took → Brackets a b k r
-left_brackets a path how is b m k r still none places opened same took = brackets_on a b m k r still none places opened same (all_ok r (TakesAll a m k) (takes_none a path how is m k took)) (inl (takes_none a path how is m k took))
+pub left_brackets : (a : Asked) (path : Text) (how : QueueHow) → a.request ≡ queue_file path how → (b m k : World) (r : Result Outcome Fault) → IsStill b.repo.view m.repo.view → m.locks.ever_taken ≡ b.locks.ever_taken → OpensPlaces a b m → ArePlacesOpened a b m → SamePlaces m k → k.locks.ever_taken ≡ m.locks.ever_taken → Brackets a b k r
+left_brackets a path how is b m k r still none places opened same ever_taken = brackets_on a b m k r still none places opened same (all_ok r (TakesAll a m k) (takes_none a path how is m k ever_taken)) (inl (takes_none a path how is m k ever_taken))
 
 -- ---- what it did
 

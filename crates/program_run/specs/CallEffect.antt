@@ -262,12 +262,12 @@ pub record ArePlacesOpened (a : Asked) (before after : World) : Type 0 where
 
 -- the command's locks were taken
 abbrev pub TakesAll : Asked → World → World → Type 0
-TakesAll a before after = TakesLocks (plan_of a.request) a.lock_folder a.stanza before.locks.took after.locks.took
+TakesAll a before after = TakesLocks (plan_of a.request) a.lock_folder a.stanza before.locks.ever_taken after.locks.ever_taken
 
 -- Without its locks nothing is done: all were taken, or at most the first one was, and the disk is as before.
 abbrev pub OnlyLocked : Asked → World → World → Type 0
 OnlyLocked a before after = TakesAll a before after
-    ⊎ (MayTake (plan_of a.request) a.lock_folder a.stanza before.locks.took after.locks.took
+    ⊎ (MayTake (plan_of a.request) a.lock_folder a.stanza before.locks.ever_taken after.locks.ever_taken
     × IsStill before.repo.view after.repo.view)
 
 -- where a log is kept, the answer holds of all that a crash leaves
@@ -298,5 +298,5 @@ pub record CallEffect (a : Asked) (before after : World) (result : Result Outcom
 pub record Brackets (a : Asked) (before after : World) (result : Result Outcome Fault) : Type 0 where
   pub places : OpensPlaces a before after
   pub opened : OnOk result (ArePlacesOpened a before after)
-  pub took : OnOk result (TakesAll a before after)
+  pub ever_taken : OnOk result (TakesAll a before after)
   pub locked : OnlyLocked a before after

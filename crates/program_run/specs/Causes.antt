@@ -92,7 +92,7 @@ pub record Finishes (a : Asked) (before after : World) : Type 0 where
   pub ends : AllAtOne a before after
   pub healed : HealsPairs a before after
   pub opened : ArePlacesOpened a before after
-  pub took : TakesAll a before after
+  pub ever_taken : TakesAll a before after
 
 -- the statuses of a command that succeeded: Ok, that the file isn't there, and Ok with findings
 abbrev pub EndsWell : ℕ → Type 0

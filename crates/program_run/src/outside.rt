@@ -51,7 +51,7 @@ impl<
       others = A.state o.processes;
       clock = C.state o.clock;
       locks = record {
-        took = (K.state o.locks).took;
+        ever_taken = (K.state o.locks).ever_taken;
         refusals = (K.state o.locks).refusals;
         faults = (K.state o.locks).faults;
       };

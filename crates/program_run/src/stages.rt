@@ -173,7 +173,7 @@ impl<
         ensures did { OnAsked ⟦<Self as Modelled>⟧.known CallEffect settings.now self.old self.new result }
         ensures places { Between ⟦<Self as Modelled>⟧.known SamePlaces self.old self.new }
         ensures held { HoldsAtMost plan.now settings.now.stanza.now (K.state self.new.locks).taken }
-        ensures took { AtOk ⟦<Self as Modelled>⟧.known TakesAll settings.now self.old self.new result }
+        ensures ever_taken { AtOk ⟦<Self as Modelled>⟧.known TakesAll settings.now self.old self.new result }
         ensures only { Between ⟦<Self as Modelled>⟧.known (OnlyLocked (asked_of settings.now)) self.old self.new }
         ensures tree { plan.now.folder ≡ false → self.new.tree ≡ self.old.tree }
         ensures quiet { settings.now.server ≡ None → self.new.server ≡ self.old.server }
@@ -208,7 +208,7 @@ impl<
         ensures did { OnAsked ⟦<Self as Modelled>⟧.known CallEffect settings.now self.old self.new result }
         ensures places { Between ⟦<Self as Modelled>⟧.known SamePlaces self.old self.new }
         ensures released { (K.state self.new.locks).taken ≡ [] }
-        ensures took { AtOk ⟦<Self as Modelled>⟧.known TakesAll settings.now self.old self.new result }
+        ensures ever_taken { AtOk ⟦<Self as Modelled>⟧.known TakesAll settings.now self.old self.new result }
         ensures only { Between ⟦<Self as Modelled>⟧.known (OnlyLocked (asked_of settings.now)) self.old self.new }
         ensures tree { plan.now.folder ≡ false → self.new.tree ≡ self.old.tree }
         ensures quiet { settings.now.server ≡ None → self.new.server ≡ self.old.server }

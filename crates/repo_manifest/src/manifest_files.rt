@@ -1,6 +1,6 @@
 // Loads and saves manifests.
 ghost use Rattle.std.specs.Prelude.{◌≡◌, ◌≤◌, ◌<◌, false, IfOk, IfErr, IfSome, OnOk, IsErrOf, length, string_bytes};
-ghost use Rattle.base_devices.specs.States.{Looks, Frame};
+ghost use Rattle.base_devices.specs.States.{OnlyReads, CallsProperly};
 ghost use Rattle.base_devices.specs.Moments.{is_unsynced};
 ghost use Rattle.base_devices.specs.Crash.{Crash, Ends, NowChanges, FirstOf, AllOf};
 ghost use Rattle.base_devices.specs.Cause.{Rises};
@@ -48,7 +48,7 @@ pub fn load_manifest<D: Disk>(
         (λ f. PairIs IsManifestText f (manifest_name stanza.now label.now) (manifest_of m))) }
     ensures valid { IfOk result (λ m. IsManifest (manifest_of m)) }
     ensures within { IfOk result (λ m. length (manifest_text (manifest_of m)) ≤ manifest_limit) }
-    ensures looks { Looks (D.state d.old) (D.state d.new) }
+    ensures looks { OnlyReads (D.state d.old) (D.state d.new) }
     ensures cause { IfErr result
         (PairCause IsManifestText IsManifestForm manifest_limit (manifest_name stanza.now label.now)
         (D.state d.old).view.now (Rises (D.state d.old).faults (D.state d.new).faults)) }
@@ -83,7 +83,7 @@ pub fn save_manifest<D: Disk>(
         (NowChanges (AllOf (member_writes (own_name stanza.now m.now) (manifest_text (manifest_of m.now))))
         (D.state d.old).view.now (D.state d.new).view.now) }
     ensures only { ChangesOnly (IsOfPair (own_name stanza.now m.now)) (D.state d.old).view (D.state d.new).view }
-    ensures frame { Frame (D.state d.old) (D.state d.new) }
+    ensures frame { CallsProperly (D.state d.old) (D.state d.new) }
     ensures within { OnOk result (length (manifest_text (manifest_of m.now)) ≤ manifest_limit) }
     ensures long { IfErr result (λ e. IfTooLong e
         (λ n. (n ≡ length (manifest_text (manifest_of m.now))) × (manifest_limit < n) × (d.new ≡ d.old))) }

@@ -2,7 +2,7 @@
 use Rattle.std.proofs.Common.{◌≡◌, ◌≢◌, ⊎_elim, List, [], ◌∷◌, Option, Some, None, refl, sym, ap, subst, ◌∙◌}
 use Rattle.std.specs.Prelude.{false, IfSome, IsSome}
 use Rattle.base_devices.specs.Content.{Value, Content, put}
-use Rattle.base_devices.specs.Moments.{View, Unchanged, is_unsynced}
+use Rattle.base_devices.specs.Moments.{View, LeavesNoMore, is_unsynced}
 use Rattle.base_devices.specs.Crash.{IsTemporary, Alike, Crash, NowChanges, Write, AllOf, FirstOf, SomeOf}
 use Rattle.base_devices.proofs.Crashes.{crash_as, crash_rests, crash_none, crash_unknown, unknown, somes_on, first_some, some_none, some_part}
 use Rattle.base_devices.proofs.Lasting.{still_synced}
@@ -18,7 +18,7 @@ abbrev pub one : Text → Text → List Write
 one name text = (name, text) ∷ []
 
 -- the member was only read
-pub read_crash : (name text : Text) (a b : View) → Unchanged a b → b.now ≡ a.now → Crash (SomeOf (one name text)) a b
+pub read_crash : (name text : Text) (a b : View) → LeavesNoMore a b → b.now ≡ a.now → Crash (SomeOf (one name text)) a b
 read_crash name text a b rests now = crash_rests (SomeOf (one name text)) a b (some_none (one name text)) rests now
 
 pub read_now : (name text : Text) (a b : Option Content) → b ≡ a → NowChanges (SomeOf (one name text)) a b
@@ -28,7 +28,7 @@ read_now name text a b now = now_rests (SomeOf (one name text)) a b (some_none (
 pub written_now : (name text : Text) (a b c : Option Content) → b ≡ a → NowChanges (FirstOf (one name text)) b c → NowChanges (SomeOf (one name text)) a c
 written_now name text a b c now p = subst (λ (o : Option Content). NowChanges (SomeOf (one name text)) o c) now (now_as (FirstOf (one name text)) (SomeOf (one name text)) b c (first_some (one name text)) p)
 
-pub written_crash : (name text : Text) (a b c : View) → ¬ IsTemporary name → Unchanged a b → b.now ≡ a.now → (is_unsynced b name ≡ false → Crash (FirstOf (one name text)) b c) → is_unsynced a name ≡ false → Crash (SomeOf (one name text)) a c
+pub written_crash : (name text : Text) (a b c : View) → ¬ IsTemporary name → LeavesNoMore a b → b.now ≡ a.now → (is_unsynced b name ≡ false → Crash (FirstOf (one name text)) b c) → is_unsynced a name ≡ false → Crash (SomeOf (one name text)) a c
 written_crash name text a b c lasts rests now written synced =
     let reading = crash_rests (SomeOf []) a b (some_none []) rests now in
     somes_on [] (one name text) a b c reading (crash_as (FirstOf (one name text)) (SomeOf (one name text)) b c (first_some (one name text)) (written (still_synced (SomeOf []) a b name reading lasts synced)))
@@ -70,7 +70,7 @@ module _ (name text given : Text) (is : given ≡ copy_of name) (lasts : ¬ IsTe
 pub first_crash : (name text : Text) (a b : View) → Crash (SomeOf (one name text)) a b → Crash (SomeOf (member_writes name text)) a b
 first_crash name text a b p = crash_as (SomeOf (one name text)) (SomeOf (member_writes name text)) a b (some_part (one name text) (one (copy_of name) text)) p
 
-pub no_crash : (name text : Text) (a b : View) → Unchanged a b → b.now ≡ a.now → Crash (SomeOf (member_writes name text)) a b
+pub no_crash : (name text : Text) (a b : View) → LeavesNoMore a b → b.now ≡ a.now → Crash (SomeOf (member_writes name text)) a b
 no_crash name text a b rests now = crash_rests (SomeOf (member_writes name text)) a b (some_none (member_writes name text)) rests now
 
 pub first_now : (name text : Text) (a b : Option Content) → NowChanges (SomeOf (one name text)) a b → NowChanges (SomeOf (member_writes name text)) a b
@@ -83,7 +83,7 @@ pub no_writes : (name text : Text) (a : View) → Crash (SomeOf (member_writes n
 no_writes name text a = crash_as (FirstOf (member_writes name text)) (SomeOf (member_writes name text)) a a (first_some (member_writes name text)) (crash_none (member_writes name text) a)
 
 -- the pair was read, and then written
-pub rest_then : (name text : Text) (a b c : View) → ¬ IsTemporary name → ¬ IsTemporary (copy_of name) → Unchanged a b → b.now ≡ a.now → (is_unsynced b name ≡ false → is_unsynced b (copy_of name) ≡ false → Crash (SomeOf (member_writes name text)) b c)
+pub rest_then : (name text : Text) (a b c : View) → ¬ IsTemporary name → ¬ IsTemporary (copy_of name) → LeavesNoMore a b → b.now ≡ a.now → (is_unsynced b name ≡ false → is_unsynced b (copy_of name) ≡ false → Crash (SomeOf (member_writes name text)) b c)
     → is_unsynced a name ≡ false → is_unsynced a (copy_of name) ≡ false → Crash (SomeOf (member_writes name text)) a c
 rest_then name text a b c lasts copy_lasts rests now written main copy =
     let reading = crash_rests (SomeOf []) a b (some_none []) rests now in

@@ -2,7 +2,7 @@
 use Rattle.std.proofs.Common.{◌≡◌, ◌≢◌, ⊎_elim, inl, inr, [], Some, sym, subst, ◌∙◌}
 use Rattle.std.specs.Prelude.{false, IsSome}
 use Rattle.base_devices.specs.Content.{Name, Content, put}
-use Rattle.base_devices.specs.Moments.{View, Unchanged, is_unsynced}
+use Rattle.base_devices.specs.Moments.{View, LeavesNoMore, is_unsynced}
 use Rattle.base_devices.specs.Crash.{IsTemporary, Alike, Crash, Ends, IsAlikeAt, AllOf, SomeOf}
 use Rattle.base_devices.proofs.Crashes.{crash_ends, crash_rests, some_none}
 use Rattle.base_devices.proofs.Lasting.{still_synced}
@@ -17,7 +17,7 @@ use Rattle.repo_pair.proofs.HealsPair.{one}
 
 module _ (these : Name → Type 0) (a b : View) where
   -- only was read
-  pub looked_alike : Unchanged a b → b.now ≡ a.now → IsAlikeAt these a → IsAlikeAt these b
+  pub looked_alike : LeavesNoMore a b → b.now ≡ a.now → IsAlikeAt these a → IsAlikeAt these b
   looked_alike rests same alike f g now leaves n is = alike f g (sym same ∙ now) (old_leaves a b rests g same leaves) n is
 
   -- the Step leaves their bytes alone
@@ -40,7 +40,7 @@ module _ (name text : Text) (lasts : ¬ IsTemporary name) where
       subst (λ (m : Text). g m ≡ f m) (sym is) (has y.0 g y.2 ∙ sym (has x.0 f x.2))
 
   -- it was read before
-  pub written_alike : (a b c : View) → Unchanged a b → b.now ≡ a.now → (is_unsynced b name ≡ false → Ends (AllOf (one name text)) b c) → is_unsynced a name ≡ false → IsSome a.now → IsAlikeAt (λ n. n ≡ name) c
+  pub written_alike : (a b c : View) → LeavesNoMore a b → b.now ≡ a.now → (is_unsynced b name ≡ false → Ends (AllOf (one name text)) b c) → is_unsynced a name ≡ false → IsSome a.now → IsAlikeAt (λ n. n ≡ name) c
   written_alike a b c rests same written synced some =
       let reading = crash_rests (SomeOf []) a b (some_none []) rests same in
       put_alike b c (reading.known some) (written (still_synced (SomeOf []) a b name reading lasts synced))
@@ -80,7 +80,7 @@ module _ (name text given : Text) (is : given ≡ copy_of name) (lasts : ¬ IsTe
       λ f g now leaves n here. ⊎_elim (λ (e : n ≡ name). main_end f g now leaves n e) (λ (e : n ≡ copy_of name). copy_end f g now leaves n (e ∙ sym is)) here
 
 -- both were read before
-pub members_on : (name : Text) (a b c : View) → ¬ IsTemporary name → ¬ IsTemporary (copy_of name) → Unchanged a b → b.now ≡ a.now → KeepsMembers name b c → KeepsMembers name a c
+pub members_on : (name : Text) (a b c : View) → ¬ IsTemporary name → ¬ IsTemporary (copy_of name) → LeavesNoMore a b → b.now ≡ a.now → KeepsMembers name b c → KeepsMembers name a c
 members_on name a b c lasts copy_lasts rests same keeps main copy some alike =
     let reading = crash_rests (SomeOf []) a b (some_none []) rests same in
     keeps (still_synced (SomeOf []) a b name reading lasts main) (still_synced (SomeOf []) a b (copy_of name) reading copy_lasts copy)

@@ -3,7 +3,7 @@ use Rattle.std.proofs.Common.{◌≡◌, ◌⊎◌, ⊎_elim, inl, inr, ◌++◌
 use Rattle.std.specs.Prelude.{codes}
 use Rattle.base_devices.specs.Content.{Name}
 use Rattle.base_devices.specs.Moments.{View}
-use Rattle.base_devices.specs.States.{DiskState, Looks}
+use Rattle.base_devices.specs.States.{DiskState, OnlyReads}
 use Rattle.base_disk.specs.Store.{ChangesOnly}
 use Rattle.base_disk.proofs.Changes.{only_none, only_rests, only_on, only_wide}
 use Rattle.base_model.specs.Text.{Text}
@@ -13,18 +13,18 @@ use Rattle.repo_pair.specs.Member.{IsOfPair}
 pub none_owned : (name : Text) (a : View) → ChangesOnly (IsOfPair name) a a
 none_owned name a = only_none (IsOfPair name) a
 
-pub looked_owned : (name : Text) (a b : DiskState) → Looks a b → ChangesOnly (IsOfPair name) a.view b.view
+pub looked_owned : (name : Text) (a b : DiskState) → OnlyReads a b → ChangesOnly (IsOfPair name) a.view b.view
 looked_owned name a b looks = only_rests (IsOfPair name) a.view b.view looks.time looks.now
 
-pub owned_on : (name : Text) (a b : DiskState) (c : View) → Looks a b → ChangesOnly (IsOfPair name) b.view c → ChangesOnly (IsOfPair name) a.view c
+pub owned_on : (name : Text) (a b : DiskState) (c : View) → OnlyReads a b → ChangesOnly (IsOfPair name) b.view c → ChangesOnly (IsOfPair name) a.view c
 owned_on name a b c looks p = only_on (IsOfPair name) a.view b.view c (looked_owned name a b looks) p
 
 -- one member, by way of a temporary name
 module _ (temp name : Name) where
-  pub looked_two : (a b : DiskState) → Looks a b → ChangesOnly (λ n. (n ≡ temp) ⊎ (n ≡ name)) a.view b.view
+  pub looked_two : (a b : DiskState) → OnlyReads a b → ChangesOnly (λ n. (n ≡ temp) ⊎ (n ≡ name)) a.view b.view
   looked_two a b looks = only_rests (λ n. (n ≡ temp) ⊎ (n ≡ name)) a.view b.view looks.time looks.now
 
-  pub two_on : (a b : DiskState) (c : View) → Looks a b → ChangesOnly (λ n. (n ≡ temp) ⊎ (n ≡ name)) b.view c → ChangesOnly (λ n. (n ≡ temp) ⊎ (n ≡ name)) a.view c
+  pub two_on : (a b : DiskState) (c : View) → OnlyReads a b → ChangesOnly (λ n. (n ≡ temp) ⊎ (n ≡ name)) b.view c → ChangesOnly (λ n. (n ≡ temp) ⊎ (n ≡ name)) a.view c
   two_on a b c looks p = only_on (λ n. (n ≡ temp) ⊎ (n ≡ name)) a.view b.view c (looked_two a b looks) p
 
 -- both members, the names made from the main one's

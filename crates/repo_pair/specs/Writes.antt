@@ -1,7 +1,7 @@
 -- What the members of a pair are given. Own.
 use Rattle.std.specs.Prelude.{◌≡◌, false, Option, Some}
 use Rattle.base_devices.specs.Content.{Content}
-use Rattle.base_devices.specs.Moments.{View, Unchanged, is_unsynced}
+use Rattle.base_devices.specs.Moments.{View, LeavesNoMore, is_unsynced}
 use Rattle.base_devices.specs.Crash.{Crash, Ends, NowChanges, AllOf, FirstOf, SomeOf}
 use Rattle.base_model.specs.Text.{Text}
 use Rattle.base_model.specs.Names.{copy_of}
@@ -41,4 +41,4 @@ EndsBoth name text old new = IfResolved name old (Ends (AllOf (member_writes nam
 
 -- only was read
 abbrev pub OnlyRead : View → View → Type 0
-OnlyRead old new = (new.now ≡ old.now) × Unchanged old new
+OnlyRead old new = (new.now ≡ old.now) × LeavesNoMore old new

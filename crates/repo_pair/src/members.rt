@@ -1,6 +1,6 @@
 // Writes the two members of an info file.
 ghost use Rattle.std.specs.Prelude.{◌≡◌, ◌≤◌, ◌++◌, codes, false, IfOk, OnOk, IsErrOf, string_bytes};
-ghost use Rattle.base_devices.specs.States.{Frame};
+ghost use Rattle.base_devices.specs.States.{CallsProperly};
 ghost use Rattle.base_devices.specs.Cause.{Rises};
 ghost use Rattle.base_disk.specs.Store.{ChangesOnly};
 ghost use Rattle.base_model.specs.Names.{copy_of};
@@ -37,7 +37,7 @@ pub fn save_text<D: Disk>(
     ensures now_part { SavesNow name.now text.now (D.state d.old).view (D.state d.new).view }
     ensures now_whole { OnOk result (EndsNow name.now text.now (D.state d.old).view (D.state d.new).view) }
     ensures only { ChangesOnly (IsOfPair name.now) (D.state d.old).view (D.state d.new).view }
-    ensures frame { Frame (D.state d.old) (D.state d.new) }
+    ensures frame { CallsProperly (D.state d.old) (D.state d.new) }
     ensures cause { IsErrOf result SaveFault.Disk → Rises (D.state d.old).faults (D.state d.new).faults }
 {
     let copy = copy_name(alloc, name)?;

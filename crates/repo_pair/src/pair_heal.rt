@@ -1,6 +1,6 @@
 // Reads a pair, and mends its members.
 ghost use Rattle.std.specs.Prelude.{◌≡◌, ◌⊎◌, ◌≤◌, [], ◌∷◌, ℕ, List, Some, None, true, false, IfOk, IfErr, IfSome, IsSome, OnOk, IsErrOf, length};
-ghost use Rattle.base_devices.specs.States.{Frame, Looks};
+ghost use Rattle.base_devices.specs.States.{CallsProperly, OnlyReads};
 ghost use Rattle.base_devices.specs.Content.{Name};
 ghost use Rattle.base_devices.specs.Moments.{is_unsynced};
 ghost use Rattle.base_devices.specs.Crash.{IsTemporary, Crash, NowChanges, SomeOf};
@@ -25,7 +25,7 @@ use std::alloc::Global;
 fn holds<D: Disk>(alloc: Global, d: &mut D, name: &str, text: &[u8]) -> Result<bool, SaveFault>
     ensures held { IfOk result
         (λ b. b ≡ true → IfSome (D.state d.old).view.now (λ f. f name.now ≡ Some text.now)) }
-    ensures looks { Looks (D.state d.old) (D.state d.new) }
+    ensures looks { OnlyReads (D.state d.old) (D.state d.new) }
     ensures cause { IsErrOf result SaveFault.Disk → Rises (D.state d.old).faults (D.state d.new).faults }
 {
     match read_bytes(alloc, d, name, text.len() as u64)? {
@@ -55,7 +55,7 @@ fn heal_member<D: Disk>(
     ensures unknown { (D.state d.old).view.now ≡ None → (D.state d.new).view.now ≡ None }
     ensures only { ChangesOnly (λ n. (n ≡ temporary.now) ⊎ (n ≡ name.now))
         (D.state d.old).view (D.state d.new).view }
-    ensures frame { Frame (D.state d.old) (D.state d.new) }
+    ensures frame { CallsProperly (D.state d.old) (D.state d.new) }
     ensures cause { IsErrOf result SaveFault.Disk → Rises (D.state d.old).faults (D.state d.new).faults }
 {
     if holds(alloc, d, name, text)? {
@@ -73,7 +73,7 @@ fn heal_both<D: Disk>(alloc: Global, d: &mut D, name: &str, text: &[u8]) -> Resu
     ensures healed_pair { OnOk result (IfSome (D.state d.new).view.now (AreBoth name.now text.now)) }
     ensures lasts { OnOk result (KeepsMembers name.now (D.state d.old).view (D.state d.new).view) }
     ensures only { ChangesOnly (IsOfPair name.now) (D.state d.old).view (D.state d.new).view }
-    ensures frame { Frame (D.state d.old) (D.state d.new) }
+    ensures frame { CallsProperly (D.state d.old) (D.state d.new) }
     ensures cause { IsErrOf result SaveFault.Disk → Rises (D.state d.old).faults (D.state d.new).faults }
 {
     let copy = copy_name(alloc, name)?;
@@ -97,7 +97,7 @@ pub fn heal_members<D: Disk, I: Info>(
         (IfSome (D.state d.new).view.now (AreBoth name.now (info_text (I.sections value.now)))) }
     ensures lasts { OnOk result (KeepsMembers name.now (D.state d.old).view (D.state d.new).view) }
     ensures only { ChangesOnly (IsOfPair name.now) (D.state d.old).view (D.state d.new).view }
-    ensures frame { Frame (D.state d.old) (D.state d.new) }
+    ensures frame { CallsProperly (D.state d.old) (D.state d.new) }
     ensures cause { IsErrOf result SaveFault.Disk → Rises (D.state d.old).faults (D.state d.new).faults }
 {
     let text = text_of(alloc, value)?;
@@ -123,7 +123,7 @@ pub fn heal_pair<D: Disk, I: ReadInfo>(alloc: Global, d: &mut D, name: &str) -> 
         → IsSome (D.state d.old).view.now → OnlyRead (D.state d.old).view (D.state d.new).view }
     ensures known { IsSome (D.state d.old).view.now → IsSome (D.state d.new).view.now }
     ensures only { ChangesOnly (IsOfPair name.now) (D.state d.old).view (D.state d.new).view }
-    ensures frame { Frame (D.state d.old) (D.state d.new) }
+    ensures frame { CallsProperly (D.state d.old) (D.state d.new) }
     ensures cause { IfErr result
         (PairCause I.IsText I.IsForm I.limit name.now (D.state d.old).view.now
         (Rises (D.state d.old).faults (D.state d.new).faults)) }

@@ -1,7 +1,7 @@
 // Reads a pair.
 ghost use Rattle.std.specs.Prelude.{◌≡◌, ◌≤◌, IfOk, IfErr, IfSome, IsErrOf, length};
-ghost use Rattle.base_devices.specs.States.{Looks};
-ghost use Rattle.base_devices.specs.Moments.{Unchanged};
+ghost use Rattle.base_devices.specs.States.{OnlyReads};
+ghost use Rattle.base_devices.specs.Moments.{LeavesNoMore};
 ghost use Rattle.base_devices.specs.Cause.{Rises};
 ghost use Rattle.base_model.specs.Names.{copy_of};
 ghost use Rattle.base_model.specs.Pair.{PairIs};
@@ -24,7 +24,7 @@ pub(crate) fn read_bytes<D: Disk>(
 ) -> Result<Result<Vec<u8>, MemberFault>, SaveFault>
     ensures bytes { IfOk result (λ r. IfSome (D.state d.old).view.now (λ f. BytesAre limit (f name.now) r)) }
     ensures within { IfOk result (λ r. IfOk r (λ b. length b.items ≤ limit)) }
-    ensures looks { Looks (D.state d.old) (D.state d.new) }
+    ensures looks { OnlyReads (D.state d.old) (D.state d.new) }
     ensures cause { IsErrOf result SaveFault.Disk → Rises (D.state d.old).faults (D.state d.new).faults }
 {
     match read_whole(alloc, d, name, limit) {
@@ -46,7 +46,7 @@ fn read_member<D: Disk, I: ReadInfo>(
         (λ r. IfSome (D.state d.old).view.now (λ f. MemberGives I.IsText I.IsForm I.value I.limit f name.now r)) }
     ensures valid { IfOk result (λ r. IfOk r I.is_valid) }
     ensures within { IfOk result (λ r. IfOk r (λ v. length (I.text (I.value v)) ≤ I.limit)) }
-    ensures looks { Looks (D.state d.old) (D.state d.new) }
+    ensures looks { OnlyReads (D.state d.old) (D.state d.new) }
     ensures cause { IsErrOf result SaveFault.Disk → Rises (D.state d.old).faults (D.state d.new).faults }
 {
     match read_bytes(alloc, d, name, I::limit())? {
@@ -66,7 +66,7 @@ fn read_copy<D: Disk, I: ReadInfo>(
         (λ f. MemberGives I.IsText I.IsForm I.value I.limit f (copy_of name.now) r)) }
     ensures valid { IfOk result (λ r. IfOk r I.is_valid) }
     ensures within { IfOk result (λ r. IfOk r (λ v. length (I.text (I.value v)) ≤ I.limit)) }
-    ensures looks { Looks (D.state d.old) (D.state d.new) }
+    ensures looks { OnlyReads (D.state d.old) (D.state d.new) }
     ensures cause { IsErrOf result SaveFault.Disk → Rises (D.state d.old).faults (D.state d.new).faults }
 {
     let copy = copy_name(alloc, name)?;
@@ -88,7 +88,7 @@ pub fn load_pair<D: Disk, I: ReadInfo>(alloc: Global, d: &mut D, name: &str) -> 
     ensures found { IfOk result (λ v. IfSome (D.state d.old).view.now (λ f. PairIs I.IsText f name.now (I.value v))) }
     ensures valid { IfOk result (λ v. I.is_valid v) }
     ensures within { IfOk result (λ v. length (I.text (I.value v)) ≤ I.limit) }
-    ensures looks { Looks (D.state d.old) (D.state d.new) }
+    ensures looks { OnlyReads (D.state d.old) (D.state d.new) }
     ensures cause { IfErr result
         (PairCause I.IsText I.IsForm I.limit name.now (D.state d.old).view.now
         (Rises (D.state d.old).faults (D.state d.new).faults)) }

@@ -1,6 +1,6 @@
 // Saves an info file.
 ghost use Rattle.std.specs.Prelude.{◌≡◌, ◌≤◌, false, IfOk, OnOk, IsErrOf, length};
-ghost use Rattle.base_devices.specs.States.{Frame};
+ghost use Rattle.base_devices.specs.States.{CallsProperly};
 ghost use Rattle.base_devices.specs.Cause.{Rises};
 ghost use Rattle.base_disk.specs.Store.{ChangesOnly};
 ghost use Rattle.base_model.specs.InfoText.{info_text};
@@ -41,7 +41,7 @@ pub fn save_pair<D: Disk, I: Info>(
     ensures now_whole { OnOk result (EndsNow name.now (info_text (I.sections value.now)) (D.state d.old).view
         (D.state d.new).view) }
     ensures only { ChangesOnly (IsOfPair name.now) (D.state d.old).view (D.state d.new).view }
-    ensures frame { Frame (D.state d.old) (D.state d.new) }
+    ensures frame { CallsProperly (D.state d.old) (D.state d.new) }
     ensures cause { IsErrOf result SaveFault.Disk → Rises (D.state d.old).faults (D.state d.new).faults }
 {
     let text = text_of(alloc, value)?;

@@ -2,7 +2,7 @@
 use Rattle.std.proofs.Common.{◌≡◌, ◌⊎◌, ⊎_elim, inl, inr, Option, Some, None, refl, ◌∙◌, sym, subst}
 use Rattle.std.specs.Prelude.{IsSome, IfSome}
 use Rattle.base_devices.specs.Content.{Content}
-use Rattle.base_devices.specs.Moments.{View, Unchanged}
+use Rattle.base_devices.specs.Moments.{View, LeavesNoMore}
 use Rattle.base_devices.specs.Crash.{Crash, Ends, NowChanges, FirstOf, AllOf}
 use Rattle.base_devices.proofs.Nows.{known_as}
 use Rattle.base_model.specs.declared.clusters.Cluster.{Cluster}
@@ -94,7 +94,7 @@ module _ (stanza : Text) (c : Cluster) (is_cluster : IsCluster c) (first : c.id 
 
 -- ---- from the disk as it was, over what was only read
 
-module _ (stanza : Text) (old mid new : View) (rests : Unchanged old mid) (same : mid.now ≡ old.now) where
+module _ (stanza : Text) (old mid new : View) (rests : LeavesNoMore old mid) (same : mid.now ≡ old.now) where
   known_mid : IsSome old.now → IsSome mid.now
   known_mid some = subst (λ (o : Option Content). IsSome o) (sym same) some
 

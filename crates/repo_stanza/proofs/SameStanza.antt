@@ -3,7 +3,7 @@ use Rattle.std.proofs.Common.{◌≡◌, ◌≢◌, ◌⊎◌, inl, inr, ℕ, ze
 use Rattle.std.specs.Prelude.{IfSome, IsSome, slice_get}
 use Rattle.std.proofs.lemmas.List.{length-map}
 use Rattle.base_devices.specs.Content.{Content}
-use Rattle.base_devices.specs.Moments.{View, Unchanged}
+use Rattle.base_devices.specs.Moments.{View, LeavesNoMore}
 use Rattle.base_devices.specs.Crash.{Crash, NowChanges, SomeOf}
 use Rattle.base_devices.proofs.Nows.{known_as}
 use Rattle.base_model.specs.declared.clusters.Cluster.{Cluster}
@@ -131,7 +131,7 @@ having stanza known (Some f) a w k = stanza_known stanza known f a w k
 
 -- ---- from the disk as it was, over what was only read, to what was written
 
-module _ (stanza : Text) (known : Control) (a : ArchiveInfo) (w : BackupInfo) (old mid new : View) (rests : Unchanged old mid) (same : mid.now ≡ old.now) (keeps : IfSome old.now (λ f. KeepsStanza stanza known f a w)) where
+module _ (stanza : Text) (known : Control) (a : ArchiveInfo) (w : BackupInfo) (old mid new : View) (rests : LeavesNoMore old mid) (same : mid.now ≡ old.now) (keeps : IfSome old.now (λ f. KeepsStanza stanza known f a w)) where
   abbrev writes : Content → Content → Type 0
   writes = SomeOf (mending_writes stanza (archive_text a) (backup_text w))
 

@@ -1,6 +1,6 @@
 -- The fault of a stanza that a fault below becomes.
-use Rattle.base_devices.specs.declared.stop.DeviceError.{DeviceError}
-use Rattle.base_devices.specs.declared.stop.DeviceError.TheVariants.{Failed, NoMemory as ErrorNoMemory}
+use Rattle.base_devices.specs.declared.device_error.DeviceError.{DeviceError}
+use Rattle.base_devices.specs.declared.device_error.DeviceError.TheVariants.{Failed, NoMemory as ErrorNoMemory}
 use Rattle.repo_pair.specs.declared.fault.SaveFault.{SaveFault}
 use Rattle.repo_pair.specs.declared.fault.SaveFault.TheVariants.{Disk as SaveDisk, NoMemory as SaveNoMemory}
 use Rattle.repo_stanza.specs.declared.fault.StanzaFault.{StanzaFault}

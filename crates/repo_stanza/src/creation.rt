@@ -1,7 +1,7 @@
 // Makes a stanza, or keeps the one that is there.
 ghost use Rattle.std.specs.Prelude.{◌≡◌, ◌≤◌, ◌⊎◌, None, Some, OnOk, IfOk, IfErr, IfNone, IfSome, IsSome};
-ghost use Rattle.base_devices.specs.States.{Frame, Looks};
-ghost use Rattle.base_devices.specs.Moments.{Unchanged};
+ghost use Rattle.base_devices.specs.States.{CallsProperly, OnlyReads};
+ghost use Rattle.base_devices.specs.Moments.{LeavesNoMore};
 ghost use Rattle.base_devices.specs.Cause.{Rises};
 ghost use Rattle.base_disk.specs.Store.{ChangesOnly};
 ghost use Rattle.base_model.specs.Repository.{Repository, Stanza};
@@ -50,7 +50,7 @@ fn find_kept<D: Disk>(
         (λ f. KeepsStanza stanza.now control.now f (archive_info_of k.archive) (backup_info_of k.backup)))) }
     ensures archive { IfOk result (λ o. IfSome o (λ k. IsArchiveInfo (archive_info_of k.archive))) }
     ensures backup { IfOk result (λ o. IfSome o (λ k. IsBackupInfo (backup_info_of k.backup))) }
-    ensures looks { Looks (D.state d.old) (D.state d.new) }
+    ensures looks { OnlyReads (D.state d.old) (D.state d.new) }
     ensures cause { IfErr result
         (CreateCause stanza.now control.now (D.state d.old).view.now
         (Rises (D.state d.old).faults (D.state d.new).faults)) }
@@ -106,10 +106,10 @@ pub fn create<D: Disk>(
     ensures agrees { OnOk result (IsSome (D.state d.old).view.now
         → IfSome (D.state d.new).view.now (PairsAgree stanza.now)) }
     ensures refused { IfErr result (λ e. OnContent e ((D.state d.new).view.now ≡ (D.state d.old).view.now)) }
-    ensures rests { IfErr result (λ e. OnContent e (Unchanged (D.state d.old).view (D.state d.new).view)) }
+    ensures rests { IfErr result (λ e. OnContent e (LeavesNoMore (D.state d.old).view (D.state d.new).view)) }
     ensures known { IsSome (D.state d.old).view.now → IsSome (D.state d.new).view.now }
     ensures only { ChangesOnly (IsOfPairs stanza.now) (D.state d.old).view (D.state d.new).view }
-    ensures frame { Frame (D.state d.old) (D.state d.new) }
+    ensures frame { CallsProperly (D.state d.old) (D.state d.new) }
     ensures cause { IfErr result
         (CreateCause stanza.now control.now (D.state d.old).view.now
         (Rises (D.state d.old).faults (D.state d.new).faults)) }

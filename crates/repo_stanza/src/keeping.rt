@@ -1,6 +1,6 @@
 // Mends the pairs of a stanza.
 ghost use Rattle.std.specs.Prelude.{◌≡◌, ◌≤◌, false, OnOk, IfSome, IsSome, IsErrOf};
-ghost use Rattle.base_devices.specs.States.{Frame};
+ghost use Rattle.base_devices.specs.States.{CallsProperly};
 ghost use Rattle.base_devices.specs.Moments.{is_unsynced};
 ghost use Rattle.base_devices.specs.Crash.{Crash, NowChanges, SomeOf};
 ghost use Rattle.base_devices.specs.Cause.{Rises};
@@ -40,7 +40,7 @@ fn keep_archive<D: Disk>(
         (IfSome (D.state d.new).view.now
         (HoldBoth (archive_info stanza.now) (archive_text (archive_info_of value.now)))) }
     ensures only { ChangesOnly (IsOfPair (archive_info stanza.now)) (D.state d.old).view (D.state d.new).view }
-    ensures frame { Frame (D.state d.old) (D.state d.new) }
+    ensures frame { CallsProperly (D.state d.old) (D.state d.new) }
     ensures cause { IsErrOf result SaveFault.Disk → Rises (D.state d.old).faults (D.state d.new).faults }
 {
     let name = archive_info_name(alloc, stanza)?;
@@ -66,7 +66,7 @@ fn keep_backup<D: Disk>(
     ensures healed_pair { OnOk result
         (IfSome (D.state d.new).view.now (HoldBoth (backup_info stanza.now) (backup_text (backup_info_of value.now)))) }
     ensures only { ChangesOnly (IsOfPair (backup_info stanza.now)) (D.state d.old).view (D.state d.new).view }
-    ensures frame { Frame (D.state d.old) (D.state d.new) }
+    ensures frame { CallsProperly (D.state d.old) (D.state d.new) }
     ensures cause { IsErrOf result SaveFault.Disk → Rises (D.state d.old).faults (D.state d.new).faults }
 {
     let name = backup_info_name(alloc, stanza)?;
@@ -94,7 +94,7 @@ pub(crate) fn keep_stanza<D: Disk>(
         (HaveTexts stanza.now (archive_text (archive_info_of kept.now.archive))
         (backup_text (backup_info_of kept.now.backup)))) }
     ensures only { ChangesOnly (IsOfPairs stanza.now) (D.state d.old).view (D.state d.new).view }
-    ensures frame { Frame (D.state d.old) (D.state d.new) }
+    ensures frame { CallsProperly (D.state d.old) (D.state d.new) }
     ensures cause { IsErrOf result SaveFault.Disk → Rises (D.state d.old).faults (D.state d.new).faults }
 {
     keep_archive(alloc, d, stanza, &kept.archive)?;

@@ -1,6 +1,6 @@
 // Makes a new stanza.
 ghost use Rattle.std.specs.Prelude.{◌≡◌, ◌≤◌, ◌⊎◌, None, OnOk, IfSome, IsSome, IsErrOf};
-ghost use Rattle.base_devices.specs.States.{Frame};
+ghost use Rattle.base_devices.specs.States.{CallsProperly};
 ghost use Rattle.base_devices.specs.Cause.{Rises};
 ghost use Rattle.base_disk.specs.Store.{ChangesOnly};
 ghost use Rattle.base_model.specs.InfoFiles.{IsCluster};
@@ -60,7 +60,7 @@ pub(crate) fn make_stanza<D: Disk>(
         → IsSteady stanza.now (step r (Create (first_cluster control.now))) (D.state d.new).view) }
     ensures known { IsSome (D.state d.old).view.now → IsSome (D.state d.new).view.now }
     ensures only { ChangesOnly (IsOfPairs stanza.now) (D.state d.old).view (D.state d.new).view }
-    ensures frame { Frame (D.state d.old) (D.state d.new) }
+    ensures frame { CallsProperly (D.state d.old) (D.state d.new) }
     ensures cause { IsErrOf result SaveFault.Disk → Rises (D.state d.old).faults (D.state d.new).faults }
 {
     let cluster = first_cluster(*control);

@@ -1,7 +1,7 @@
 // Reads the two pairs of a stanza, which fit together or are refused.
 ghost use Rattle.std.specs.Prelude.{◌≡◌, ◌≤◌, [], None, Some, IfOk, IfErr, IfSome, IfNone, IsSomeAnd};
-ghost use Rattle.base_devices.specs.States.{Looks};
-ghost use Rattle.base_devices.specs.Moments.{Unchanged};
+ghost use Rattle.base_devices.specs.States.{OnlyReads};
+ghost use Rattle.base_devices.specs.Moments.{LeavesNoMore};
 ghost use Rattle.base_devices.specs.Cause.{Rises};
 ghost use Rattle.base_model.specs.Names.{archive_info, backup_info};
 ghost use Rattle.base_model.specs.Pair.{PairIs, PairAbsent};
@@ -31,7 +31,7 @@ fn read_pair<D: Disk, I: ReadInfo>(
         (λ o. IfSome o (λ v. IfSome (D.state d.old).view.now (λ f. PairIs I.IsText f name.now (I.value v)))) }
     ensures missing { IfOk result (λ o. IfNone o (IfSome (D.state d.old).view.now (λ f. PairAbsent f name.now))) }
     ensures valid { IfOk result (λ o. IfSome o I.is_valid) }
-    ensures looks { Looks (D.state d.old) (D.state d.new) }
+    ensures looks { OnlyReads (D.state d.old) (D.state d.new) }
     ensures cause { IfErr result
         (ReadCause I.IsText I.IsForm I.limit name.now (D.state d.old).view.now
         (Rises (D.state d.old).faults (D.state d.new).faults)) }
@@ -98,7 +98,7 @@ pub(crate) fn look<D: Disk>(
         (λ f. KeepsStanza stanza.now known.now f (archive_info_of k.archive) (backup_info_of k.backup)))) }
     ensures archive { IfOk result (λ o. IfSome o (λ k. IsArchiveInfo (archive_info_of k.archive))) }
     ensures backup { IfOk result (λ o. IfSome o (λ k. IsBackupInfo (backup_info_of k.backup))) }
-    ensures looks { Looks (D.state d.old) (D.state d.new) }
+    ensures looks { OnlyReads (D.state d.old) (D.state d.new) }
     ensures cause { IfErr result
         (CreateCause stanza.now known.now (D.state d.old).view.now
         (Rises (D.state d.old).faults (D.state d.new).faults)) }

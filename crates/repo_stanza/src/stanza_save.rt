@@ -1,6 +1,6 @@
 // Saves the pairs of a new stanza.
 ghost use Rattle.std.specs.Prelude.{◌≡◌, ◌≤◌, false, IfOk, OnOk, IsErrOf};
-ghost use Rattle.base_devices.specs.States.{Frame};
+ghost use Rattle.base_devices.specs.States.{CallsProperly};
 ghost use Rattle.base_devices.specs.Moments.{is_unsynced};
 ghost use Rattle.base_devices.specs.Crash.{Crash, Ends, NowChanges, FirstOf, AllOf};
 ghost use Rattle.base_devices.specs.Cause.{Rises};
@@ -63,7 +63,7 @@ fn save_backup<D: Disk>(
         (NowChanges (AllOf (member_writes (backup_info stanza.now) (first_backup_text cluster.now)))
         (D.state d.old).view.now (D.state d.new).view.now) }
     ensures only { ChangesOnly (IsOfPair (backup_info stanza.now)) (D.state d.old).view (D.state d.new).view }
-    ensures frame { Frame (D.state d.old) (D.state d.new) }
+    ensures frame { CallsProperly (D.state d.old) (D.state d.new) }
     ensures cause { IsErrOf result SaveFault.Disk → Rises (D.state d.old).faults (D.state d.new).faults }
 {
     let name = backup_info_name(alloc, stanza)?;
@@ -95,7 +95,7 @@ fn save_archive<D: Disk>(
         (NowChanges (AllOf (member_writes (archive_info stanza.now) (first_archive_text cluster.now)))
         (D.state d.old).view.now (D.state d.new).view.now) }
     ensures only { ChangesOnly (IsOfPair (archive_info stanza.now)) (D.state d.old).view (D.state d.new).view }
-    ensures frame { Frame (D.state d.old) (D.state d.new) }
+    ensures frame { CallsProperly (D.state d.old) (D.state d.new) }
     ensures cause { IsErrOf result SaveFault.Disk → Rises (D.state d.old).faults (D.state d.new).faults }
 {
     let name = archive_info_name(alloc, stanza)?;
@@ -122,7 +122,7 @@ pub(crate) fn save_pairs<D: Disk>(
     ensures now_whole { OnOk result
         (NowChanges (AllOf (pair_writes stanza.now cluster.now)) (D.state d.old).view.now (D.state d.new).view.now) }
     ensures only { ChangesOnly (IsOfPairs stanza.now) (D.state d.old).view (D.state d.new).view }
-    ensures frame { Frame (D.state d.old) (D.state d.new) }
+    ensures frame { CallsProperly (D.state d.old) (D.state d.new) }
     ensures cause { IsErrOf result SaveFault.Disk → Rises (D.state d.old).faults (D.state d.new).faults }
 {
     save_backup(alloc, d, stanza, cluster)?;

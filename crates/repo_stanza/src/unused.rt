@@ -1,7 +1,7 @@
 // Whether a repository without a stanza still holds files of one.
 ghost use Rattle.std.specs.Prelude.{◌≡◌, ◌≤◌, ◌==◌, true, false, [], ◌∷◌, ◌++◌, IfNone, IfOk, IfErr, IfSome, OnOk, position, string_bytes};
-ghost use Rattle.base_devices.specs.States.{Looks};
-ghost use Rattle.base_devices.specs.Moments.{Unchanged};
+ghost use Rattle.base_devices.specs.States.{OnlyReads};
+ghost use Rattle.base_devices.specs.Moments.{LeavesNoMore};
 ghost use Rattle.base_devices.specs.Cause.{Rises};
 ghost use Rattle.base_model.specs.InfoFiles.{IsLabel};
 ghost use Rattle.base_model.specs.Names.{archive_folder, backup_folder};
@@ -92,7 +92,7 @@ fn first_in_label<'a>(found: &'a [Found], prefix: &str) -> Option<&'a Found>
 // Refuses an archive that has a file of the stanza.
 fn check_archive<D: Disk>(alloc: Global, d: &mut D, stanza: &str) -> Result<(), StanzaFault>
     ensures none { OnOk result (IfSome (D.state d.old).view.now (HasNone (IsArchiveFile stanza.now))) }
-    ensures looks { Looks (D.state d.old) (D.state d.new) }
+    ensures looks { OnlyReads (D.state d.old) (D.state d.new) }
     ensures cause { IfErr result (FoundCause (IsArchiveFile stanza.now) (D.state d.old).view.now
         (Rises (D.state d.old).faults (D.state d.new).faults)) }
 {
@@ -111,7 +111,7 @@ fn check_archive<D: Disk>(alloc: Global, d: &mut D, stanza: &str) -> Result<(), 
 // Refuses backups of the stanza that have a file in the folder of a label.
 fn check_backups<D: Disk>(alloc: Global, d: &mut D, stanza: &str) -> Result<(), StanzaFault>
     ensures none { OnOk result (IfSome (D.state d.old).view.now (HasNone (IsInLabel stanza.now))) }
-    ensures looks { Looks (D.state d.old) (D.state d.new) }
+    ensures looks { OnlyReads (D.state d.old) (D.state d.new) }
     ensures cause { IfErr result (FoundCause (IsInLabel stanza.now) (D.state d.old).view.now
         (Rises (D.state d.old).faults (D.state d.new).faults)) }
 {
@@ -136,7 +136,7 @@ pub(crate) fn check_unused<D: Disk>(
 ) -> Result<(), StanzaFault>
     requires { IfSome (D.state d.old).view.now (LacksStanza stanza.now) }
     ensures unused { OnOk result (IfSome (D.state d.old).view.now (IsUnused stanza.now)) }
-    ensures looks { Looks (D.state d.old) (D.state d.new) }
+    ensures looks { OnlyReads (D.state d.old) (D.state d.new) }
     ensures cause { IfErr result (UnusedCause stanza.now (D.state d.old).view.now
         (Rises (D.state d.old).faults (D.state d.new).faults)) }
     ensures label { IfErr result (λ e. IfLost e IsLabel) }

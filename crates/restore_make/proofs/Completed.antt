@@ -3,8 +3,8 @@ use Rattle.std.proofs.Common.{ℕ, Bool, ◌≡◌, inl, inr, refl, sym, ap, ◌
 use Rattle.std.specs.Prelude.{IfSome}
 use Rattle.base_devices.specs.Content.{at, SameBut}
 use Rattle.base_devices.specs.Links.{LinkState}
-use Rattle.base_devices.specs.declared.tree.Node.{Node}
-use Rattle.base_devices.specs.declared.tree.Node.TheVariants.{File}
+use Rattle.base_devices.specs.declared.data_folder.Node.{Node}
+use Rattle.base_devices.specs.declared.data_folder.Node.TheVariants.{File}
 use Rattle.base_devices.specs.DataFolder.{Nodes, Held, file, folder, link, other, file_bytes, IsTreeListing}
 use Rattle.base_model.specs.Text.{Text, In}
 use Rattle.base_model.specs.Values.{FileEntry, Manifest}

@@ -6,7 +6,7 @@ use Rattle.std.proofs.lemmas.Bool.Decides.{nat_tests}
 use Rattle.std.proofs.lemmas.Slice.Eq.{bytes_eq-Decides}
 use Rattle.base_devices.specs.Content.{at, SameBut}
 use Rattle.base_devices.specs.Links.{LinkState}
-use Rattle.base_devices.specs.declared.tree.Node.{Node}
+use Rattle.base_devices.specs.declared.data_folder.Node.{Node}
 use Rattle.base_devices.specs.DataFolder.{Nodes, Held, file, folder, link, other, shown, file_bytes, with_node, ChangesTree, IsTreeListing}
 use Rattle.base_model.specs.declared.labels.Label.{Label}
 use Rattle.base_model.specs.Restored.{Recovery, conf_path, signal_path}

@@ -3,7 +3,7 @@ use Rattle.std.proofs.Common.{ℕ, zero, suc, Bool, true, false, cond, ◌≡◌
 use Rattle.std.specs.Prelude.{unwrap_or}
 use Rattle.std.proofs.lemmas.List.{length-set}
 use Rattle.base_devices.specs.Links.{LinkState}
-use Rattle.base_devices.specs.declared.tree.Node.{Node}
+use Rattle.base_devices.specs.declared.data_folder.Node.{Node}
 use Rattle.base_model.specs.Restored.{Recovery}
 use Rattle.base_model.specs.Text.{Text, In}
 use Rattle.base_model.specs.Values.{FileEntry}

@@ -9,8 +9,8 @@ use Rattle.std.proofs.lemmas.Bool.Decides.{nat_tests}
 use Rattle.base_devices.specs.Content.{at}
 use Rattle.base_devices.specs.Crash.{IsTemporary}
 use Rattle.base_devices.specs.Links.{LinkState}
-use Rattle.base_devices.specs.declared.tree.Node.{Node}
-use Rattle.base_devices.specs.declared.tree.Node.TheVariants.{File}
+use Rattle.base_devices.specs.declared.data_folder.Node.{Node}
+use Rattle.base_devices.specs.declared.data_folder.Node.TheVariants.{File}
 use Rattle.base_devices.specs.DataFolder.{Nodes, Held, file, folder, link, other, shown, file_bytes}
 use Rattle.base_model.specs.Restored.Recovery.{Nothing}
 use Rattle.base_model.specs.Text.{Text, In}

@@ -1,6 +1,6 @@
 -- A folder that is made ready by a manifest: no call is faulty.
 use Rattle.std.proofs.Common.{◌≡◌, ◌≢◌, ◌⊎◌, inl, inr, ⊎_elim, refl, sym, ap, ◌∙◌, subst, List, map, Option, Some, None, option_map}
-use Rattle.base_devices.specs.declared.tree.Node.{Node}
+use Rattle.base_devices.specs.declared.data_folder.Node.{Node}
 use Rattle.base_devices.specs.DataFolder.{Nodes, IsPlaced}
 use Rattle.base_model.specs.ManifestText.{IsManifest, HasItsFolders}
 use Rattle.base_model.specs.Text.{Text, In}

@@ -5,8 +5,8 @@ use Rattle.std.specs.List.{list_any}
 use Rattle.std.proofs.lemmas.Bool.{and_parts}
 use Rattle.std.proofs.lemmas.Slice.Eq.{bytes_eq-Decides}
 use Rattle.base_devices.specs.Content.{at}
-use Rattle.base_devices.specs.declared.tree.Node.{Node}
-use Rattle.base_devices.specs.declared.tree.Node.TheVariants.{Folder}
+use Rattle.base_devices.specs.declared.data_folder.Node.{Node}
+use Rattle.base_devices.specs.declared.data_folder.Node.TheVariants.{Folder}
 use Rattle.base_devices.specs.DataFolder.{Nodes, Held, folder, shown, file_bytes, IsTreeListing, IsPlaced, IsBare, IsFileAt}
 use Rattle.base_model.specs.declared.labels.Label.{Label}
 use Rattle.base_devices.specs.Links.{LinkState}

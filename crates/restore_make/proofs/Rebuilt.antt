@@ -3,7 +3,7 @@ use Rattle.std.proofs.Common.{Bool, true, false, ◌≡◌, ◌≢◌, refl, sym
 use Rattle.std.specs.Prelude.{IfSome}
 use Rattle.base_devices.specs.Content.{at}
 use Rattle.base_devices.specs.Links.{LinkState}
-use Rattle.base_devices.specs.declared.tree.Node.{Node}
+use Rattle.base_devices.specs.declared.data_folder.Node.{Node}
 use Rattle.base_devices.specs.DataFolder.{Nodes, Held}
 use Rattle.base_model.specs.Restored.Recovery.{Nothing}
 use Rattle.base_model.specs.Text.{Text, In}

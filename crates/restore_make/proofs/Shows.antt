@@ -7,8 +7,8 @@ use Rattle.std.specs.List.Sorted.{IsPartitionPoint}
 use Rattle.std.proofs.lemmas.Bool.{and_parts}
 use Rattle.std.proofs.lemmas.Bool.Decides.{nat_tests}
 use Rattle.base_devices.specs.Order.{are_in_order}
-use Rattle.base_devices.specs.declared.tree.Node.{Node}
-use Rattle.base_devices.specs.declared.tree.Node.TheVariants.{File, Folder, Link, Other}
+use Rattle.base_devices.specs.declared.data_folder.Node.{Node}
+use Rattle.base_devices.specs.declared.data_folder.Node.TheVariants.{File, Folder, Link, Other}
 use Rattle.base_model.specs.declared.files.FileEntry as rust
 use Rattle.base_model.specs.Restored.{Recovery}
 use Rattle.base_model.specs.Text.{Text, In}

@@ -5,8 +5,8 @@ use Rattle.base_devices.specs.Links.{LinkState}
 use Rattle.base_model.specs.Text.{Text, In}
 use Rattle.base_model.specs.Restored.{Recovery}
 use Rattle.base_model.specs.Values.{FileEntry, file_entry_of}
-use Rattle.base_devices.specs.declared.tree.Node.{Node}
-use Rattle.base_devices.specs.declared.tree.Node.TheVariants.{File, Folder, Link, Other}
+use Rattle.base_devices.specs.declared.data_folder.Node.{Node}
+use Rattle.base_devices.specs.declared.data_folder.Node.TheVariants.{File, Folder, Link, Other}
 use Rattle.worker_protocol.specs.declared.sinks.ItemEnd.{ItemEnd}
 use Rattle.worker_pool.specs.Payloads.{AllRead}
 use Rattle.worker_pool.specs.declared.dispatch.fault.DispatchFault.{DispatchFault}

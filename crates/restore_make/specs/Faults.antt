@@ -3,8 +3,8 @@ use Rattle.std.specs.Prelude.{ℕ, false, ◌≡◌, ◌<◌, [], ◌∷◌, Lis
 use Rattle.sha1.specs.Sha1.{sha1}
 use Rattle.base_devices.specs.Cause.{Rises}
 use Rattle.base_devices.specs.Links.{LinkState, last_five}
-use Rattle.base_devices.specs.declared.stop.DeviceError.{DeviceError}
-use Rattle.base_devices.specs.declared.stop.DeviceError.TheVariants as stops
+use Rattle.base_devices.specs.declared.device_error.DeviceError.{DeviceError}
+use Rattle.base_devices.specs.declared.device_error.DeviceError.TheVariants as stops
 use Rattle.base_text.specs.declared.sum.Sum.{Sum}
 use Rattle.base_model.specs.declared.labels.Label.{Label}
 use Rattle.base_model.specs.Text.{Text, In}

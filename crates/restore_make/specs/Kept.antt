@@ -3,8 +3,8 @@ use Rattle.std.specs.Prelude.{ℕ, Bool, true, false, ◌≡◌, List, [], ◌�
 use Rattle.base_devices.specs.Content.{Content, at}
 use Rattle.base_devices.specs.Links.{LinkState}
 use Rattle.base_devices.specs.DataFolder.{Nodes, file, file_bytes}
-use Rattle.base_devices.specs.declared.tree.Node.{Node}
-use Rattle.base_devices.specs.declared.tree.Node.TheVariants.{File}
+use Rattle.base_devices.specs.declared.data_folder.Node.{Node}
+use Rattle.base_devices.specs.declared.data_folder.Node.TheVariants.{File}
 use Rattle.base_model.specs.Text.{Text, In}
 use Rattle.base_model.specs.Values.{FileEntry}
 use Rattle.worker_protocol.specs.declared.frames.frames.Root.TheVariants.{DataFolder}

@@ -2,8 +2,8 @@
 use Rattle.std.specs.Prelude.{Bool, true, false, not, ◌≡◌, ◌≢◌, ◌&&◌, ◌⊎◌, List, [], bytes_eq, Option, Some, None, option_map, Contains}
 use Rattle.base_devices.specs.Links.{LinkState}
 use Rattle.base_devices.specs.DataFolder.{Nodes, folder, IsTreeListing}
-use Rattle.base_devices.specs.declared.tree.Node.{Node}
-use Rattle.base_devices.specs.declared.tree.Node.TheVariants.{File, Folder, Link, Other}
+use Rattle.base_devices.specs.declared.data_folder.Node.{Node}
+use Rattle.base_devices.specs.declared.data_folder.Node.TheVariants.{File, Folder, Link, Other}
 use Rattle.base_model.specs.Restored.{Recovery}
 use Rattle.base_model.specs.Text.{Text, In, ◌⫽◌}
 use Rattle.base_model.specs.Values.{FileEntry, Manifest}

@@ -5,8 +5,8 @@ use Rattle.std.specs.Cmp.Lexicographic.{slice_cmp}
 use Rattle.std.proofs.lemmas.Bool.{and_parts}
 use Rattle.base_devices.specs.Content.{at}
 use Rattle.base_devices.specs.Order.{are_in_order}
-use Rattle.base_devices.specs.declared.tree.Node.{Node}
-use Rattle.base_devices.specs.declared.tree.Node.TheVariants.{File, Folder, Link, Other}
+use Rattle.base_devices.specs.declared.data_folder.Node.{Node}
+use Rattle.base_devices.specs.declared.data_folder.Node.TheVariants.{File, Folder, Link, Other}
 use Rattle.base_devices.specs.DataFolder.{Held, Nodes, folder, with_node, ChangesTree, IsPlaced, IsBare}
 use Rattle.base_model.specs.ManifestText.{HasItsFolders}
 use Rattle.base_model.specs.Text.{Text, In, ◌⫽◌}

@@ -3,8 +3,8 @@ use Rattle.std.proofs.Common.{ℕ, ◌≡◌, ◌⊎◌, inl, inr, ◌<◌, ◌�
 use Rattle.std.proofs.Math.Nat.{le_refl}
 use Rattle.std.proofs.lemmas.List.{length-map}
 use Rattle.base_devices.specs.Cause.{HasCause}
-use Rattle.base_devices.specs.declared.stop.DeviceError.{DeviceError}
-use Rattle.base_devices.specs.declared.stop.DeviceError.TheVariants.{Failed, NoMemory}
+use Rattle.base_devices.specs.declared.device_error.DeviceError.{DeviceError}
+use Rattle.base_devices.specs.declared.device_error.DeviceError.TheVariants.{Failed, NoMemory}
 use Rattle.base_devices.specs.States.{DataFolderState}
 use Rattle.base_devices.specs.DataFolder.{Nodes, IsPlaced}
 use Rattle.worker_protocol.specs.PartSinkState.{JobItems}

@@ -1,7 +1,7 @@
 -- Which files one keeper may write. Own.
 use Rattle.std.specs.Prelude.{ℕ, ◌≡◌, ◌≢◌, ◌+◌, ◌-◌, ◌^◌, min, List, length, Some, slice_get}
-use Rattle.base_devices.specs.declared.stop.DeviceError.{DeviceError}
-use Rattle.base_devices.specs.declared.stop.DeviceError.TheVariants.{Failed, NoMemory}
+use Rattle.base_devices.specs.declared.device_error.DeviceError.{DeviceError}
+use Rattle.base_devices.specs.declared.device_error.DeviceError.TheVariants.{Failed, NoMemory}
 use Rattle.base_model.specs.Text.{Text}
 use Rattle.worker_protocol.specs.Frames.{Job}
 use Rattle.restore_steps.specs.Files.{temporary_path}

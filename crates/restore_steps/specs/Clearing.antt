@@ -4,9 +4,9 @@ use Rattle.std.specs.List.{list_any}
 use Rattle.base_devices.specs.Content.{at}
 use Rattle.base_devices.specs.Order.{are_in_order}
 use Rattle.base_devices.specs.DataFolder.{Nodes, Held, file, folder, file_bytes, with_node, shown, IsPlaced}
-use Rattle.base_devices.specs.declared.tree.Node.{Node}
-use Rattle.base_devices.specs.declared.tree.Node.TheVariants.{File, Folder, Link, Other}
-use Rattle.base_devices.specs.declared.tree.FolderEntry.{FolderEntry}
+use Rattle.base_devices.specs.declared.data_folder.Node.{Node}
+use Rattle.base_devices.specs.declared.data_folder.Node.TheVariants.{File, Folder, Link, Other}
+use Rattle.base_devices.specs.declared.data_folder.FolderEntry.{FolderEntry}
 use Rattle.base_model.specs.ManifestText.{HasItsFolders}
 use Rattle.base_model.specs.Text.{Text, In, ◌⫽◌}
 use Rattle.base_model.specs.Values.{FileEntry, Manifest}

@@ -64,7 +64,7 @@ pub(crate) fn look_at(
         Look::OthersTurns => decimal(alloc, ran.processes.turns()),
         Look::OthersStarted => started(alloc, ran),
         Look::Refusals => decimal(alloc, ran.locks.refusals()),
-        Look::Took => took(alloc, ran),
+        Look::Took => ever_taken(alloc, ran),
     }
 }
 
@@ -95,9 +95,9 @@ fn decimal(alloc: Global, number: u64) -> Result<Vec<u8>, AllocError> {
 }
 
 // The folder and the name of each lock that was taken, a line each.
-fn took(alloc: Global, ran: &Ran) -> Result<Vec<u8>, AllocError> {
+fn ever_taken(alloc: Global, ran: &Ran) -> Result<Vec<u8>, AllocError> {
     let mut text = Vec::new(alloc);
-    for (folder, name) in ran.locks.took() {
+    for (folder, name) in ran.locks.ever_taken() {
         text.extend_from_slice(folder.as_bytes())?;
         text.push(b' ')?;
         text.extend_from_slice(name.as_bytes())?;

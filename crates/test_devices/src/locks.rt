@@ -2,12 +2,12 @@
 ghost use Rattle.std.specs.Prelude.{Contains};
 
 use crate::same::{same, well};
-use base_devices::{DeviceError, Locks, Take};
+use base_devices::{DeviceError, LockAnswer, Locks};
 use memory_devices::MemLocks;
 use std::alloc::{AllocError, Global};
 use std::process::Abort;
 
-fn take_by<L: Locks>(locks: &mut L, folder: &str, name: &str) -> Result<Take, DeviceError>
+fn take_by<L: Locks>(locks: &mut L, folder: &str, name: &str) -> Result<LockAnswer, DeviceError>
     requires { ¬ Contains (L.state locks.old).taken name.now }
 {
     locks.take(folder, name)
@@ -18,7 +18,7 @@ fn release_by<L: Locks>(locks: &mut L, name: &str) {
 }
 
 // None where the lock was taken already.
-fn take(locks: &mut MemLocks, folder: &str, name: &str) -> Option<Result<Take, DeviceError>> {
+fn take(locks: &mut MemLocks, folder: &str, name: &str) -> Option<Result<LockAnswer, DeviceError>> {
     if locks.has(name) {
         return None;
     }
@@ -31,20 +31,20 @@ fn known(alloc: Global, locks: &MemLocks) -> Result<String, AllocError> {
     for name in locks.taken() {
         write!(text, "{name} ")?;
     }
-    for (folder, name) in locks.took() {
+    for (folder, name) in locks.ever_taken() {
         write!(text, "{folder}/{name} ")?;
     }
     Ok(text)
 }
 
-const TAKES: &[(&str, &str, Option<Result<Take, DeviceError>>)] = &[
-    ("/l", "one", Some(Ok(Take::Taken))),
-    ("/l", "held", Some(Ok(Take::Held))),
+const TAKES: &[(&str, &str, Option<Result<LockAnswer, DeviceError>>)] = &[
+    ("/l", "one", Some(Ok(LockAnswer::Acquired))),
+    ("/l", "held", Some(Ok(LockAnswer::Busy))),
     ("/l", "one", None),
-    ("/m", "two", Some(Ok(Take::Taken))),
+    ("/m", "two", Some(Ok(LockAnswer::Acquired))),
     ("/m", "three", Some(Err(DeviceError::Failed))),
-    ("/m", "three", Some(Ok(Take::Taken))),
-    ("/m", "held", Some(Ok(Take::Held))),
+    ("/m", "three", Some(Ok(LockAnswer::Acquired))),
+    ("/m", "held", Some(Ok(LockAnswer::Busy))),
 ];
 
 fn check_known(rt: &impl Abort, alloc: Global, locks: &MemLocks, want: &str) {
@@ -67,7 +67,11 @@ fn takes(rt: HostRuntime) {
     check_known(&rt, alloc, &locks, "three two one /m/three /m/two /l/one ");
     release_by(&mut locks, "two");
     release_by(&mut locks, "none");
-    same(&rt, take(&mut locks, "/l", "two"), Some(Ok(Take::Taken)));
+    same(
+        &rt,
+        take(&mut locks, "/l", "two"),
+        Some(Ok(LockAnswer::Acquired)),
+    );
     check_known(
         &rt,
         alloc,

@@ -4,8 +4,8 @@ use Rattle.std.specs.Prelude.{IsSomeAnd, IfErr, OnOk, OnErr, min}
 use Rattle.std.proofs.lemmas.Option.{slice_get_within}
 use Rattle.base_devices.specs.Cause.{Rises}
 use Rattle.base_devices.specs.Links.{LinkState, Modelled, Sends, Answers, bumped}
-use Rattle.base_devices.specs.declared.stop.DeviceError.{DeviceError}
-use Rattle.base_devices.specs.declared.stop.DeviceError.TheVariants as stops
+use Rattle.base_devices.specs.declared.device_error.DeviceError.{DeviceError}
+use Rattle.base_devices.specs.declared.device_error.DeviceError.TheVariants as stops
 use Rattle.base_model.specs.Text.{Text}
 use Rattle.worker_protocol.specs.Frames.{Item, Job, FitsJob, spell}
 use Rattle.worker_protocol.specs.Frames.Frame.{Task}

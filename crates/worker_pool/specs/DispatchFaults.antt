@@ -1,8 +1,8 @@
 -- Why a run of jobs ends early. Own.
 use Rattle.base_devices.specs.Cause.{Rises}
 use Rattle.std.specs.Prelude.{ℕ}
-use Rattle.base_devices.specs.declared.stop.DeviceError.{DeviceError}
-use Rattle.base_devices.specs.declared.stop.DeviceError.TheVariants.{Failed, NoMemory}
+use Rattle.base_devices.specs.declared.device_error.DeviceError.{DeviceError}
+use Rattle.base_devices.specs.declared.device_error.DeviceError.TheVariants.{Failed, NoMemory}
 use Rattle.worker_pool.specs.declared.dispatch.fault.DispatchFault.{DispatchFault}
 use Rattle.worker_pool.specs.declared.dispatch.fault.DispatchFault.TheVariants as faults
 

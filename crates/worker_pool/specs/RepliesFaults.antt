@@ -1,6 +1,6 @@
 -- Why a reply isn't taken to its end. Own.
-use Rattle.base_devices.specs.declared.stop.DeviceError.{DeviceError}
-use Rattle.base_devices.specs.declared.stop.DeviceError.TheVariants.{Failed, NoMemory}
+use Rattle.base_devices.specs.declared.device_error.DeviceError.{DeviceError}
+use Rattle.base_devices.specs.declared.device_error.DeviceError.TheVariants.{Failed, NoMemory}
 use Rattle.worker_pool.specs.declared.replies.fault.ReplyFault.{ReplyFault}
 use Rattle.worker_pool.specs.declared.replies.fault.ReplyFault.TheVariants as faults
 

@@ -1,8 +1,8 @@
 -- What calls leave of the links in their slots. Own.
 use Rattle.std.specs.Prelude.{ℕ, ◌≡◌, List, Option, Some, None, Result, Ok, Err, slice_get, slice_set}
 use Rattle.base_devices.specs.Links.{LinkState, Sends, Fails, last_five}
-use Rattle.base_devices.specs.declared.stop.DeviceError.{DeviceError}
-use Rattle.base_devices.specs.declared.stop.DeviceError.TheVariants.{Failed, NoMemory}
+use Rattle.base_devices.specs.declared.device_error.DeviceError.{DeviceError}
+use Rattle.base_devices.specs.declared.device_error.DeviceError.TheVariants.{Failed, NoMemory}
 use Rattle.base_model.specs.Text.{Text}
 use Rattle.worker_protocol.specs.Frames.{Job, spell}
 use Rattle.worker_protocol.specs.Frames.Frame.{Unread}

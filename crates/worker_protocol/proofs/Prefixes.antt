@@ -5,8 +5,8 @@ use Rattle.std.specs.Int.{w32, to_be_bytes}
 use Rattle.std.proofs.lemmas.List.{take-append-le, take-append-drop, take_at, drop_at, length-take-le}
 use Rattle.std.proofs.Math.Seq.{take-append-add}
 use Rattle.base_devices.specs.Cause.{Rises}
-use Rattle.base_devices.specs.declared.stop.DeviceError.{DeviceError}
-use Rattle.base_devices.specs.declared.stop.DeviceError.TheVariants as stops
+use Rattle.base_devices.specs.declared.device_error.DeviceError.{DeviceError}
+use Rattle.base_devices.specs.declared.device_error.DeviceError.TheVariants as stops
 use Rattle.base_devices.specs.Links.{LinkState, Modelled, GivesKnown, Receives, ErrorLeaves, last_five}
 use Rattle.base_model.specs.Text.{Text}
 use Rattle.worker_protocol.specs.Frames.{framed}

@@ -1,8 +1,8 @@
 -- What a keeper holds, and what its calls leave. Own.
 use Rattle.std.specs.Prelude.{ℕ, ◌≡◌, ◌+◌, ◌*◌, ◌<◌, ◌≤◌, List, [], ◌∷◌, ◌++◌, length, Option, Some, IfSome, Result, Ok, Err, slice_get}
 use Rattle.base_devices.specs.Cause.{Rises}
-use Rattle.base_devices.specs.declared.stop.DeviceError.{DeviceError}
-use Rattle.base_devices.specs.declared.stop.DeviceError.TheVariants.{Failed, NoMemory}
+use Rattle.base_devices.specs.declared.device_error.DeviceError.{DeviceError}
+use Rattle.base_devices.specs.declared.device_error.DeviceError.TheVariants.{Failed, NoMemory}
 use Rattle.base_model.specs.Text.{Text}
 use Rattle.worker_protocol.specs.Frames.{Item, Job, part_size}
 use Rattle.worker_protocol.specs.declared.sinks.ItemEnd.{ItemEnd}

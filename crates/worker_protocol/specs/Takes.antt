@@ -2,8 +2,8 @@
 use Rattle.std.specs.Prelude.{ℕ, true, ◌≡◌, ◌+◌, ◌-◌, ◌^◌, ◌<◌, ◌≤◌, ◌++◌, [], length, take, min, Option, Some, None, IfSome, Result, Ok, Err}
 use Rattle.base_devices.specs.Cause.{Rises}
 use Rattle.base_devices.specs.Links.{LinkState, Modelled, IsSteady, last_five}
-use Rattle.base_devices.specs.declared.stop.DeviceError.{DeviceError}
-use Rattle.base_devices.specs.declared.stop.DeviceError.TheVariants.{Failed, NoMemory}
+use Rattle.base_devices.specs.declared.device_error.DeviceError.{DeviceError}
+use Rattle.base_devices.specs.declared.device_error.DeviceError.TheVariants.{Failed, NoMemory}
 use Rattle.base_model.specs.Text.{Text}
 use Rattle.worker_protocol.specs.declared.replies.cause.LostCause.{LostCause}
 use Rattle.worker_protocol.specs.declared.replies.cause.LostCause.TheVariants.{Device, Ended, Form, Sum}

@@ -1,6 +1,6 @@
 // What other processes do to the repository and the spool while this one waits.
 ghost use Rattle.std.specs.Prelude.{◌≡◌, ◌≤◌, ◌+◌, ◌-◌, ◌^◌, ◌∷◌, ◌++◌, [], ℕ, List, Option, None, Err, IsErrOf, IsSome, OnOk, OnErr, is_ok, min, map, option_map, string_bytes};
-ghost use Rattle.base_devices.specs.States.{Frame};
+ghost use Rattle.base_devices.specs.States.{CallsProperly};
 ghost use Rattle.base_devices.specs.Cause.{HasCause, Rises};
 ghost use Rattle.base_model.specs.Text.{Text};
 ghost use Rattle.archive_lookup.specs.Stored.{ChangesArchive};
@@ -43,8 +43,8 @@ pub trait OtherProcesses<D: Disk, S: Disk> {
         ensures spool_only { OnTurn (state self.old).account (state self.new).account
             (λ stanza t. ChangesArchive stanza (S.state spool.old).view (S.state spool.new).view) }
         ensures spool_known { IsSome (S.state spool.old).view.now → IsSome (S.state spool.new).view.now }
-        ensures repo_frame { Frame (D.state repo.old) (D.state repo.new) }
-        ensures spool_frame { Frame (S.state spool.old) (S.state spool.new) }
+        ensures repo_frame { CallsProperly (D.state repo.old) (D.state repo.new) }
+        ensures spool_frame { CallsProperly (S.state spool.old) (S.state spool.new) }
         ensures started { (state self.new).started ≡ (state self.old).started }
 
         // The step is counted, and each refusal has its cause.

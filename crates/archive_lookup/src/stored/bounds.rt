@@ -2,9 +2,9 @@
 ghost use Rattle.std.specs.Prelude.{◌≡◌, ◌≤◌, ◌↔◌, IfOk, IfErr, IfSome, IfNone, IsTrue, EachIndex, length, map, slice_index, string_bytes};
 ghost use Rattle.std.specs.List.Sorted.{IsSorted};
 ghost use Rattle.std.specs.String.{string_cmp};
-ghost use Rattle.base_devices.specs.States.{Looks};
+ghost use Rattle.base_devices.specs.States.{OnlyReads};
 ghost use Rattle.base_devices.specs.Content.{AreFolders};
-ghost use Rattle.base_devices.specs.Moments.{Unchanged};
+ghost use Rattle.base_devices.specs.Moments.{LeavesNoMore};
 ghost use Rattle.base_devices.specs.Cause.{Rises};
 ghost use Rattle.base_model.specs.declared.wal.Segment.{Segment};
 ghost use Rattle.base_model.specs.Text.{◌⫽◌};
@@ -89,7 +89,7 @@ fn whole_in<D: Disk>(
     ensures whole { IfOk result
         (λ found. IfSome (D.state d.old).view.now (λ f. AreWholeIn stanza.now id f folder.now found.items)) }
     ensures cause { IfErr result (EndsCause (Rises (D.state d.old).faults (D.state d.new).faults)) }
-    ensures looks { Looks (D.state d.old) (D.state d.new) }
+    ensures looks { OnlyReads (D.state d.old) (D.state d.new) }
 {
     if !is_log_folder(folder.as_bytes()) {
         return Ok(Vec::new(alloc));
@@ -111,7 +111,7 @@ fn of_first<D: Disk>(
     ensures first { IfOk result
         (λ found. IfSome (D.state d.old).view.now (λ f. AreOfFirst stanza.now id f folders.now found.items)) }
     ensures cause { IfErr result (EndsCause (Rises (D.state d.old).faults (D.state d.new).faults)) }
-    ensures looks { Looks (D.state d.old) (D.state d.new) }
+    ensures looks { OnlyReads (D.state d.old) (D.state d.new) }
 {
     for folder in folders {
         let segments = whole_in(alloc, d, stanza, id, folder.as_str())?;
@@ -134,7 +134,7 @@ fn sorted_folders<D: Disk>(
         (λ f. AreFolders (id_place stanza.now id) f (map string_bytes sorted.items))) }
     ensures sorted { IfOk result (λ sorted. IsSorted string_cmp sorted.items) }
     ensures cause { IfErr result (EndsCause (Rises (D.state d.old).faults (D.state d.new).faults)) }
-    ensures looks { Looks (D.state d.old) (D.state d.new) }
+    ensures looks { OnlyReads (D.state d.old) (D.state d.new) }
 {
     let place = id_place(alloc, stanza, id)?;
     let mut folders = d.folders(alloc, place.as_str())?;
@@ -154,7 +154,7 @@ pub fn ends<D: Disk>(
     ensures ends { IfOk result
         (λ found. IfSome (D.state d.old).view.now (λ f. AreEnds stanza.now id.now f found.items)) }
     ensures cause { IfErr result (EndsCause (Rises (D.state d.old).faults (D.state d.new).faults)) }
-    ensures looks { Looks (D.state d.old) (D.state d.new) }
+    ensures looks { OnlyReads (D.state d.old) (D.state d.new) }
 {
     let id = *id;
     let mut folders = sorted_folders(alloc, d, stanza, id)?;

@@ -1,7 +1,7 @@
 // Lists all stored files.
 ghost use Rattle.std.specs.Prelude.{◌≡◌, ◌≤◌, IfOk, IfErr, IfSome, length};
-ghost use Rattle.base_devices.specs.States.{Looks};
-ghost use Rattle.base_devices.specs.Moments.{Unchanged};
+ghost use Rattle.base_devices.specs.States.{OnlyReads};
+ghost use Rattle.base_devices.specs.Moments.{LeavesNoMore};
 ghost use Rattle.base_devices.specs.Cause.{Rises};
 ghost use Rattle.archive_lookup.specs.Stored.{AreStored};
 ghost use Rattle.archive_lookup.specs.Listing.{Picks, ShowsFile, PassesFile};
@@ -43,7 +43,7 @@ pub fn all<D: Disk>(alloc: Global, d: &mut D, stanza: &str) -> Result<Vec<Stored
     ensures within { IfOk result (λ files. length files.items ≤ most_files) }
     ensures cause { IfErr result (AllCause stanza.now (D.state d.old).view.now (Rises (D.state d.old).faults
         (D.state d.new).faults)) }
-    ensures looks { Looks (D.state d.old) (D.state d.new) }
+    ensures looks { OnlyReads (D.state d.old) (D.state d.new) }
 {
     let folder = format!(in alloc; "archive/{stanza}")?;
     let found = d.names(alloc, folder.as_str())?;

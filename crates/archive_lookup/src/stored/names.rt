@@ -4,7 +4,7 @@ ghost use Rattle.base_text.specs.Sum.{IsSum};
 ghost use Rattle.base_model.specs.Names.{wal_text};
 ghost use Rattle.base_model.specs.Represents.{IsArchivePlace};
 ghost use Rattle.base_model.specs.Text.{Text, ◌⫽◌};
-ghost use Rattle.archive_lookup.specs.Looks.{file_place, dash, AreNamesOf, path_with};
+ghost use Rattle.archive_lookup.specs.OnlyReads.{file_place, dash, AreNamesOf, path_with};
 ghost use Rattle.archive_lookup.specs.Paths.{has_sum};
 
 use crate::stored::paths::has_sum;

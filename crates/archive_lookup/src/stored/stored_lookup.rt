@@ -1,15 +1,15 @@
 // Under which paths a file is stored already.
 ghost use Rattle.std.specs.Prelude.{◌≡◌, ◌≤◌, true, false, IfOk, IfErr, IfSome, IsErrOf, OnOk, option_map, string_bytes};
 ghost use Rattle.base_devices.specs.Content.{LiesDirectlyIn};
-ghost use Rattle.base_devices.specs.States.{Looks};
-ghost use Rattle.base_devices.specs.Moments.{Unchanged, SyncsFolders};
+ghost use Rattle.base_devices.specs.States.{OnlyReads};
+ghost use Rattle.base_devices.specs.Moments.{LeavesNoMore, SyncsFolders};
 ghost use Rattle.base_devices.specs.Cause.{Rises};
 ghost use Rattle.base_model.specs.declared.wal.ArchiveId.{ArchiveId};
 ghost use Rattle.base_model.specs.declared.wal.ArchiveName.{ArchiveName};
 ghost use Rattle.base_model.specs.Text.{Text};
 ghost use Rattle.archive_lookup.specs.Paths.{has_sum};
 ghost use Rattle.archive_lookup.specs.Listing.{Picks, ShowsSum, PassesSum, sum_after};
-ghost use Rattle.archive_lookup.specs.Looks.{AreNamesOf, LooksLike, Shows, LookCause, IsDeviceFault};
+ghost use Rattle.archive_lookup.specs.OnlyReads.{AreNamesOf, LooksLike, Shows, LookCause, IsDeviceFault};
 
 use crate::stored::fault::ArchiveFault;
 use crate::stored::names::FileNames;
@@ -93,7 +93,7 @@ pub fn look_in_folder<D: Disk>(
     ensures shows { IfOk result (λ look. IfSome (D.state d.old).view.now
         (λ f. (stanza : Text) (id : ArchiveId) (name : ArchiveName) → AreNamesOf stanza id name names.now
         → has_sum name ≡ true → Shows stanza id name f look)) }
-    ensures looks { Looks (D.state d.old) (D.state d.new) }
+    ensures looks { OnlyReads (D.state d.old) (D.state d.new) }
     ensures cause { IsErrOf result ArchiveFault.Disk → Rises (D.state d.old).faults (D.state d.new).faults }
     ensures stops { IfErr result IsDeviceFault }
 {
@@ -110,7 +110,7 @@ fn look_at<D: Disk>(alloc: Global, d: &mut D, names: &FileNames) -> Result<Look,
         → Shows stanza id name f look)) }
     ensures cause { IfErr result (LookCause names.now (D.state d.old).view.now (Rises (D.state d.old).faults
         (D.state d.new).faults)) }
-    ensures looks { Looks (D.state d.old) (D.state d.new) }
+    ensures looks { OnlyReads (D.state d.old) (D.state d.new) }
 {
     match read_whole(alloc, d, names.prefix.as_str(), HISTORY_LIMIT)? {
         None => Ok(Look::Free),
@@ -129,7 +129,7 @@ pub fn look_for<D: Disk>(alloc: Global, d: &mut D, names: &FileNames) -> Result<
         → Shows stanza id name f look)) }
     ensures cause { IfErr result (LookCause names.now (D.state d.old).view.now (Rises (D.state d.old).faults
         (D.state d.new).faults)) }
-    ensures looks { Looks (D.state d.old) (D.state d.new) }
+    ensures looks { OnlyReads (D.state d.old) (D.state d.new) }
 {
     if names.has_sum {
         look_in_folder(alloc, d, names)
@@ -151,7 +151,7 @@ pub fn look_synced<D: Disk>(
         → Shows stanza id name f look)) }
     ensures cause { IfErr result (LookCause names.now (D.state d.old).view.now (Rises (D.state d.old).faults
         (D.state d.new).faults)) }
-    ensures looks { Looks (D.state d.old) (D.state d.new) }
+    ensures looks { OnlyReads (D.state d.old) (D.state d.new) }
 {
     d.sync_directory(names.folder.as_str())?;
     look_for(alloc, d, names)

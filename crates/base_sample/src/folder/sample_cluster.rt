@@ -2,7 +2,7 @@
 ghost use Rattle.std.specs.Prelude.{◌≡◌, ◌≤◌, ◌⊎◌, IfSome, IfErr, OnOk};
 ghost use Rattle.base_devices.specs.Cause.{HasCause, Rises};
 ghost use Rattle.base_devices.specs.Content.{Name, at};
-ghost use Rattle.base_devices.specs.States.{LooksAt};
+ghost use Rattle.base_devices.specs.States.{OnlyReadsFolder};
 ghost use Rattle.base_model.specs.Text.{In};
 ghost use Rattle.base_sample.specs.Folder.{sample_folders, made};
 ghost use Rattle.base_sample.specs.Having.{IsEmpty, Has, nothing, KeepsOthers, FolderCause, IfFull};
@@ -16,7 +16,7 @@ use std::alloc::Global;
 // Refuses a folder that isn't empty.
 fn check_empty<T: DataFolder>(alloc: Global, tree: &mut T) -> Result<(), FolderFault>
     ensures empty { OnOk result (IfSome (T.state tree.old).nodes IsEmpty) }
-    ensures looks { LooksAt (T.state tree.old) (T.state tree.new) }
+    ensures looks { OnlyReadsFolder (T.state tree.old) (T.state tree.new) }
     ensures cause { IfErr result (FolderCause (T.state tree.old).nodes
         (Rises (T.state tree.old).faults (T.state tree.new).faults)) }
 {
@@ -69,7 +69,7 @@ pub fn make_cluster<T: DataFolder>(
     requires { number ≤ 64 }
     ensures empty { OnOk result (IfSome (T.state tree.old).nodes IsEmpty) }
     ensures made { OnOk result (Has (made number) (T.state tree.new).nodes) }
-    ensures refused { IfErr result (λ fault. IfFull fault (LooksAt (T.state tree.old) (T.state tree.new))) }
+    ensures refused { IfErr result (λ fault. IfFull fault (OnlyReadsFolder (T.state tree.old) (T.state tree.new))) }
     // Whatever the result, a folder that isn't empty is unchanged.
     ensures left { ((T.state tree.new).nodes ≡ (T.state tree.old).nodes) ⊎ IfSome (T.state tree.old).nodes IsEmpty }
     // Whatever the result, only paths of the cluster have changed.

@@ -2,7 +2,7 @@
 ghost use Rattle.std.specs.Prelude.{◌≡◌, [], Some, IfOk, IfErr, IfSome, OnOk, string_bytes};
 ghost use Rattle.base_devices.specs.Cause.{Rises};
 ghost use Rattle.base_devices.specs.Content.{SameBut};
-ghost use Rattle.base_devices.specs.States.{Frame, Looks, Works};
+ghost use Rattle.base_devices.specs.States.{CallsProperly, OnlyReads, Works};
 ghost use Rattle.base_model.specs.declared.wal.ArchiveName.TheVariants.{Segment as OfWhole};
 ghost use Rattle.base_model.specs.ManifestText.{IsSegSize};
 ghost use Rattle.repo_names.specs.Next.{IsOfLog};
@@ -44,7 +44,7 @@ fn fetch_file<D: Disk, S: Disk>(
         (S.state spool.old).view.now (S.state spool.new).view.now) }
     ensures others { SameBut name.now (S.state spool.old).view.now (S.state spool.new).view.now }
     ensures works { Works (λ _ _. ⊥) (λ n. n ≡ name.now) (S.state spool.old) (S.state spool.new) }
-    ensures looks { Looks (D.state repo.old) (D.state repo.new) }
+    ensures looks { OnlyReads (D.state repo.old) (D.state repo.new) }
     ensures cause { IfErr result (HaltCause (PassCause (D.state repo.old).view.now (string_bytes from) sum.0)
         (rose_in (record none {
           repo = Rises (D.state repo.old).faults (D.state repo.new).faults;
@@ -84,8 +84,8 @@ fn fetch_stored<D: Disk, S: Disk>(
     ensures fetches { OnOk result (FetchesOne stanza.now id.now segment.now (D.state repo.old).view.now
         (S.state spool.old).view.now (S.state spool.new).view.now) }
     ensures only { ChangesAhead stanza.now (S.state spool.old).view (S.state spool.new).view }
-    ensures frame { Frame (S.state spool.old) (S.state spool.new) }
-    ensures looks { Looks (D.state repo.old) (D.state repo.new) }
+    ensures frame { CallsProperly (S.state spool.old) (S.state spool.new) }
+    ensures looks { OnlyReads (D.state repo.old) (D.state repo.new) }
     ensures cause { IfErr result (HaltCause
         (FileCause stanza.now id.now (OfWhole segment.now) (D.state repo.old).view.now)
         (rose_in (record none {
@@ -118,8 +118,8 @@ fn fetch_next<D: Disk, S: Disk>(
     ensures fetches { IfOk result (FetchesNext stanza.now id.now last.now size.0 (D.state repo.old).view.now
         (S.state spool.old).view.now (S.state spool.new).view.now) }
     ensures only { ChangesAhead stanza.now (S.state spool.old).view (S.state spool.new).view }
-    ensures frame { Frame (S.state spool.old) (S.state spool.new) }
-    ensures looks { Looks (D.state repo.old) (D.state repo.new) }
+    ensures frame { CallsProperly (S.state spool.old) (S.state spool.new) }
+    ensures looks { OnlyReads (D.state repo.old) (D.state repo.new) }
     ensures cause { IfErr result (HaltCause
         (NextCause stanza.now id.now last.now size.0 (D.state repo.old).view.now)
         (rose_in (record none {
@@ -146,7 +146,7 @@ fn fetch_next<D: Disk, S: Disk>(
 fn clear<S: Disk>(alloc: Global, spool: &mut S, stanza: &str) -> Result<(), Halt<GetFault>>
     ensures clear { OnOk result (HoldsFetched stanza.now [] (S.state spool.old).view.now (S.state spool.new).view.now) }
     ensures only { ChangesAhead stanza.now (S.state spool.old).view (S.state spool.new).view }
-    ensures frame { Frame (S.state spool.old) (S.state spool.new) }
+    ensures frame { CallsProperly (S.state spool.old) (S.state spool.new) }
     ensures cause { IfErr result (HaltCause Never
         (Only TheSpool (Rises (S.state spool.old).faults (S.state spool.new).faults))) }
 {
@@ -188,8 +188,8 @@ pub fn fetch_ahead<D: Disk, S: Disk>(
     ensures only { ChangesAhead stanza.now (S.state spool.old).view (S.state spool.new).view }
     ensures marks { GivesMarks stanza.now [] (S.state spool.old).view (S.state spool.new).view }
     ensures beside { StaysBeside stanza.now (S.state spool.old).view (S.state spool.new).view }
-    ensures frame { Frame (S.state spool.old) (S.state spool.new) }
-    ensures looks { Looks (D.state repo.old) (D.state repo.new) }
+    ensures frame { CallsProperly (S.state spool.old) (S.state spool.new) }
+    ensures looks { OnlyReads (D.state repo.old) (D.state repo.new) }
     ensures cause { IfErr result (HaltCause
         (AheadCause stanza.now id.now after.now size.0 (most_ahead size.0 queue) (D.state repo.old).view.now)
         (rose_in (record none {

@@ -1,7 +1,7 @@
 // Whether a segment was fetched ahead.
 ghost use Rattle.std.specs.Prelude.{◌≡◌, ◌<◌, ℕ, true, false, None, All, IfOk, IfErr, IfSome, IsSome, get_or, length, option_map, string_bytes};
 ghost use Rattle.base_devices.specs.Cause.{Rises};
-ghost use Rattle.base_devices.specs.States.{Looks};
+ghost use Rattle.base_devices.specs.States.{OnlyReads};
 ghost use Rattle.base_devices.specs.declared.disk.Found.{Found};
 ghost use Rattle.cmd_types.specs.declared.stages.object.Object.TheVariants.{Spool as TheSpool};
 ghost use Rattle.cmd_types.specs.Halts.{HaltCause, Never, Only};
@@ -49,7 +49,7 @@ pub fn has_ahead<S: Disk>(
         → IfSome (S.state spool.old).view.now (IsAhead stanza.now segment.now)) }
     ensures lacks { IfOk result
         (λ b. b ≡ false → IfSome (S.state spool.old).view.now (λ f. ¬ IsAhead stanza.now segment.now f)) }
-    ensures looks { Looks (S.state spool.old) (S.state spool.new) }
+    ensures looks { OnlyReads (S.state spool.old) (S.state spool.new) }
     ensures cause { IfErr result (HaltCause Never
         (Only TheSpool (Rises (S.state spool.old).faults (S.state spool.new).faults))) }
 {

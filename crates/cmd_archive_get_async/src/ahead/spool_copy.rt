@@ -2,7 +2,7 @@
 ghost use Rattle.std.specs.Prelude.{◌≡◌, IfOk, IfErr};
 ghost use Rattle.base_devices.specs.Cause.{Rises};
 ghost use Rattle.base_devices.specs.Content.{SameBut};
-ghost use Rattle.base_devices.specs.States.{Looks, Works};
+ghost use Rattle.base_devices.specs.States.{OnlyReads, Works};
 ghost use Rattle.cmd_types.specs.Halts.{HaltCause, Never};
 ghost use Rattle.cmd_types.specs.Risen.{none, rose_in};
 ghost use Rattle.cmd_archive_get_async.specs.Fetching.{CopiedTo};
@@ -45,7 +45,7 @@ pub(crate) fn copy<D: Disk, S: Disk>(
         (S.state spool.old).view.now (S.state spool.new).view.now) }
     ensures others { SameBut name.now (S.state spool.old).view.now (S.state spool.new).view.now }
     ensures works { Works (λ _ _. ⊥) (λ n. n ≡ name.now) (S.state spool.old) (S.state spool.new) }
-    ensures looks { Looks (D.state repo.old) (D.state repo.new) }
+    ensures looks { OnlyReads (D.state repo.old) (D.state repo.new) }
     ensures cause { IfErr result (HaltCause Never (rose_in (record none {
       repo = Rises (D.state repo.old).faults (D.state repo.new).faults;
       spool = Rises (S.state spool.old).faults (S.state spool.new).faults;

@@ -2,7 +2,7 @@
 ghost use Rattle.std.specs.List.{starts_with};
 ghost use Rattle.std.specs.Prelude.{◌≡◌, ◌≤◌, [], IfErr, OnOk, IsTrue, nat_eq, option_map, string_bytes};
 ghost use Rattle.base_devices.specs.Cause.{Rises};
-ghost use Rattle.base_devices.specs.States.{Frame, Looks};
+ghost use Rattle.base_devices.specs.States.{CallsProperly, OnlyReads};
 ghost use Rattle.base_crash_lists.specs.Beside.{StaysBeside};
 ghost use Rattle.cmd_types.specs.declared.stages.object.Object.TheVariants.{Spool as TheSpool};
 ghost use Rattle.cmd_types.specs.Halts.{HaltCause, Never, Only};
@@ -37,7 +37,7 @@ fn pass_whole<S: Disk, T: DataFolder>(
         (T.state tree.old).nodes (T.state tree.new).nodes }
     ensures changes { ChangesPath path.now (AreStoredAt (S.state spool.old).view.now name.now sum.now.0)
         (T.state tree.old).nodes (T.state tree.new).nodes }
-    ensures looks { Looks (S.state spool.old) (S.state spool.new) }
+    ensures looks { OnlyReads (S.state spool.old) (S.state spool.new) }
     ensures tree_place { (T.state tree.new).opened ≡ (T.state tree.old).opened }
     ensures tree_later { (T.state tree.old).faults ≤ (T.state tree.new).faults }
     ensures cause { IfErr result (HaltCause Never
@@ -70,7 +70,7 @@ fn pass_ahead<S: Disk, T: DataFolder>(
         (T.state tree.old).nodes (T.state tree.new).nodes }
     ensures changes { ChangesPath path.now (AreStoredAt (S.state spool.old).view.now name.now sum.now.0)
         (T.state tree.old).nodes (T.state tree.new).nodes }
-    ensures looks { Looks (S.state spool.old) (S.state spool.new) }
+    ensures looks { OnlyReads (S.state spool.old) (S.state spool.new) }
     ensures tree_place { (T.state tree.new).opened ≡ (T.state tree.old).opened }
     ensures tree_later { (T.state tree.old).faults ≤ (T.state tree.new).faults }
     ensures cause { IfErr result (HaltCause Never
@@ -102,7 +102,7 @@ fn clear<S: Disk>(
         ≡ option_map (lacking (ahead_prefix stanza.now segment.now)) (S.state spool.old).view.now) }
     ensures only { ChangesWithin (λ n. starts_with nat_eq n (ahead_prefix stanza.now segment.now))
         (S.state spool.old).view (S.state spool.new).view }
-    ensures frame { Frame (S.state spool.old) (S.state spool.new) }
+    ensures frame { CallsProperly (S.state spool.old) (S.state spool.new) }
     ensures cause { IfErr result (HaltCause Never
         (Only TheSpool (Rises (S.state spool.old).faults (S.state spool.new).faults))) }
 {
@@ -142,7 +142,7 @@ pub fn take_ahead<S: Disk, T: DataFolder>(
         (S.state spool.old).view (S.state spool.new).view }
     ensures marks { GivesMarks stanza.now [] (S.state spool.old).view (S.state spool.new).view }
     ensures beside { StaysBeside stanza.now (S.state spool.old).view (S.state spool.new).view }
-    ensures frame { Frame (S.state spool.old) (S.state spool.new) }
+    ensures frame { CallsProperly (S.state spool.old) (S.state spool.new) }
     ensures tree_place { (T.state tree.new).opened ≡ (T.state tree.old).opened }
     ensures tree_later { (T.state tree.old).faults ≤ (T.state tree.new).faults }
     ensures cause { IfErr result (HaltCause Never

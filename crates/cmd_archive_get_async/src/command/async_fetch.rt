@@ -1,7 +1,7 @@
 // archive-get:async: fetches what follows a segment.
 ghost use Rattle.std.specs.Prelude.{◌≡◌, [], IfOk, IfErr, IfSome, OnOk};
 ghost use Rattle.base_devices.specs.Cause.{Rises};
-ghost use Rattle.base_devices.specs.States.{Frame, Looks};
+ghost use Rattle.base_devices.specs.States.{CallsProperly, OnlyReads};
 ghost use Rattle.base_model.specs.InfoFiles.{IsArchiveInfo};
 ghost use Rattle.base_model.specs.Names.{segment_text};
 ghost use Rattle.base_model.specs.Values.{archive_info_of};
@@ -59,9 +59,9 @@ fn fetch_from<D: Disk, S: Disk>(
 ) -> Result<(), Halt<GetFault>>
     ensures fetches { OnOk result (FetchesAfter stanza.now segment.now stored.now queue
         (D.state repo.old).view.now (S.state spool.old).view.now (S.state spool.new).view.now) }
-    ensures looks { Looks (D.state repo.old) (D.state repo.new) }
+    ensures looks { OnlyReads (D.state repo.old) (D.state repo.new) }
     ensures only { ChangesAhead stanza.now (S.state spool.old).view (S.state spool.new).view }
-    ensures frame { Frame (S.state spool.old) (S.state spool.new) }
+    ensures frame { CallsProperly (S.state spool.old) (S.state spool.new) }
     ensures cause { IfErr result (HaltCause
         (AheadCause stanza.now stored.now.id segment.now stored.now.size (most_ahead stored.now.size queue)
         (D.state repo.old).view.now)
@@ -95,11 +95,11 @@ pub fn fetch_after<D: Disk, S: Disk>(
     requires valid { IsArchiveInfo (archive_info_of info.now) }
     ensures fetched { IfOk result (FetchedBy stanza.now known.now order.now.word.now order.now.segment queue
         (D.state repo.old).view.now (S.state spool.old).view.now (S.state spool.new).view.now) }
-    ensures looks { Looks (D.state repo.old) (D.state repo.new) }
+    ensures looks { OnlyReads (D.state repo.old) (D.state repo.new) }
     ensures marks { GivesMarks stanza.now [] (S.state spool.old).view (S.state spool.new).view }
     ensures beside { StaysBeside stanza.now (S.state spool.old).view (S.state spool.new).view }
     ensures only { ChangesAhead stanza.now (S.state spool.old).view (S.state spool.new).view }
-    ensures frame { Frame (S.state spool.old) (S.state spool.new) }
+    ensures frame { CallsProperly (S.state spool.old) (S.state spool.new) }
     ensures cause { IfErr result (HaltCause
         (FollowUpCause stanza.now known.now order.now.segment queue (D.state repo.old).view.now)
         (rose_in (record none {

@@ -3,7 +3,7 @@ ghost use Rattle.std.specs.Prelude.{◌≡◌, ◌≤◌, [], map, Option, Some,
 ghost use Rattle.base_devices.specs.Cause.{Rises};
 ghost use Rattle.base_devices.specs.Content.{Content};
 ghost use Rattle.base_devices.specs.Crash.{Leaves};
-ghost use Rattle.base_devices.specs.States.{Frame, Looks};
+ghost use Rattle.base_devices.specs.States.{CallsProperly, OnlyReads};
 ghost use Rattle.base_model.specs.InfoFiles.{IsArchiveInfo};
 ghost use Rattle.base_model.specs.Now.{NowRepresents};
 ghost use Rattle.base_model.specs.Repository.{Stanza};
@@ -71,7 +71,7 @@ pub fn get_ahead<D: Disk, S: Disk, T: DataFolder, A: OtherProcesses<D, S>>(
         (D.state repo.old).view.now (T.state tree.old).nodes)
         (T.state tree.old).nodes (T.state tree.new).nodes }
     ensures none { OnNone (reached_by get_early result) ((T.state tree.new).nodes ≡ (T.state tree.old).nodes) }
-    ensures looks { Looks (D.state repo.old) (D.state repo.new) }
+    ensures looks { OnlyReads (D.state repo.old) (D.state repo.new) }
     ensures opened { (T.state tree.new).opened ≡ (T.state tree.old).opened }
     ensures later { (T.state tree.old).faults ≤ (T.state tree.new).faults }
 
@@ -79,7 +79,7 @@ pub fn get_ahead<D: Disk, S: Disk, T: DataFolder, A: OtherProcesses<D, S>>(
     ensures marks { GivesMarks stanza.now [] (S.state spool.old).view (S.state spool.new).view }
     ensures beside { StaysBeside stanza.now (S.state spool.old).view (S.state spool.new).view }
     ensures known { IsSome (S.state spool.old).view.now → IsSome (S.state spool.new).view.now }
-    ensures frame { Frame (S.state spool.old) (S.state spool.new) }
+    ensures frame { CallsProperly (S.state spool.old) (S.state spool.new) }
     ensures follows { IfOk result (FollowsUp stanza.now known.now order.now.name (D.state repo.old).view.now
         (map string_bytes arguments.now) (S.state spool.new).view.now (A.state processes.old) (A.state processes.new)) }
     ensures others { QuietOthers (map string_bytes arguments.now) (A.state processes.old) (A.state processes.new) }

@@ -1,7 +1,7 @@
 // Fetches ahead what follows a served segment.
 ghost use Rattle.std.specs.Prelude.{◌≡◌, ◌≤◌, map, IfOk, IfErr, IfSome, IfNone, string_bytes};
 ghost use Rattle.base_devices.specs.Cause.{Rises};
-ghost use Rattle.base_devices.specs.States.{Looks};
+ghost use Rattle.base_devices.specs.States.{OnlyReads};
 ghost use Rattle.cmd_types.specs.declared.stages.object.Object.TheVariants.{Spool as TheSpool};
 ghost use Rattle.cmd_types.specs.Halts.{HaltCause, Never, Only};
 ghost use Rattle.cmd_archive_get_async.specs.Following.{HasNoneAfter, HasSize, IsFollowing, Follows, Starts, QuietOthers};
@@ -72,7 +72,7 @@ pub(crate) fn follow<D: Disk, S: Disk, A: OtherProcesses<D, S>>(
     ensures follows { IfOk result (λ lines. Follows stanza.now segment.now length (map string_bytes arguments.now)
         (S.state spool.old).view.now (A.state processes.old) (A.state processes.new) (string_bytes lines)) }
     ensures others { QuietOthers (map string_bytes arguments.now) (A.state processes.old) (A.state processes.new) }
-    ensures looks { Looks (S.state spool.old) (S.state spool.new) }
+    ensures looks { OnlyReads (S.state spool.old) (S.state spool.new) }
     ensures cause { IfErr result (HaltCause Never
         (Only TheSpool (Rises (S.state spool.old).faults (S.state spool.new).faults))) }
 {

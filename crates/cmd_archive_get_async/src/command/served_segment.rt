@@ -3,7 +3,7 @@ ghost use Rattle.std.specs.Prelude.{◌≡◌, ◌≤◌, [], Option, Some, None
 ghost use Rattle.base_devices.specs.Cause.{Rises};
 ghost use Rattle.base_devices.specs.Content.{Content};
 ghost use Rattle.base_devices.specs.Crash.{Leaves};
-ghost use Rattle.base_devices.specs.States.{Frame, Looks};
+ghost use Rattle.base_devices.specs.States.{CallsProperly, OnlyReads};
 ghost use Rattle.base_model.specs.declared.wal.ArchiveName.TheVariants.{Segment as OfWhole};
 ghost use Rattle.base_model.specs.InfoFiles.{IsArchiveInfo};
 ghost use Rattle.base_model.specs.Now.{NowRepresents};
@@ -61,7 +61,7 @@ fn serve_stored<D: Disk, T: DataFolder>(
         (D.state repo.old).view.now (T.state tree.old).nodes)
         (T.state tree.old).nodes (T.state tree.new).nodes }
     ensures still { StillFolder result (T.state tree.old).nodes (T.state tree.new).nodes }
-    ensures looks { Looks (D.state repo.old) (D.state repo.new) }
+    ensures looks { OnlyReads (D.state repo.old) (D.state repo.new) }
     ensures opened { (T.state tree.new).opened ≡ (T.state tree.old).opened }
     ensures later { (T.state tree.old).faults ≤ (T.state tree.new).faults }
     ensures cause { IfErr result (HaltCause
@@ -115,13 +115,13 @@ pub(crate) fn serve_ahead<D: Disk, S: Disk, T: DataFolder>(
         (D.state repo.old).view.now (T.state tree.old).nodes)
         (T.state tree.old).nodes (T.state tree.new).nodes }
     ensures still { StillFolder result (T.state tree.old).nodes (T.state tree.new).nodes }
-    ensures looks { Looks (D.state repo.old) (D.state repo.new) }
+    ensures looks { OnlyReads (D.state repo.old) (D.state repo.new) }
     ensures opened { (T.state tree.new).opened ≡ (T.state tree.old).opened }
     ensures later { (T.state tree.old).faults ≤ (T.state tree.new).faults }
     ensures marks { GivesMarks stanza.now [] (S.state spool.old).view (S.state spool.new).view }
     ensures beside { StaysBeside stanza.now (S.state spool.old).view (S.state spool.new).view }
     ensures known { IsSome (S.state spool.old).view.now → IsSome (S.state spool.new).view.now }
-    ensures frame { Frame (S.state spool.old) (S.state spool.new) }
+    ensures frame { CallsProperly (S.state spool.old) (S.state spool.new) }
     ensures cause { IfErr result (HaltCause
         (GetAheadCause stanza.now order.now.folder.now order.now.word.now order.now.path.now known.now order.now.name
         (D.state repo.old).view.now (T.state tree.old).nodes (S.state spool.old).view.now)

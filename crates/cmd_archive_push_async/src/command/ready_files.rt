@@ -1,7 +1,7 @@
 // Stores the files that are ready under the id of the current cluster.
 ghost use Rattle.std.specs.Prelude.{◌≡◌, ◌∷◌, [], Some, IfOk, IfErr, IfSome, OnOk, is_ok};
 ghost use Rattle.base_devices.specs.Cause.{Rises};
-ghost use Rattle.base_devices.specs.States.{Frame, LooksAt};
+ghost use Rattle.base_devices.specs.States.{CallsProperly, OnlyReadsFolder};
 ghost use Rattle.base_devices.specs.DataFolder.{Nodes};
 ghost use Rattle.base_model.specs.InfoFiles.{IsArchiveInfo};
 ghost use Rattle.base_model.specs.Values.{archive_info_of};
@@ -57,9 +57,9 @@ pub fn drain_stanza<D: Disk, S: Disk, T: DataFolder, K: Locks>(
     ensures pair { KeepsPair stanza.now (D.state repo.old).view (D.state repo.new).view }
     ensures beside { StaysBeside stanza.now (D.state repo.old).view (D.state repo.new).view }
     ensures spool_beside { StaysBeside stanza.now (S.state spool.old).view (S.state spool.new).view }
-    ensures repo_frame { Frame (D.state repo.old) (D.state repo.new) }
-    ensures spool_frame { Frame (S.state spool.old) (S.state spool.new) }
-    ensures looks { LooksAt (T.state tree.old) (T.state tree.new) }
+    ensures repo_frame { CallsProperly (D.state repo.old) (D.state repo.new) }
+    ensures spool_frame { CallsProperly (S.state spool.old) (S.state spool.new) }
+    ensures looks { OnlyReadsFolder (T.state tree.old) (T.state tree.new) }
     ensures cause { IfErr result (HaltCause
         (DrainCause stanza.now (D.state repo.old).view.now (D.state repo.new).view.now (T.state tree.old).nodes)
         (rose_in (three (Rises (D.state repo.old).faults (D.state repo.new).faults)

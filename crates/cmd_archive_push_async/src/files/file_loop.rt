@@ -1,7 +1,7 @@
 // Stores files one after the other.
 ghost use Rattle.std.specs.Prelude.{◌≡◌, ◌+◌, ◌<◌, ◌^◌, Some, IfErr};
 ghost use Rattle.base_devices.specs.Cause.{Rises};
-ghost use Rattle.base_devices.specs.States.{Frame, LooksAt};
+ghost use Rattle.base_devices.specs.States.{CallsProperly, OnlyReadsFolder};
 ghost use Rattle.base_devices.specs.DataFolder.{Nodes};
 ghost use Rattle.archive_lookup.specs.Stored.{ChangesArchive};
 ghost use Rattle.cmd_types.specs.Halts.{HaltCause};
@@ -52,9 +52,9 @@ pub(crate) fn drain_files<D: Disk, S: Disk, T: DataFolder>(
     ensures pair { KeepsPair stanza.now (D.state repo.old).view (D.state repo.new).view }
     ensures repo_only { ChangesArchive stanza.now (D.state repo.old).view (D.state repo.new).view }
     ensures spool_only { ChangesArchive stanza.now (S.state spool.old).view (S.state spool.new).view }
-    ensures repo_frame { Frame (D.state repo.old) (D.state repo.new) }
-    ensures spool_frame { Frame (S.state spool.old) (S.state spool.new) }
-    ensures looks { LooksAt (T.state tree.old) (T.state tree.new) }
+    ensures repo_frame { CallsProperly (D.state repo.old) (D.state repo.new) }
+    ensures spool_frame { CallsProperly (S.state spool.old) (S.state spool.new) }
+    ensures looks { OnlyReadsFolder (T.state tree.old) (T.state tree.new) }
     ensures cause { IfErr result (HaltCause
         (EndCauseOf stanza.now id (T.state tree.old).nodes (D.state repo.new).view.now names.now)
         (rose_in (three (Rises (D.state repo.old).faults (D.state repo.new).faults)
@@ -94,9 +94,9 @@ pub(crate) fn drain_named<D: Disk, S: Disk, T: DataFolder>(
     ensures pair { KeepsPair stanza.now (D.state repo.old).view (D.state repo.new).view }
     ensures repo_only { ChangesArchive stanza.now (D.state repo.old).view (D.state repo.new).view }
     ensures spool_only { ChangesArchive stanza.now (S.state spool.old).view (S.state spool.new).view }
-    ensures repo_frame { Frame (D.state repo.old) (D.state repo.new) }
-    ensures spool_frame { Frame (S.state spool.old) (S.state spool.new) }
-    ensures looks { LooksAt (T.state tree.old) (T.state tree.new) }
+    ensures repo_frame { CallsProperly (D.state repo.old) (D.state repo.new) }
+    ensures spool_frame { CallsProperly (S.state spool.old) (S.state spool.new) }
+    ensures looks { OnlyReadsFolder (T.state tree.old) (T.state tree.new) }
     ensures cause { IfErr result (HaltCause
         (EndCauseOf stanza.now id (T.state tree.old).nodes (D.state repo.new).view.now names.now)
         (rose_in (three (Rises (D.state repo.old).faults (D.state repo.new).faults)

@@ -3,7 +3,7 @@ ghost use Rattle.std.specs.Prelude.{◌≡◌, ◌∷◌, codes, IfOk, IfErr, On
 ghost use Rattle.base_devices.specs.Cause.{Rises};
 ghost use Rattle.base_devices.specs.Content.{LiesDirectlyIn};
 ghost use Rattle.base_devices.specs.Moments.{SyncsFolders};
-ghost use Rattle.base_devices.specs.States.{Looks};
+ghost use Rattle.base_devices.specs.States.{OnlyReads};
 ghost use Rattle.cmd_types.specs.declared.stages.object.Object.TheVariants.{Spool as TheSpool};
 ghost use Rattle.cmd_types.specs.Halts.{HaltCause, Never, Only};
 ghost use Rattle.cmd_archive_push_async.specs.Whole.{marks_folder};
@@ -24,7 +24,7 @@ pub(crate) fn sync_marks<S: Disk>(
     ensures same { IfOk result (λ x. x ≡ drained) }
     ensures settled { OnOk result (SyncsFolders (LiesDirectlyIn (marks_folder stanza.now)) (S.state spool.old).view
         (S.state spool.new).view) }
-    ensures looks { Looks (S.state spool.old) (S.state spool.new) }
+    ensures looks { OnlyReads (S.state spool.old) (S.state spool.new) }
     ensures cause { IfErr result (HaltCause Never
         (Only TheSpool (Rises (S.state spool.old).faults (S.state spool.new).faults))) }
 {

@@ -1,7 +1,7 @@
 // One file of the log is stored, and marked in the spool.
 ghost use Rattle.std.specs.Prelude.{◌≡◌, ◌≤◌, ◌+◌, ◌∷◌, [], Some, IfOk, IfErr};
 ghost use Rattle.base_devices.specs.Cause.{Rises};
-ghost use Rattle.base_devices.specs.States.{Frame, LooksAt};
+ghost use Rattle.base_devices.specs.States.{CallsProperly, OnlyReadsFolder};
 ghost use Rattle.base_devices.specs.DataFolder.{Nodes};
 ghost use Rattle.base_model.specs.Names.{wal_text};
 ghost use Rattle.archive_lookup.specs.Stored.{ChangesArchive};
@@ -76,9 +76,9 @@ fn store_log<D: Disk, S: Disk, T: DataFolder>(
     ensures pair { KeepsPair stanza.now (D.state repo.old).view (D.state repo.new).view }
     ensures repo_only { ChangesArchive stanza.now (D.state repo.old).view (D.state repo.new).view }
     ensures spool_only { ChangesArchive stanza.now (S.state spool.old).view (S.state spool.new).view }
-    ensures repo_frame { Frame (D.state repo.old) (D.state repo.new) }
-    ensures spool_frame { Frame (S.state spool.old) (S.state spool.new) }
-    ensures looks { LooksAt (T.state tree.old) (T.state tree.new) }
+    ensures repo_frame { CallsProperly (D.state repo.old) (D.state repo.new) }
+    ensures spool_frame { CallsProperly (S.state spool.old) (S.state spool.new) }
+    ensures looks { OnlyReadsFolder (T.state tree.old) (T.state tree.new) }
     ensures cause { IfErr result (HaltCause
         (EndCause stanza.now id (T.state tree.old).nodes (D.state repo.new).view.now name)
         (rose_in (three (Rises (D.state repo.old).faults (D.state repo.new).faults)
@@ -109,9 +109,9 @@ pub(crate) fn store_file<D: Disk, S: Disk, T: DataFolder>(
     ensures pair { KeepsPair stanza.now (D.state repo.old).view (D.state repo.new).view }
     ensures repo_only { ChangesArchive stanza.now (D.state repo.old).view (D.state repo.new).view }
     ensures spool_only { ChangesArchive stanza.now (S.state spool.old).view (S.state spool.new).view }
-    ensures repo_frame { Frame (D.state repo.old) (D.state repo.new) }
-    ensures spool_frame { Frame (S.state spool.old) (S.state spool.new) }
-    ensures looks { LooksAt (T.state tree.old) (T.state tree.new) }
+    ensures repo_frame { CallsProperly (D.state repo.old) (D.state repo.new) }
+    ensures spool_frame { CallsProperly (S.state spool.old) (S.state spool.new) }
+    ensures looks { OnlyReadsFolder (T.state tree.old) (T.state tree.new) }
     ensures cause { IfErr result (HaltCause
         (EndCause stanza.now id (T.state tree.old).nodes (D.state repo.new).view.now name)
         (rose_in (three (Rises (D.state repo.old).faults (D.state repo.new).faults)

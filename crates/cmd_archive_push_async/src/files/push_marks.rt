@@ -2,7 +2,7 @@
 ghost use Rattle.std.specs.Prelude.{◌≡◌, ◌≤◌, ◌+◌, IfOk, IfErr, IsErrOf, OnOk};
 ghost use Rattle.base_devices.specs.Cause.{Rises};
 ghost use Rattle.base_devices.specs.Crash.{NowChanges, AllOf, FirstOf};
-ghost use Rattle.base_devices.specs.States.{Frame};
+ghost use Rattle.base_devices.specs.States.{CallsProperly};
 ghost use Rattle.base_model.specs.Represents.{IsWalName};
 ghost use Rattle.base_model.specs.Text.{Text};
 ghost use Rattle.archive_lookup.specs.Stored.{ChangesArchive};
@@ -57,7 +57,7 @@ fn put_mark<S: Disk>(
         → NowChanges (AllOf (marks_of stanza.now name (fate_of tried.now bytes))) (S.state spool.old).view.now
         (S.state spool.new).view.now) }
     ensures only { ChangesArchive stanza.now (S.state spool.old).view (S.state spool.new).view }
-    ensures frame { Frame (S.state spool.old) (S.state spool.new) }
+    ensures frame { CallsProperly (S.state spool.old) (S.state spool.new) }
     ensures cause { IsErrOf result StoreFault.Disk → Rises (S.state spool.old).faults (S.state spool.new).faults }
 {
     match tried {
@@ -108,7 +108,7 @@ pub(crate) fn mark_tried<S: Disk>(
         → NowChanges (AllOf (marks_of stanza.now name (fate_of tried.now bytes))) (S.state spool.old).view.now
         (S.state spool.new).view.now) }
     ensures only { ChangesArchive stanza.now (S.state spool.old).view (S.state spool.new).view }
-    ensures frame { Frame (S.state spool.old) (S.state spool.new) }
+    ensures frame { CallsProperly (S.state spool.old) (S.state spool.new) }
     ensures cause { IfErr result (HaltCause Never
         (Only TheSpool (Rises (S.state spool.old).faults (S.state spool.new).faults))) }
 {

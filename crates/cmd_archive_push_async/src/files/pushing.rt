@@ -1,7 +1,7 @@
 // Pushes one file of the log.
 ghost use Rattle.std.specs.Prelude.{◌≡◌, Some, IfOk, IfErr, IsSome};
 ghost use Rattle.base_devices.specs.Cause.{Rises};
-ghost use Rattle.base_devices.specs.States.{Frame, LooksAt};
+ghost use Rattle.base_devices.specs.States.{CallsProperly, OnlyReadsFolder};
 ghost use Rattle.base_text.specs.Sum.{IsSum};
 ghost use Rattle.base_model.specs.Names.{wal_text};
 ghost use Rattle.base_model.specs.Now.{NowRepresents};
@@ -73,8 +73,8 @@ pub(crate) fn push_log<D: Disk, T: DataFolder>(
         → IsFateOf s id system name bytes (fate_of tried bytes)) }
     ensures pair { KeepsPair stanza.now (D.state repo.old).view (D.state repo.new).view }
     ensures only { ChangesArchive stanza.now (D.state repo.old).view (D.state repo.new).view }
-    ensures frame { Frame (D.state repo.old) (D.state repo.new) }
-    ensures looks { LooksAt (T.state tree.old) (T.state tree.new) }
+    ensures frame { CallsProperly (D.state repo.old) (D.state repo.new) }
+    ensures looks { OnlyReadsFolder (T.state tree.old) (T.state tree.new) }
     ensures cause { IfErr result (HaltCause
         (EndCause stanza.now id (T.state tree.old).nodes (D.state repo.new).view.now name)
         (rose_in (three (Rises (D.state repo.old).faults (D.state repo.new).faults) ⊥

@@ -1,7 +1,7 @@
 // The files of the log that are ready.
 ghost use Rattle.std.specs.Prelude.{◌≡◌, IfOk, IfErr, IfSome, IfNone};
 ghost use Rattle.base_devices.specs.Cause.{Rises};
-ghost use Rattle.base_devices.specs.States.{LooksAt};
+ghost use Rattle.base_devices.specs.States.{OnlyReadsFolder};
 ghost use Rattle.archive_lookup.specs.Listing.{Picks};
 ghost use Rattle.cmd_types.specs.declared.stages.object.Object.TheVariants.{TheDataFolder as TheFolder};
 ghost use Rattle.cmd_types.specs.Halts.{HaltCause, Never, Only};
@@ -58,7 +58,7 @@ pub(crate) fn ready_names<T: DataFolder>(
     tree: &mut T,
 ) -> Result<Vec<ArchiveName>, Halt<PushFault>>
     ensures ready { IfOk result (λ names. IfSome (T.state tree.old).nodes (λ f. AreReady f names.items)) }
-    ensures looks { LooksAt (T.state tree.old) (T.state tree.new) }
+    ensures looks { OnlyReadsFolder (T.state tree.old) (T.state tree.new) }
     ensures cause { IfErr result (HaltCause Never
         (Only TheFolder (Rises (T.state tree.old).faults (T.state tree.new).faults))) }
 {

@@ -1,6 +1,6 @@
 // The second by which a label is named.
 ghost use Rattle.std.specs.Prelude.{◌≡◌, ◌≤◌, ◌<◌, ◌+◌, map, IfOk, IfErr};
-ghost use Rattle.base_devices.specs.States.{last_second, Looks};
+ghost use Rattle.base_devices.specs.States.{last_second, OnlyReads};
 ghost use Rattle.base_model.specs.Values.{entry_of, backup_info_of};
 ghost use Rattle.backup_record.specs.Making.{labels_of};
 ghost use Rattle.cmd_backup_common.specs.Seconds.{second_of, AreBefore, IsNext, DiskFails, ClockFails, SecondCause};
@@ -56,7 +56,7 @@ fn latest_in<D: Disk>(
     list: &BackupInfo,
 ) -> Result<u64, SecondFault>
     ensures before { IfOk result (λ latest. AreBefore (labels_of (backup_info_of list.now).backups) (latest + 1)) }
-    ensures looks { Looks (D.state d.old) (D.state d.new) }
+    ensures looks { OnlyReads (D.state d.old) (D.state d.new) }
     ensures fault { IfErr result (λ e. DiskFails e (D.state d.old).faults (D.state d.new).faults) }
 {
     let folder = format!(in alloc; "backup/{stanza}")?;
@@ -91,7 +91,7 @@ pub fn next_second<D: Disk, C: Clock>(
     list: &BackupInfo,
 ) -> Result<u64, SecondFault>
     ensures next { IfOk result (λ second. IsNext second (backup_info_of list.now)) }
-    ensures looks { Looks (D.state d.old) (D.state d.new) }
+    ensures looks { OnlyReads (D.state d.old) (D.state d.new) }
     ensures later { (C.state clock.old).faults ≤ (C.state clock.new).faults }
     ensures least { (C.state clock.old).least ≤ (C.state clock.new).least }
     ensures cause { IfErr result (λ e. SecondCause e (D.state d.old).faults (D.state d.new).faults

@@ -1,7 +1,7 @@
 // Looks at what is needed and starts the workers, before the repository is changed.
 ghost use Rattle.std.specs.Prelude.{◌≡◌, ◌<◌, ◌^◌, [], map, take, length, vec_len, IfOk, IfErr, IfSome, OnOk};
 ghost use Rattle.base_devices.specs.Cause.{Rises};
-ghost use Rattle.base_devices.specs.States.{LooksAt};
+ghost use Rattle.base_devices.specs.States.{OnlyReadsFolder};
 ghost use Rattle.base_devices.specs.DataFolder.{IsTreeListing};
 ghost use Rattle.base_model.specs.InfoFiles.{IsArchiveInfo, IsBackupInfo};
 ghost use Rattle.base_model.specs.Values.{archive_info_of, backup_info_of};
@@ -59,7 +59,7 @@ pub fn begin<T: DataFolder, L: Link>(
         (map L.link_state links.new.items)) }
     ensures few { OnOk result (vec_len links.new < 2 ^ 32) }
     ensures ready { OnOk result (AreReady (map L.link_state links.new.items)) }
-    ensures looks { LooksAt (T.state tree.old) (T.state tree.new) }
+    ensures looks { OnlyReadsFolder (T.state tree.old) (T.state tree.new) }
     ensures cause { IfErr result (HaltCause
         (BeginCause known.now (archive_info_of archive.now) (backup_info_of backup) (T.state tree.old).nodes
         (take order.now.workers (map L.link_state links.old.items)))

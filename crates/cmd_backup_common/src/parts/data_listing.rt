@@ -1,7 +1,7 @@
 // Lists the data folder.
 ghost use Rattle.std.specs.Prelude.{◌≡◌, map, IfOk, IfErr, IfSome, OnOk};
 ghost use Rattle.base_devices.specs.Cause.{Rises};
-ghost use Rattle.base_devices.specs.States.{LooksAt};
+ghost use Rattle.base_devices.specs.States.{OnlyReadsFolder};
 ghost use Rattle.base_devices.specs.DataFolder.{IsTreeListing};
 ghost use Rattle.backup_plan.specs.Views.{seen_of};
 ghost use Rattle.cmd_types.specs.declared.stages.object.Object.TheVariants.{TheDataFolder as TheFolder};
@@ -22,7 +22,7 @@ pub(crate) fn look<T: DataFolder>(
     ensures listing { IfOk result (λ seen. IfSome (T.state tree.old).nodes
         (λ f. IsTreeListing f (map seen_of seen.items))) }
     ensures stopped { OnOk result (IfSome (T.state tree.old).nodes IsStopped) }
-    ensures looks { LooksAt (T.state tree.old) (T.state tree.new) }
+    ensures looks { OnlyReadsFolder (T.state tree.old) (T.state tree.new) }
     ensures cause { IfErr result (HaltCause (RunningCause (T.state tree.old).nodes)
         (Only TheFolder (Rises (T.state tree.old).faults (T.state tree.new).faults))) }
 {

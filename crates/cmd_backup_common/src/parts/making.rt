@@ -1,7 +1,7 @@
 // Makes the backup.
 ghost use Rattle.std.specs.Prelude.{◌≡◌, ◌≤◌, ◌<◌, ◌^◌, map, vec_len, string_bytes, length, IfOk, IfErr, IfSome, IsSome, OnOk};
 ghost use Rattle.base_devices.specs.Cause.{Rises};
-ghost use Rattle.base_devices.specs.States.{Frame};
+ghost use Rattle.base_devices.specs.States.{CallsProperly};
 ghost use Rattle.base_model.specs.InfoFiles.{IsLabel};
 ghost use Rattle.worker_pool.specs.Run.{AreReady};
 ghost use Rattle.backup_make.specs.Draft.{IsDraft, main_of};
@@ -58,7 +58,7 @@ pub fn finish<D: Disk, L: Link, U: Scheduler, C: Clock>(
     ensures alike { OnOk result (IsSome (D.state repo.old).view.now
         → IfSome (D.state repo.new).view.now (AgreeAt (main_of draft.entry))) }
     ensures beside { StaysBeside draft.entry.stanza.now (D.state repo.old).view (D.state repo.new).view }
-    ensures frame { Frame (D.state repo.old) (D.state repo.new) }
+    ensures frame { CallsProperly (D.state repo.old) (D.state repo.new) }
     ensures later { (C.state clock.old).faults ≤ (C.state clock.new).faults }
     ensures least { (C.state clock.old).least ≤ (C.state clock.new).least }
     ensures cause { IfErr result (HaltCause

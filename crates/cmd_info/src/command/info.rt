@@ -1,6 +1,6 @@
 // info: the report on the stanza.
 ghost use Rattle.std.specs.Prelude.{◌≡◌, ◌++◌, map, Some, OnOk, IfOk, IfErr, IfSome, IsSome, string_bytes};
-ghost use Rattle.base_devices.specs.States.{Looks};
+ghost use Rattle.base_devices.specs.States.{OnlyReads};
 ghost use Rattle.base_devices.specs.Cause.{Rises};
 ghost use Rattle.base_model.specs.InfoFiles.{IsBackupInfo};
 ghost use Rattle.base_model.specs.Now.{NowRepresents};
@@ -42,7 +42,7 @@ fn ends_under<D: Disk>(
 ) -> Result<Vec<Segment>, Halt<StageFault>>
     ensures ends { IfOk result (λ found. IfSome (D.state repo.old).view.now
         (λ f. AreEnds stanza.now id.now f found.items)) }
-    ensures looks { Looks (D.state repo.old) (D.state repo.new) }
+    ensures looks { OnlyReads (D.state repo.old) (D.state repo.new) }
     ensures cause { IfErr result (HaltCause Never
         (Only Repo (Rises (D.state repo.old).faults (D.state repo.new).faults))) }
 {
@@ -79,7 +79,7 @@ fn end_names<D: Disk>(
 ) -> Result<Vec<ArchivedName>, Halt<StageFault>>
     ensures ends { IfOk result (λ names. IfSome (D.state repo.old).view.now
         (λ f. HaveEnds stanza.now history.now f names.items)) }
-    ensures looks { Looks (D.state repo.old) (D.state repo.new) }
+    ensures looks { OnlyReads (D.state repo.old) (D.state repo.new) }
     ensures cause { IfErr result (HaltCause Never
         (Only Repo (Rises (D.state repo.old).faults (D.state repo.new).faults))) }
 {
@@ -120,7 +120,7 @@ pub fn report_stanza<D: Disk>(
     ensures reported { IfOk result (λ o. (s : Stanza) → IsSome (D.state repo.old).view.now
         → NowRepresents stanza.now (Some s) (D.state repo.old).view.now
         → OnFinished o (ReportsStanza form stanza.now s)) }
-    ensures looks { Looks (D.state repo.old) (D.state repo.new) }
+    ensures looks { OnlyReads (D.state repo.old) (D.state repo.new) }
     ensures cause { IfErr result (HaltCause Never
         (Only Repo (Rises (D.state repo.old).faults (D.state repo.new).faults))) }
 {

@@ -1,7 +1,7 @@
 // Reads the prefix of a known file.
 ghost use Rattle.std.specs.Prelude.{◌≡◌, ◌≤◌, ◌<◌, ℕ, List, Option, option_map, IfOk, IfSome, Vec, length, take};
 ghost use Rattle.std.specs.declared.alloc.Global.{Global};
-ghost use Rattle.base_devices.specs.States.{LooksAt};
+ghost use Rattle.base_devices.specs.States.{OnlyReadsFolder};
 ghost use Rattle.base_devices.specs.DataFolder.{file_bytes, known_path};
 ghost use Rattle.base_devices.specs.Cause.{HasCause};
 
@@ -20,7 +20,7 @@ pub fn read_prefix<T: DataFolder>(
         option_map (λ (v : Vec ℕ Global). v.items) r
         ≡ option_map (take limit) (file_bytes (f (known_path what.now))))) }
     ensures within { IfOk result (λ r. IfSome r (λ v. length v.items ≤ limit)) }
-    ensures looks { LooksAt (T.state tree.old) (T.state tree.new) }
+    ensures looks { OnlyReadsFolder (T.state tree.old) (T.state tree.new) }
     ensures cause { HasCause (T.state tree.old).faults (T.state tree.new).faults result }
 {
     let mut bytes = Vec::new(alloc);

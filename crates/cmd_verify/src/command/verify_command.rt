@@ -2,7 +2,7 @@
 ghost use Rattle.std.specs.Prelude.{◌≡◌, ◌++◌, [], IfOk, IfErr, IfSome, OnOk, string_bytes};
 ghost use Rattle.std.specs.List.{flat_map};
 ghost use Rattle.base_devices.specs.Cause.{Rises};
-ghost use Rattle.base_devices.specs.States.{Looks};
+ghost use Rattle.base_devices.specs.States.{OnlyReads};
 ghost use Rattle.base_model.specs.InfoFiles.{IsBackupText, IsBackupInfo};
 ghost use Rattle.base_model.specs.Names.{backup_info};
 ghost use Rattle.base_model.specs.Pair.{PairIs};
@@ -65,7 +65,7 @@ pub fn verify_stanza<D: Disk>(
     requires valid { IsBackupInfo (backup_info_of backup.now) }
     ensures examined { IfOk result (IsVerified stanza.now (D.state repo.old).view.now) }
     ensures sound { IfOk result (EndsWithNone stanza.now (D.state repo.old).view.now) }
-    ensures looks { Looks (D.state repo.old) (D.state repo.new) }
+    ensures looks { OnlyReads (D.state repo.old) (D.state repo.new) }
     ensures cause { IfErr result (HaltCause (VerifyCommandCause stanza.now (D.state repo.old).view.now)
         (Only Repo (Rises (D.state repo.old).faults (D.state repo.new).faults))) }
 {

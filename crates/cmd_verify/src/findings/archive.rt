@@ -7,7 +7,7 @@ ghost use Rattle.cmd_verify.specs.Adding.{Adds, OfSome};
 ghost use Rattle.cmd_verify.specs.Archived.{HasOther};
 ghost use Rattle.cmd_verify.specs.Findings.{FileDeviates};
 ghost use Rattle.cmd_verify.specs.Lies.{LiesSo};
-ghost use Rattle.base_devices.specs.States.{Looks};
+ghost use Rattle.base_devices.specs.States.{OnlyReads};
 
 use crate::findings::finding::{Finding, LookFault, Mark};
 use crate::findings::place_sum::{Lies, deviation, sum_at};
@@ -22,7 +22,7 @@ fn lies_of<D: Disk>(d: &mut D, file: &Stored) -> Result<Lies, DeviceError>
     ensures lies { IfOk result (λ r. IfSome (D.state d.old).view.now
         (λ f. IsSomeAnd (f (string_bytes file.now.path)) (λ bytes. length bytes ≡ file.now.size)
         → LiesSo (f (string_bytes file.now.path)) 0 file.now.size r)) }
-    ensures looks { Looks (D.state d.old) (D.state d.new) }
+    ensures looks { OnlyReads (D.state d.old) (D.state d.new) }
     ensures cause { HasCause (D.state d.old).faults (D.state d.new).faults result }
 {
     if file.size == 0 {
@@ -40,7 +40,7 @@ fn look_at_stored<D: Disk>(
 ) -> Result<(), LookFault>
     ensures adds { OnOk result (IfSome (D.state d.old).view.now (λ f. (stanza : Text)
         → IsStoredFile stanza f file.now → Adds (HasOther f file.now) found.old.items found.new.items)) }
-    ensures looks { Looks (D.state d.old) (D.state d.new) }
+    ensures looks { OnlyReads (D.state d.old) (D.state d.new) }
     ensures cause { IsErrOf result LookFault.Disk → Rises (D.state d.old).faults (D.state d.new).faults }
 {
     let Some(known) = file.sum else {
@@ -63,7 +63,7 @@ fn look_at_bytes<D: Disk>(
 ) -> Result<(), LookFault>
     ensures adds { OnOk result (IfSome (D.state d.old).view.now (λ f. (stanza : Text) → AreStored stanza f files.now
         → Adds (OfSome (HasOther f) files.now) found.old.items found.new.items)) }
-    ensures looks { Looks (D.state d.old) (D.state d.new) }
+    ensures looks { OnlyReads (D.state d.old) (D.state d.new) }
     ensures cause { IsErrOf result LookFault.Disk → Rises (D.state d.old).faults (D.state d.new).faults }
 {
     for file in files {
@@ -81,7 +81,7 @@ pub(crate) fn look_at_archive<D: Disk>(
 ) -> Result<(), LookFault>
     ensures adds { OnOk result (IfSome (D.state d.old).view.now (λ f. (stanza : Text) → AreStored stanza f files.now
         → Adds (FileDeviates stanza f) found.old.items found.new.items)) }
-    ensures looks { Looks (D.state d.old) (D.state d.new) }
+    ensures looks { OnlyReads (D.state d.old) (D.state d.new) }
     ensures cause { IsErrOf result LookFault.Disk → Rises (D.state d.old).faults (D.state d.new).faults }
 {
     look_at_bytes(alloc, d, files, found)?;

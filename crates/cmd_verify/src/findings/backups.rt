@@ -10,7 +10,7 @@ ghost use Rattle.base_model.specs.Values.{entry_of, manifest_of};
 ghost use Rattle.cmd_verify.specs.Findings.{BackupDeviates, ListedDeviates};
 ghost use Rattle.cmd_verify.specs.Members.{ValueSo};
 ghost use Rattle.cmd_verify.specs.Sharing.{AreListed, OwnDeviates, IsElsewhere};
-ghost use Rattle.base_devices.specs.States.{Looks};
+ghost use Rattle.base_devices.specs.States.{OnlyReads};
 
 use crate::findings::entries::tell_unlike;
 use crate::findings::finding::{Finding, LookFault};
@@ -42,7 +42,7 @@ fn look_at_backup<D: Disk>(
         (IsElsewhere stanza.now f) found.old.items found.new.items)) }
     ensures value { IfOk result (λ v. IfSome (D.state d.old).view.now
         (λ f. ValueSo IsManifestText manifest_of f (manifest_name stanza.now own.now) v)) }
-    ensures looks { Looks (D.state d.old) (D.state d.new) }
+    ensures looks { OnlyReads (D.state d.old) (D.state d.new) }
     ensures cause { IsErrOf result LookFault.Disk → Rises (D.state d.old).faults (D.state d.new).faults }
 {
     let name = manifest_name(alloc, stanza, own)?;
@@ -72,7 +72,7 @@ pub(crate) fn look_at_listed<D: Disk>(
     ensures adds { OnOk result (IfSome (D.state d.old).view.now
         (λ f. AddsMost (ListedDeviates stanza.now f history.now (entry_of entry.now))
         (OwnDeviates stanza.now f entry.now.label) (IsElsewhere stanza.now f) found.old.items found.new.items)) }
-    ensures looks { Looks (D.state d.old) (D.state d.new) }
+    ensures looks { OnlyReads (D.state d.old) (D.state d.new) }
     ensures cause { IsErrOf result LookFault.Disk → Rises (D.state d.old).faults (D.state d.new).faults }
 {
     let name = manifest_name(alloc, stanza, &entry.label)?;

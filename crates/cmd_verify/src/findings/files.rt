@@ -8,7 +8,7 @@ ghost use Rattle.base_model.specs.Values.{FileEntry as Entered, file_entry_of};
 ghost use Rattle.cmd_verify.specs.Findings.{EntryDeviates};
 ghost use Rattle.cmd_verify.specs.Adding.{Adds, OfSome};
 ghost use Rattle.cmd_verify.specs.Sharing.{OwnEntryDeviates};
-ghost use Rattle.base_devices.specs.States.{Looks};
+ghost use Rattle.base_devices.specs.States.{OnlyReads};
 
 use crate::findings::finding::{Finding, LookFault, Mark};
 use crate::findings::place_sum::{deviation, sum_at};
@@ -62,7 +62,7 @@ pub(crate) fn look_at_file<D: Disk>(
     requires reference { IfSome file.now.reference IsLabel }
     ensures adds { OnOk result (IfSome (D.state d.old).view.now
         (λ f. Adds (EntryDeviates stanza.now f own.now (file_entry_of file.now)) found.old.items found.new.items)) }
-    ensures looks { Looks (D.state d.old) (D.state d.new) }
+    ensures looks { OnlyReads (D.state d.old) (D.state d.new) }
     ensures cause { IsErrOf result LookFault.Disk → Rises (D.state d.old).faults (D.state d.new).faults }
 {
     if file.size == 0 {
@@ -97,7 +97,7 @@ fn look_at_own_file<D: Disk>(
     requires reference { IfSome file.now.reference IsLabel }
     ensures adds { OnOk result (IfSome (D.state d.old).view.now
         (λ f. Adds (OwnEntryDeviates stanza.now f own.now (file_entry_of file.now)) found.old.items found.new.items)) }
-    ensures looks { Looks (D.state d.old) (D.state d.new) }
+    ensures looks { OnlyReads (D.state d.old) (D.state d.new) }
     ensures cause { IsErrOf result LookFault.Disk → Rises (D.state d.old).faults (D.state d.new).faults }
 {
     if !lies_in_own(file) {
@@ -121,7 +121,7 @@ pub(crate) fn look_at_own_files<D: Disk>(
     ensures adds { OnOk result (IfSome (D.state d.old).view.now
         (λ f. Adds (OfSome (OwnEntryDeviates stanza.now f own.now) (map file_entry_of files.now)) found.old.items
         found.new.items)) }
-    ensures looks { Looks (D.state d.old) (D.state d.new) }
+    ensures looks { OnlyReads (D.state d.old) (D.state d.new) }
     ensures cause { IsErrOf result LookFault.Disk → Rises (D.state d.old).faults (D.state d.new).faults }
 {
     for file in files {

@@ -9,7 +9,7 @@ ghost use Rattle.base_model.specs.Values.{manifest_of};
 ghost use Rattle.cmd_verify.specs.Findings.{MemberDeviates, BothDeviate, PairDeviates};
 ghost use Rattle.cmd_verify.specs.Members.{IfGood, MemberSo, ValueSo};
 ghost use Rattle.cmd_verify.specs.Adding.{Adds};
-ghost use Rattle.base_devices.specs.States.{Looks};
+ghost use Rattle.base_devices.specs.States.{OnlyReads};
 
 use crate::findings::finding::{Finding, FindingKind, LookFault};
 use base_devices::Disk;
@@ -37,7 +37,7 @@ fn read_member<D: Disk, I: ReadInfo>(
     ensures member { IfOk result (λ m. IfSome (D.state d.old).view.now
         (λ f. MemberSo I.IsText I.value (f name.now) m)) }
     ensures valid { IfOk result (λ m. IfGood I.is_valid m) }
-    ensures looks { Looks (D.state d.old) (D.state d.new) }
+    ensures looks { OnlyReads (D.state d.old) (D.state d.new) }
     ensures cause { IsErrOf result LookFault.Disk → Rises (D.state d.old).faults (D.state d.new).faults }
 {
     match read_whole(alloc, d, name, I::limit()) {
@@ -130,7 +130,7 @@ pub(crate) fn look_at_pair<D: Disk, I: ReadInfo>(
         (λ f. Adds (PairDeviates I.IsText f name.now) found.old.items found.new.items)) }
     ensures value { IfOk result (λ v. IfSome (D.state d.old).view.now (λ f. ValueSo I.IsText I.value f name.now v)) }
     ensures valid { IfOk result (λ v. IfSome v I.is_valid) }
-    ensures looks { Looks (D.state d.old) (D.state d.new) }
+    ensures looks { OnlyReads (D.state d.old) (D.state d.new) }
     ensures cause { IsErrOf result LookFault.Disk → Rises (D.state d.old).faults (D.state d.new).faults }
 {
     let copy_name = format!(in alloc; "{name}.copy")?;
@@ -163,7 +163,7 @@ pub(crate) fn look_at_manifest<D: Disk>(
     ensures value { IfOk result (λ v. IfSome (D.state d.old).view.now
         (λ f. ValueSo IsManifestText manifest_of f name.now v)) }
     ensures rules { IfOk result (λ v. IfSome v (λ m. IsManifest (manifest_of m))) }
-    ensures looks { Looks (D.state d.old) (D.state d.new) }
+    ensures looks { OnlyReads (D.state d.old) (D.state d.new) }
     ensures cause { IsErrOf result LookFault.Disk → Rises (D.state d.old).faults (D.state d.new).faults }
 {
     match look_at_pair(alloc, d, name, found)? {

@@ -5,7 +5,7 @@ ghost use Rattle.base_devices.specs.Cause.{HasCause};
 ghost use Rattle.cmd_verify.specs.Findings.{BytesDeviate};
 ghost use Rattle.cmd_verify.specs.Lies.{LiesSo, ShowsJustOne};
 ghost use Rattle.cmd_verify.specs.What.{Short, Digest, line_of};
-ghost use Rattle.base_devices.specs.States.{Looks};
+ghost use Rattle.base_devices.specs.States.{OnlyReads};
 
 use crate::findings::finding::{FindingKind, Mark};
 use base_devices::{DeviceError, Disk};
@@ -36,7 +36,7 @@ pub(crate) fn sum_at<D: Disk>(
 ) -> Result<Lies, DeviceError>
     requires { 0 < size }
     ensures lies { IfOk result (λ r. IfSome (D.state d.old).view.now (λ f. LiesSo (f name.now) at size r)) }
-    ensures looks { Looks (D.state d.old) (D.state d.new) }
+    ensures looks { OnlyReads (D.state d.old) (D.state d.new) }
     ensures cause { HasCause (D.state d.old).faults (D.state d.new).faults result }
 {
     let mut digest = Sha1::new();

@@ -1,7 +1,7 @@
 // Files of a backup that lie in the folder of another one. What that one has as its own is looked at in its turn.
 ghost use Rattle.std.specs.Prelude.{◌≡◌, ◌≢◌, false, Some, IfOk, IfSome, IsTrue, OnOk, IsErrOf, map};
 ghost use Rattle.base_devices.specs.Cause.{Rises};
-ghost use Rattle.base_devices.specs.States.{Looks};
+ghost use Rattle.base_devices.specs.States.{OnlyReads};
 ghost use Rattle.base_model.specs.declared.labels.Label.{Label as LabelOf};
 ghost use Rattle.base_model.specs.InfoFiles.{IsLabel};
 ghost use Rattle.base_model.specs.Text.{In};
@@ -82,7 +82,7 @@ fn look_at_referring<D: Disk>(
     ensures adds { OnOk result (IfSome (D.state d.old).view.now
         (λ f. AddsMost (ReferredDeviates stanza.now f own.now label.now (file_entry_of file.now)) Never
         (IsElsewhere stanza.now f) found.old.items found.new.items)) }
-    ensures looks { Looks (D.state d.old) (D.state d.new) }
+    ensures looks { OnlyReads (D.state d.old) (D.state d.new) }
     ensures cause { IsErrOf result LookFault.Disk → Rises (D.state d.old).faults (D.state d.new).faults }
 {
     if !lies_with(file, label) {
@@ -107,7 +107,7 @@ fn files_of<D: Disk>(
     requires listed { IfSome (D.state d.old).view.now (λ f. AreListed stanza.now listed.now f) }
     ensures files { IfOk result (λ files. IfSome (D.state d.old).view.now
         (λ f. AreFilesOf stanza.now f label.now (map file_entry_of files.items))) }
-    ensures looks { Looks (D.state d.old) (D.state d.new) }
+    ensures looks { OnlyReads (D.state d.old) (D.state d.new) }
     ensures cause { IsErrOf result LookFault.Disk → Rises (D.state d.old).faults (D.state d.new).faults }
 {
     if !is_among(listed, label) {
@@ -140,7 +140,7 @@ fn look_at_label<D: Disk>(
     ensures adds { OnOk result (IfSome (D.state d.old).view.now
         (λ f. AddsMost (OfSome (ReferredDeviates stanza.now f own.now label.now) (map file_entry_of files.now))
         Never (IsElsewhere stanza.now f) found.old.items found.new.items)) }
-    ensures looks { Looks (D.state d.old) (D.state d.new) }
+    ensures looks { OnlyReads (D.state d.old) (D.state d.new) }
     ensures cause { IsErrOf result LookFault.Disk → Rises (D.state d.old).faults (D.state d.new).faults }
 {
     for file in files {
@@ -167,7 +167,7 @@ fn look_at_labels<D: Disk>(
     ensures adds { OnOk result (IfSome (D.state d.old).view.now
         (λ f. AddsMost (OfSome (SharedDeviates stanza.now f own.now (map file_entry_of files.now)) labels.now)
         Never (IsElsewhere stanza.now f) found.old.items found.new.items)) }
-    ensures looks { Looks (D.state d.old) (D.state d.new) }
+    ensures looks { OnlyReads (D.state d.old) (D.state d.new) }
     ensures cause { IsErrOf result LookFault.Disk → Rises (D.state d.old).faults (D.state d.new).faults }
 {
     for label in labels {
@@ -195,7 +195,7 @@ pub(crate) fn look_at_files<D: Disk>(
         (λ f. AddsMost (OfSome (EntryDeviates stanza.now f own.now) (map file_entry_of files.now))
         (OfSome (OwnEntryDeviates stanza.now f own.now) (map file_entry_of files.now)) (IsElsewhere stanza.now f)
         found.old.items found.new.items)) }
-    ensures looks { Looks (D.state d.old) (D.state d.new) }
+    ensures looks { OnlyReads (D.state d.old) (D.state d.new) }
     ensures cause { IsErrOf result LookFault.Disk → Rises (D.state d.old).faults (D.state d.new).faults }
 {
     look_at_own_files(alloc, d, stanza, own, files, found)?;

@@ -16,7 +16,7 @@ ghost use Rattle.cmd_verify.specs.Exact.{AreFindings, PairsDeviate};
 ghost use Rattle.cmd_verify.specs.Faults.{VerifyCause};
 ghost use Rattle.cmd_verify.specs.Findings.{FileDeviates, ListedDeviates};
 ghost use Rattle.cmd_verify.specs.Sharing.{AreListed, OwnDeviates, IsElsewhere};
-ghost use Rattle.base_devices.specs.States.{Looks};
+ghost use Rattle.base_devices.specs.States.{OnlyReads};
 
 use crate::findings::archive::look_at_archive;
 use crate::findings::backups::look_at_listed;
@@ -58,7 +58,7 @@ fn look_at_backups<D: Disk>(
         (λ f. AddsMost (OfSome (ListedDeviates stanza.now f history.now) (map entry_of entries.now))
         (OfSome (λ (e : Listed). OwnDeviates stanza.now f e.label) (map entry_of entries.now))
         (IsElsewhere stanza.now f) found.old.items found.new.items)) }
-    ensures looks { Looks (D.state d.old) (D.state d.new) }
+    ensures looks { OnlyReads (D.state d.old) (D.state d.new) }
     ensures cause { IsErrOf result LookFault.Disk → Rises (D.state d.old).faults (D.state d.new).faults }
 {
     for entry in entries {
@@ -76,7 +76,7 @@ fn look_at_pairs<D: Disk>(
 ) -> Result<(), LookFault>
     ensures adds { OnOk result (IfSome (D.state d.old).view.now
         (λ f. Adds (PairsDeviate stanza.now f) found.old.items found.new.items)) }
-    ensures looks { Looks (D.state d.old) (D.state d.new) }
+    ensures looks { OnlyReads (D.state d.old) (D.state d.new) }
     ensures cause { IsErrOf result LookFault.Disk → Rises (D.state d.old).faults (D.state d.new).faults }
 {
     let archive = format!(in alloc; "archive/{stanza}/archive.info")?;
@@ -97,7 +97,7 @@ fn look_at_files_of<D: Disk>(
         (λ f. Adds (FileDeviates stanza.now f) found.old.items found.new.items)) }
     ensures stored { IfOk result
         (λ files. IfSome (D.state d.old).view.now (λ f. AreStored stanza.now f files.items)) }
-    ensures looks { Looks (D.state d.old) (D.state d.new) }
+    ensures looks { OnlyReads (D.state d.old) (D.state d.new) }
     ensures cause { IfErr result (VerifyCause stanza.now (D.state d.old).view.now
         (Rises (D.state d.old).faults (D.state d.new).faults)) }
 {
@@ -121,7 +121,7 @@ pub fn verify<D: Disk>(
         (λ found. IfSome (D.state d.old).view.now (λ f. AreFindings stanza.now f found.items)) }
     ensures clean { IfOk result (λ found. IfSome (D.state d.old).view.now (λ f. (s : Stanza)
         → HasStanza stanza.now f s → IsSoundStanza s → MembersAgree stanza.now f s → found.items ≡ [])) }
-    ensures looks { Looks (D.state d.old) (D.state d.new) }
+    ensures looks { OnlyReads (D.state d.old) (D.state d.new) }
     ensures cause { IfErr result (VerifyCause stanza.now (D.state d.old).view.now
         (Rises (D.state d.old).faults (D.state d.new).faults)) }
 {

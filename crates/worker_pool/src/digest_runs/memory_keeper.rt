@@ -3,7 +3,7 @@ ghost use Rattle.std.specs.Prelude.{◌≡◌, ◌<◌, ℕ, None, [], ⊤, leng
 ghost use Rattle.std.proofs.Common.{refl, ◌∙◌};
 ghost use Rattle.worker_protocol.specs.Views.{job_of};
 ghost use Rattle.worker_protocol.specs.PartSinkState.{KeepLeaves, Adds, Ends, Clears, IsFresh, IsNext, HasRoom};
-ghost use Rattle.base_devices.specs.declared.stop.DeviceError.TheVariants.{NoMemory};
+ghost use Rattle.base_devices.specs.declared.device_error.DeviceError.TheVariants.{NoMemory};
 ghost use Rattle.worker_pool.specs.Holdings.{held_job, done_item, state_of, IsEmpty};
 
 use base_devices::DeviceError;

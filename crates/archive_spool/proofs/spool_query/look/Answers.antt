@@ -1,5 +1,5 @@
 use Rattle.std.proofs.Common.{◌∙◌}
-use Rattle.archive_spool.proofs.Looks.{done_by}
+use Rattle.archive_spool.proofs.OnlyReads.{done_by}
 use Rattle.archive_spool.proofs.spool_query.look.Goals as goal
 
 pub returns-then-branch-clause-answers : goal.returns-then-branch-clause-answers

@@ -5,7 +5,7 @@ use Rattle.base_model.specs.Text.{Text}
 use Rattle.base_model.specs.declared.wal.ArchiveId.{ArchiveId}
 use Rattle.base_model.specs.declared.wal.ArchiveName.{ArchiveName}
 use Rattle.archive_lookup.specs.Fault.{fault_of_store}
-use Rattle.archive_lookup.specs.Looks.{AreNamesOf}
+use Rattle.archive_lookup.specs.OnlyReads.{AreNamesOf}
 use Rattle.archive_lookup.specs.Paths.{has_sum}
 use Rattle.archive_lookup.specs.Causes.{GetCause}
 use Rattle.archive_store.proofs.Got.{other_cause, err_by}

@@ -2,7 +2,7 @@ use Rattle.std.proofs.Common.{rules, [], ◌≡◌, ◌∙◌, string_bytes}
 use Rattle.sha1.specs.Sha1.{sha1}
 use Rattle.base_disk.specs.Staged.{staged_name}
 use Rattle.base_disk.proofs.Replaced.{published_only}
-use Rattle.archive_lookup.specs.Looks.{path_with}
+use Rattle.archive_lookup.specs.OnlyReads.{path_with}
 use Rattle.archive_store.proofs.Piecewise.{some_read}
 use Rattle.archive_store.proofs.Putting.{time_at, now_at, stages_part, puts_part, puts_whole}
 use Rattle.archive_store.proofs.staging.put_new.Goals as goal

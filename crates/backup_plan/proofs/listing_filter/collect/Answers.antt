@@ -1,7 +1,7 @@
 use Rattle.std.proofs.Common.{List, map, subst}
 use Rattle.std.proofs.lemmas.List.{take_all}
 use Rattle.std.proofs.lemmas.Result.{err_from_is_err_and}
-use Rattle.base_devices.specs.declared.tree.FolderEntry as rust
+use Rattle.base_devices.specs.declared.data_folder.FolderEntry as rust
 use Rattle.backup_plan.specs.Filter.{kept, IsFine, IsTimed, AreFine, AreTimed}
 use Rattle.backup_plan.specs.Views.{seen_of}
 use Rattle.backup_plan.proofs.Taking.{all_next, files_next, folders_next, refused_here}

@@ -1,7 +1,7 @@
 use Rattle.std.proofs.Common.{◌≡◌, ◌≤◌, ◌++◌, List, length, Option}
 use Rattle.std.specs.Prelude.{IfSome}
 use Rattle.base_devices.specs.Content.{Content}
-use Rattle.base_devices.specs.States.{Looks}
+use Rattle.base_devices.specs.States.{OnlyReads}
 use Rattle.base_model.specs.declared.clusters.ClusterId.{ClusterId}
 use Rattle.cmd_archive_get.specs.Getting.{AbsentIn}
 use Rattle.cmd_archive_get.specs.Serving.{IsLeft}
@@ -11,7 +11,7 @@ abbrev pub invariant-loop-cluster : goal.invariant-loop-cluster
 invariant-loop-cluster g l = let D = g.D.Disk in let T = g.T.DataFolder in record {
   parts : (seen : List ClusterId) × (l.history ≡ l.rest ++ seen) × ((f : Option Content) → IsLeft l.stanza (D.state l.fn.repo).view (D.state l.repo).view f → IfSome f (AbsentIn seen l.stanza l.known l.order.name));
   nodes : (T.state l.tree).nodes ≡ (T.state l.fn.tree).nodes;
-  looks : Looks (D.state l.fn.repo) (D.state l.repo);
+  looks : OnlyReads (D.state l.fn.repo) (D.state l.repo);
   tree_place : (T.state l.tree).opened ≡ (T.state l.fn.tree).opened;
   tree_later : (T.state l.fn.tree).faults ≤ (T.state l.tree).faults;
 }

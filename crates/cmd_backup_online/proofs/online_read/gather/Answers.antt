@@ -1,7 +1,7 @@
 use Rattle.std.proofs.Common.{◌≡◌, ◌<◌, ◌^◌, List, map, length, refl, sym, subst}
 use Rattle.std.specs.Prelude.{IfSome}
 use Rattle.base_devices.specs.Cause.{Rises}
-use Rattle.base_devices.specs.declared.tree.FolderEntry as rust_seen
+use Rattle.base_devices.specs.declared.data_folder.FolderEntry as rust_seen
 use Rattle.base_devices.specs.DataFolder.{IsTreeListing}
 use Rattle.base_model.specs.Values.{backup_info_of, file_entry_of}
 use Rattle.backup_plan.specs.Views.{seen_of}

@@ -1,6 +1,6 @@
 use Rattle.std.proofs.Common.{◌≡◌, IfSome}
 use Rattle.std.specs.Prelude.{IsSome}
-use Rattle.base_devices.specs.States.{Frame}
+use Rattle.base_devices.specs.States.{CallsProperly}
 use Rattle.base_model.specs.declared.clusters.ClusterId.{ClusterId}
 use Rattle.base_crash_lists.specs.Beside.{StaysBeside}
 use Rattle.cmd_types.specs.Current.{HasCurrent, id_kept}
@@ -17,5 +17,5 @@ invariant-loop-before g l =
       current : (c : ClusterId) → IfSome was.view.now (λ f. HasCurrent l.stanza f c) → IsSome was.view.now → IfSome now.view.now (λ f. HasCurrent l.stanza f c);
       known : IsSome was.view.now → IsSome now.view.now;
       beside : StaysBeside l.stanza was.view now.view;
-      frame : Frame was now;
+      frame : CallsProperly was now;
     }

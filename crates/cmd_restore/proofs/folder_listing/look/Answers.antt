@@ -1,6 +1,6 @@
 use Rattle.std.proofs.Common.{List, map, subst}
 use Rattle.base_devices.specs.Cause.{Rises}
-use Rattle.base_devices.specs.declared.tree.FolderEntry.{FolderEntry}
+use Rattle.base_devices.specs.declared.data_folder.FolderEntry.{FolderEntry}
 use Rattle.restore_steps.specs.Clearing.{seen_of}
 use Rattle.cmd_types.specs.declared.stages.object.Object.TheVariants.{TheDataFolder}
 use Rattle.cmd_types.specs.Halts.{HaltCause, Only}

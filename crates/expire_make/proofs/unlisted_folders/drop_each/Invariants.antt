@@ -1,5 +1,5 @@
 use Rattle.std.proofs.Common.{◌≡◌, false, map}
-use Rattle.base_devices.specs.States.{Looks}
+use Rattle.base_devices.specs.States.{OnlyReads}
 use Rattle.base_model.specs.Values.{entry_of}
 use Rattle.expire_rules.specs.Labels.{labels_of}
 use Rattle.expire_make.specs.Losing.{TakesAway, IsUnlisted}
@@ -8,5 +8,5 @@ use Rattle.expire_make.proofs.unlisted_folders.drop_each.Given as goal
 abbrev pub invariant-loop-name : goal.invariant-loop-name
 invariant-loop-name g l = let D = g.D.Disk in record {
   takes : TakesAway (IsUnlisted l.stanza (labels_of (map entry_of l.entries))) (D.state l.fn.d) (D.state l.d);
-  idle : l.is_dropped ≡ false → Looks (D.state l.fn.d) (D.state l.d);
+  idle : l.is_dropped ≡ false → OnlyReads (D.state l.fn.d) (D.state l.d);
 }

@@ -1,7 +1,7 @@
 use Rattle.std.proofs.Common.{◌≡◌, List, map, string_bytes, sym, subst, rules}
 use Rattle.std.specs.String.{string_cmp}
 use Rattle.std.specs.BTreeMap.{IsOrdered}
-use Rattle.base_devices.specs.declared.tree.Node.{Node}
+use Rattle.base_devices.specs.declared.data_folder.Node.{Node}
 use Rattle.base_devices.specs.Content.{Name}
 use Rattle.base_devices.specs.DataFolder.{IsTreeListing}
 use Rattle.memory_devices.specs.Nodes.{nodes_at}

@@ -1,6 +1,6 @@
 use Rattle.std.proofs.Common.{◌≡◌, ◌∙◌, ◌+◌, ◌++◌, ◌∷◌, [], sym, ap, subst, arith, map, take, List}
 use Rattle.std.proofs.lemmas.List.{map-append}
-use Rattle.base_devices.specs.declared.tree.Node.{Node}
+use Rattle.base_devices.specs.declared.data_folder.Node.{Node}
 use Rattle.base_model.specs.Text.{Text}
 use Rattle.base_model.specs.Values.{file_entry_of}
 use Rattle.restore_steps.specs.Clearing.{seen_of}

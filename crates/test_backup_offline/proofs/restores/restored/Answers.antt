@@ -1,6 +1,6 @@
 use Rattle.std.proofs.Common.{List, Option, map, sym, subst}
 use Rattle.std.specs.Prelude.{IfSome}
-use Rattle.base_devices.specs.declared.tree.FolderEntry.{FolderEntry}
+use Rattle.base_devices.specs.declared.data_folder.FolderEntry.{FolderEntry}
 use Rattle.base_devices.specs.DataFolder.{Nodes, IsTreeListing}
 use Rattle.restore_steps.specs.Clearing.{seen_of}
 use Rattle.test_backup_offline.proofs.restores.restored.Goals as goal

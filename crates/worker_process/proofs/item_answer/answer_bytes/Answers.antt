@@ -3,7 +3,7 @@ use Rattle.std.specs.Prelude.{IfSome}
 use Rattle.sha1.specs.Sha1.{Holds}
 use Rattle.base_devices.specs.Cause.{Rises}
 use Rattle.base_devices.specs.Content.{Content}
-use Rattle.base_devices.specs.declared.stop.DeviceError.{DeviceError}
+use Rattle.base_devices.specs.declared.device_error.DeviceError.{DeviceError}
 use Rattle.worker_process.specs.declared.serve_fault.ServeFault.TheVariants.{NoMemory}
 use Rattle.base_model.specs.Text.{Text}
 use Rattle.worker_protocol.specs.Frames.{part_size}

@@ -1,5 +1,5 @@
 use Rattle.std.proofs.Common.{Err, ap, string_bytes}
-use Rattle.base_devices.specs.declared.stop.DeviceError.{DeviceError}
+use Rattle.base_devices.specs.declared.device_error.DeviceError.{DeviceError}
 use Rattle.base_devices.specs.Cause.{Rises}
 use Rattle.worker_process.specs.declared.serve_fault.ServeFault.TheVariants.{NoMemory}
 use Rattle.worker_protocol.specs.Views.{item_of}

@@ -1,5 +1,5 @@
 use Rattle.std.proofs.Common.{◌≡◌, ◌≤◌, ◌+◌, Some, take}
-use Rattle.base_devices.specs.States.{Frame, LooksAt}
+use Rattle.base_devices.specs.States.{CallsProperly, OnlyReadsFolder}
 use Rattle.base_devices.specs.DataFolder.{Nodes}
 use Rattle.archive_lookup.specs.Stored.{ChangesArchive}
 use Rattle.cmd_archive_push_async.specs.Draining.{Drains}
@@ -13,7 +13,7 @@ invariant-loop-name g l = let D = g.D.Disk in let S = g.S.Disk in let T = g.T.Da
   pair : KeepsPair l.stanza (D.state l.fn.repo).view (D.state l.repo).view;
   repo_only : ChangesArchive l.stanza (D.state l.fn.repo).view (D.state l.repo).view;
   spool_only : ChangesArchive l.stanza (S.state l.fn.spool).view (S.state l.spool).view;
-  repo_frame : Frame (D.state l.fn.repo) (D.state l.repo);
-  spool_frame : Frame (S.state l.fn.spool) (S.state l.spool);
-  looks : LooksAt (T.state l.fn.tree) (T.state l.tree);
+  repo_frame : CallsProperly (D.state l.fn.repo) (D.state l.repo);
+  spool_frame : CallsProperly (S.state l.fn.spool) (S.state l.spool);
+  looks : OnlyReadsFolder (T.state l.fn.tree) (T.state l.tree);
 }

@@ -1,6 +1,6 @@
 use Rattle.std.proofs.Common.{◌≡◌, List, true, false, sym, ◌∙◌, ap}
 use Rattle.std.specs.List.{list_any}
-use Rattle.base_devices.specs.declared.tree.FolderEntry as rust_seen
+use Rattle.base_devices.specs.declared.data_folder.FolderEntry as rust_seen
 use Rattle.cmd_backup_common.proofs.Beginnings.{is_pid, look_stops, is_there, is_not_there}
 use Rattle.cmd_backup_common.proofs.parts.data_listing.look.Goals as goal
 

@@ -1,13 +1,13 @@
 use Rattle.std.proofs.Common.{◌-◌, ◌≡◌, ◌≤◌, length}
 use Rattle.sha1.specs.Sha1.{Holds}
 use Rattle.base_model.specs.Text.{Text}
-use Rattle.base_devices.specs.States.{Looks}
+use Rattle.base_devices.specs.States.{OnlyReads}
 use Rattle.cmd_verify.proofs.Pieces.{IsRead}
 use Rattle.cmd_verify.proofs.findings.place_sum.sum_at.Given as goal
 
 abbrev pub invariant-loop-count : goal.invariant-loop-count
 invariant-loop-count g l = let D = g.D.Disk in record {
-  looks : Looks (D.state l.fn.d) (D.state l.d);
+  looks : OnlyReads (D.state l.fn.d) (D.state l.d);
   within : l.count ≤ l.size;
   so_far : (bytes : Text) × (length bytes ≡ l.count) × Holds l.digest bytes × IsRead (D.state l.fn.d).view.now l.name l.at bytes l.count;
 }

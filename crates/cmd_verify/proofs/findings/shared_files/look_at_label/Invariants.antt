@@ -1,6 +1,6 @@
 use Rattle.std.proofs.Common.{take, map}
 use Rattle.std.specs.Prelude.{IfSome}
-use Rattle.base_devices.specs.States.{Looks}
+use Rattle.base_devices.specs.States.{OnlyReads}
 use Rattle.base_model.specs.Values.{FileEntry, file_entry_of}
 use Rattle.cmd_verify.specs.Adding.{AddsMost, OfSome, Never}
 use Rattle.cmd_verify.specs.Sharing.{ReferredDeviates, IsElsewhere}
@@ -10,5 +10,5 @@ abbrev pub invariant-loop-file : goal.invariant-loop-file
 invariant-loop-file g l = let D = g.D.Disk in record {
   adds : IfSome (D.state l.fn.d).view.now (λ f. AddsMost (OfSome (ReferredDeviates l.stanza f l.own l.label) (map file_entry_of (take l.file-index l.files)))
       (OfSome (λ (e : FileEntry). Never) (map file_entry_of (take l.file-index l.files))) (IsElsewhere l.stanza f) l.fn.found.items l.found.items);
-  looks : Looks (D.state l.fn.d) (D.state l.d);
+  looks : OnlyReads (D.state l.fn.d) (D.state l.d);
 }

@@ -18,6 +18,6 @@ returns-clause-did g c =
 
 pub returns-in_err-take_locks-clause-only : goal.returns-in_err-take_locks-clause-only
 returns-in_err-take_locks-clause-only g c = inr (
-  subst (λ (p : Plan). MayTake p c.args.settings.now.lock_path.now c.args.settings.now.stanza.now (g.K.Locks.state c.args.self.now.locks).took (g.K.Locks.state c.take_locks.new.locks).took) c.requires.plan c.in_err-take_locks.ensures.may,
+  subst (λ (p : Plan). MayTake p c.args.settings.now.lock_path.now c.args.settings.now.stanza.now (g.K.Locks.state c.args.self.now.locks).ever_taken (g.K.Locks.state c.take_locks.new.locks).ever_taken) c.requires.plan c.in_err-take_locks.ensures.may,
   still_self (g.D.Disk.state c.args.self.now.repo).view,
 )

@@ -24,7 +24,7 @@ pub returns-in-Staged-clause-brackets : goal.returns-in-Staged-clause-brackets
 returns-in-Staged-clause-brackets g c =
     let e = c.in_ok-open.ensures in
     let w = c.under_locks.ensures in
-    brackets_on (asked_of c.args.settings.now) _ _ _ c.under_locks.result e.read.repo (ap (λ s. (g.K.Locks.state s.locks).took) e.rest) e.places e.opened w.places w.took w.only
+    brackets_on (asked_of c.args.settings.now) _ _ _ c.under_locks.result e.read.repo (ap (λ s. (g.K.Locks.state s.locks).ever_taken) e.rest) e.places e.opened w.places w.ever_taken w.only
 
 pub returns-in-Left-clause-did : goal.returns-in-Left-clause-did
 returns-in-Left-clause-did g c =
@@ -42,7 +42,7 @@ returns-in-Left-clause-brackets g c =
     let w = c.queue_file.ensures in
     let o = c.in-Left.order in
     left_brackets (asked_of c.args.settings.now) o.push.path.now (leaving_of o) (left_is (request_of c.args.settings.now.request) c.args.settings.now.pg1_path.now o (course_left (request_of c.args.settings.now.request) c.args.settings.now.pg1_path.now c.args.course o c.in-Left.is c.requires.course))
-    _ _ _ c.queue_file.result e.read.repo (ap (λ s. (g.K.Locks.state s.locks).took) e.rest) e.places e.opened w.places (ap (λ s. (g.K.Locks.state s.locks).took) w.rest)
+    _ _ _ c.queue_file.result e.read.repo (ap (λ s. (g.K.Locks.state s.locks).ever_taken) e.rest) e.places e.opened w.places (ap (λ s. (g.K.Locks.state s.locks).ever_taken) w.rest)
 
 pub returns-in_err-open-clause-waits : goal.returns-in_err-open-clause-waits
 returns-in_err-open-clause-waits g c = λ off.

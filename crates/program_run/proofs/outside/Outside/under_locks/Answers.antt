@@ -8,4 +8,4 @@ returns-in_err-names-clause-did g c = starved (asked_of c.args.settings.now) _ c
 pub returns-clause-did : goal.returns-clause-did
 returns-clause-did g c =
     let e = c.release_locks.ensures in
-    did_released (asked_of c.args.settings.now) _ _ _ c.locked-ended.result e.took e.refusals e.faults c.locked-ended.ensures.did
+    did_released (asked_of c.args.settings.now) _ _ _ c.locked-ended.result e.ever_taken e.refusals e.faults c.locked-ended.ensures.did

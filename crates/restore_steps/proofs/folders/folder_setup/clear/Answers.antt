@@ -1,5 +1,5 @@
 use Rattle.std.proofs.Common.{◌≡◌, ◌∙◌, sym, ap, arith, List, ◌++◌, ◌∷◌, map, take, drop, suc, ◌-◌, option_map}
-use Rattle.base_devices.specs.declared.tree.FolderEntry.{FolderEntry}
+use Rattle.base_devices.specs.declared.data_folder.FolderEntry.{FolderEntry}
 use Rattle.base_model.specs.Values.{manifest_of}
 use Rattle.restore_steps.specs.Clearing.{without, seen_of}
 use Rattle.restore_steps.proofs.Cleared.{cleared_more}

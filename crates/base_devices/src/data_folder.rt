@@ -2,7 +2,7 @@
 ghost use Rattle.std.specs.Prelude.{◌≡◌, ◌≤◌, [], ℕ, List, Option, Some, None, map, option_map, IfOk, OnOk, IfSome, IsTrue, length, string_bytes};
 ghost use Rattle.base_devices.specs.Content.{Reads};
 ghost use Rattle.base_devices.specs.DataFolder.{Nodes, file, folder as folder_node, IsTreeListing, known_path, file_bytes, IsPlaced, IsFileAt, IsBare, with_node, lengthened_file, moved_node, ChangesTree, ChangesFile, BeginsNew};
-ghost use Rattle.base_devices.specs.States.{DataFolderState, Opens, LooksAt};
+ghost use Rattle.base_devices.specs.States.{DataFolderState, Opens, OnlyReadsFolder};
 ghost use Rattle.base_devices.specs.Cause.{HasCause};
 
 use crate::DeviceError;
@@ -52,7 +52,7 @@ pub trait DataFolder {
         ensures listing { IfOk result
             (λ seen. IfSome (state self.old).nodes
             (λ f. IsTreeListing f (map (λ s. (string_bytes s.path, s.node)) seen.items))) }
-        ensures looks { LooksAt (state self.old) (state self.new) }
+        ensures looks { OnlyReadsFolder (state self.old) (state self.new) }
         ensures cause { HasCause (state self.old).faults (state self.new).faults result };
 
     /// Bytes of a known file from a place on: None where it isn't a file that is there, 0 at its end.
@@ -66,7 +66,7 @@ pub trait DataFolder {
             (λ n. IfSome (state self.old).nodes
             (λ f. Reads (file_bytes (f (known_path what.now))) at (length buf.old) buf.new n)) }
         ensures room { IfOk result (λ n. IfSome n (λ n. n ≤ length buf.old)) }
-        ensures looks { LooksAt (state self.old) (state self.new) }
+        ensures looks { OnlyReadsFolder (state self.old) (state self.new) }
         ensures cause { HasCause (state self.old).faults (state self.new).faults result };
 
     /// How many bytes a known file has: None where it isn't a file that is there.
@@ -74,7 +74,7 @@ pub trait DataFolder {
         ensures size { IfOk result
             (λ n. IfSome (state self.old).nodes (λ f. n
             ≡ option_map length (file_bytes (f (known_path what.now))))) }
-        ensures looks { LooksAt (state self.old) (state self.new) }
+        ensures looks { OnlyReadsFolder (state self.old) (state self.new) }
         ensures cause { HasCause (state self.old).faults (state self.new).faults result };
 
     /// Makes a folder.

@@ -1,6 +1,6 @@
 // Why a call fails.
 ghost use Rattle.std.specs.Prelude.{◌≡◌};
-ghost use Rattle.base_devices.specs.declared.stop.DeviceError.TheVariants.{NoMemory};
+ghost use Rattle.base_devices.specs.declared.device_error.DeviceError.TheVariants.{NoMemory};
 
 use std::alloc::{AllocError, AllocFailed};
 
