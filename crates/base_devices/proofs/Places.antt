@@ -1,5 +1,5 @@
 -- Places that were opened.
-use Rattle.std.proofs.Common.{◌≡◌, ◌∷◌, List, Result, Ok, Err, inl, inr, refl, ap, ◌∙◌}
+use Rattle.std.proofs.Common.{List, Result, Ok, Err, inr}
 use Rattle.std.specs.Prelude.{OnOk}
 use Rattle.base_devices.specs.Content.{Name}
 use Rattle.base_devices.specs.States.{IsOpened, OpensOnly, Opens}

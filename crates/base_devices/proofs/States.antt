@@ -1,5 +1,5 @@
 -- What calls leave of a device, one after another.
-use Rattle.std.proofs.Common.{◌≡◌, ◌∙◌, refl, arith}
+use Rattle.std.proofs.Common.{◌∙◌, arith}
 use Rattle.base_devices.specs.States.{DiskState, OnlyReads}
 use Rattle.base_devices.proofs.Steps.{goes_on}
 

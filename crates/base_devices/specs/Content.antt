@@ -34,6 +34,10 @@ moved from to f = put to (f from) (put from None f)
 abbrev pub is_below : Name → Name → Bool
 is_below folder name = starts_with nat_eq name (folder ++ 47 ∷ [])
 
+-- the same as a statement
+abbrev pub IsBelow : Name → Name → Type 0
+IsBelow folder name = IsTrue (is_below folder name)
+
 -- the name lies in the folder, and in none within it
 abbrev pub LiesDirectlyIn : Name → Name → Type 0
 LiesDirectlyIn folder name = (last : Name) × (name ≡ folder ++ 47 ∷ last) × ¬ Contains last 47
@@ -95,3 +99,8 @@ pub record ReadsPart (bytes : List ℕ) (at room : ℕ) (new : List ℕ) (n : �
 abbrev pub Reads : Value → ℕ → ℕ → List ℕ → Option ℕ → Type 0
 Reads None at room new answer = answer ≡ None
 Reads (Some bytes) at room new answer = IsSomeAnd answer (λ n. ReadsPart bytes at room new n)
+
+-- what a read of the name into a buffer gives, where the content is known
+abbrev pub ReadsFrom : Option Content → Name → ℕ → List ℕ → List ℕ → Option ℕ → Type 0
+ReadsFrom content name at old_buf new_buf answer = IfSome content
+    (λ f. Reads (f name) at (length old_buf) new_buf answer)

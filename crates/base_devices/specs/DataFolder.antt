@@ -65,6 +65,14 @@ IsBare nodes path = IfSome nodes (λ f. (rest : Name) → f (path ++ 47 ∷ rest
 abbrev pub with_node : Name → Option Held → Nodes → Nodes
 with_node = set_at
 
+-- a folder at a path
+abbrev pub with_folder : Name → Nodes → Nodes
+with_folder path = with_node path (Some folder)
+
+-- a file of no bytes at a path, with this time
+abbrev pub with_empty_file : Name → ℕ → Nodes → Nodes
+with_empty_file path time = with_node path (Some (file [] time))
+
 -- a file with more bytes at its end, and this time
 abbrev pub longer : List ℕ → ℕ → Option Held → Option Held
 longer more time (Some (file bytes old)) = Some (file (bytes ++ more) time)
@@ -86,10 +94,18 @@ abbrev pub ChangesFile : {T E : Type 0} → Result T E → Name → (ℕ → Nod
 ChangesFile result path change old new =
     MatchResult result (λ _. (time : ℕ) × (new ≡ option_map (change time) old)) (λ _. SameBut path old new)
 
+-- At `Ok` a file of no bytes is at the path, with some time. At an `Err` only the file itself may have changed.
+abbrev pub BeginsEmpty : {T E : Type 0} → Result T E → Name → Option Nodes → Option Nodes → Type 0
+BeginsEmpty result path old new = ChangesFile result path (with_empty_file path) old new
+
+-- At `Ok` the file has more bytes at its end. At an `Err` only the file itself may have changed.
+abbrev pub AppendsFile : {T E : Type 0} → Result T E → Name → List ℕ → Option Nodes → Option Nodes → Type 0
+AppendsFile result path bytes old new = ChangesFile result path (lengthened_file path bytes) old new
+
 -- At `Ok true` nothing was at the path, and an empty file is, with some time. At `Ok false` something was, and the tree
 -- is as before. At an `Err` only the file itself may have changed.
 abbrev pub BeginsNew : {E : Type 0} → Result Bool E → Name → Option Nodes → Option Nodes → Type 0
 BeginsNew (Ok true) path old new = IfSome old (λ f. f path ≡ None)
-    × ((time : ℕ) × (new ≡ option_map (with_node path (Some (file [] time))) old))
+    × ((time : ℕ) × (new ≡ option_map (with_empty_file path time) old))
 BeginsNew (Ok false) path old new = IfSome old (λ f. IsSome (f path)) × (new ≡ old)
 BeginsNew (Err e) path old new = SameBut path old new

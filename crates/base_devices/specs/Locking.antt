@@ -1,5 +1,5 @@
 -- Which locks a program has.
-use Rattle.std.specs.Prelude.{ℕ, List, ◌∷◌, not, bytes_eq, filter}
+use Rattle.std.specs.Prelude.{List, ◌∷◌, not, bytes_eq, filter}
 use Rattle.base_devices.specs.Content.{Name}
 use Rattle.base_devices.specs.declared.locks.LockAnswer.{LockAnswer}
 use Rattle.base_devices.specs.declared.locks.LockAnswer.TheVariants.{Acquired, Busy}

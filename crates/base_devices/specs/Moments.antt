@@ -1,5 +1,5 @@
 -- What a crash leaves, at each moment of a disk.
-use Rattle.std.specs.Prelude.{◌≡◌, ◌⊎◌, ◌≤◌, ℕ, Bool, true, false, Option, Some, IsTrue, IsSome}
+use Rattle.std.specs.Prelude.{◌≡◌, ◌⊎◌, ◌≤◌, ℕ, Bool, true, false, Option, None, IsTrue, IsSome}
 use Rattle.base_devices.specs.Content.{Name, Value, Content, Holds}
 
 -- what names may hold after a crash at each moment, and which may hold any bytes
@@ -46,6 +46,15 @@ pub record GrowsBy (added : Name → Value → Type 0) (newly_unsynced : Name �
 -- nothing was added and nothing became unsynced
 abbrev pub LeavesNoMore : View → View → Type 0
 LeavesNoMore old new = GrowsBy (λ _ _. ⊥) (λ _. ⊥) old new
+
+-- by no more than what the disk holds at these names, and these may become unsynced
+abbrev pub GrowsBySync : (Name → Type 0) → View → View → Type 0
+GrowsBySync these old new = GrowsBy (λ n v. these n × Holds old.now n v) these old new
+
+-- by no more than the value of the one name at the other, and nothing at the one; the other may be as unsynced as it
+abbrev pub GrowsByMove : Name → Name → View → View → Type 0
+GrowsByMove from to old new = GrowsBy (λ n v. ((n ≡ to) × Holds old.now from v) ⊎ ((n ≡ from) × (v ≡ None)))
+    (λ n. (n ≡ to) × IsTrue (is_unsynced old from)) old new
 
 -- a crash leaves at each of these names that wasn't unsynced what the disk held
 abbrev pub SyncsFolders : (Name → Type 0) → View → View → Type 0

@@ -1,8 +1,7 @@
 // The source of the configuration, the connection to a server, and the clock.
-ghost use Rattle.std.specs.Prelude.{◌≡◌, ◌<◌, ◌≤◌, ◌++◌, ℕ, true, Option, option_map, option_and_then, is_some, take, length, IfOk, OnOk, IfSome};
+ghost use Rattle.std.specs.Prelude.{◌≡◌, ◌<◌, ◌≤◌, ◌++◌, true, option_map, is_some, take, length, IfOk, OnOk, IfSome};
 ghost use Rattle.base_devices.specs.Cause.{HasCause};
-ghost use Rattle.base_devices.specs.Content.{Content};
-ghost use Rattle.base_devices.specs.States.{InputState, ConnectionState, ClockState, ShowsSecond};
+ghost use Rattle.base_devices.specs.States.{InputState, ConnectionState, ClockState, ShowsSecond, BeginsFile};
 ghost use Rattle.base_devices.specs.Streams.{Gives, IsOver};
 
 use crate::DeviceError;
@@ -15,8 +14,7 @@ pub trait InputFiles {
     /// Opens a file at its start, and returns whether it is there.
     fn open(&mut self, path: &str) -> Result<bool, DeviceError>
         ensures there { IfOk result (λ there. IfSome (state self.old).files (λ f. there ≡ is_some (f path.now))) }
-        ensures left { IfOk result (λ there. there ≡ true
-            → (state self.new).left ≡ option_and_then (λ (f : Content). f path.now) (state self.old).files) }
+        ensures left { IfOk result (λ there. there ≡ true → BeginsFile path.now (state self.old) (state self.new)) }
         ensures place { OnOk result ((state self.new).place ≡ path.now) }
         ensures files { (state self.new).files ≡ (state self.old).files }
         ensures cause { HasCause (state self.old).faults (state self.new).faults result };

@@ -1,7 +1,7 @@
 // The trait of the files that a worker reads.
 ghost use Rattle.std.specs.Prelude.{◌≡◌, ◌<◌, ◌≤◌, ◌+◌, ◌^◌, ℕ, Option, length, IfOk, OnOk, IfSome};
 ghost use Rattle.base_devices.specs.Cause.{HasCause};
-ghost use Rattle.base_devices.specs.Content.{Name, Content, Reads};
+ghost use Rattle.base_devices.specs.Content.{Name, Content, ReadsFrom};
 
 use crate::DeviceError;
 
@@ -26,8 +26,7 @@ pub trait Files {
     /// Bytes of a name from a place on: None where it is absent, 0 at its end. No byte lies at a place that isn't a
     /// `u64`.
     fn read(&mut self, name: &str, at: u64, buf: &mut [u8]) -> Result<Option<usize>, DeviceError>
-        ensures bytes { IfOk result
-            (λ n. IfSome (files self.old) (λ f. Reads (f name.now) at (length buf.old) buf.new n)) }
+        ensures bytes { IfOk result (λ n. ReadsFrom (files self.old) name.now at buf.old buf.new n) }
         ensures room { IfOk result (λ n. IfSome n (λ n. n ≤ length buf.old)) }
         ensures within { IfOk result (λ n. IfSome n (λ n. at + n < 2 ^ 64)) }
         ensures files { files self.new ≡ files self.old }

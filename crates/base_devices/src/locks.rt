@@ -1,9 +1,9 @@
 // The trait of locks against other programs.
-ghost use Rattle.std.specs.Prelude.{◌≡◌, ◌≤◌, ◌↔◌, option_map, Contains, IfOk, OnErr, IfSome};
+ghost use Rattle.std.specs.Prelude.{◌≡◌, ◌≤◌, Contains, IfOk, OnErr};
 ghost use Rattle.base_devices.specs.declared.locks.LockAnswer.TheVariants.{Busy};
 ghost use Rattle.base_devices.specs.Cause.{HasCause, Rises};
 ghost use Rattle.base_devices.specs.Locking.{with_lock, without};
-ghost use Rattle.base_devices.specs.States.{LocksState};
+ghost use Rattle.base_devices.specs.States.{LocksState, RecordsTake, TakesNone, TellsHeld};
 
 use crate::DeviceError;
 
@@ -24,13 +24,10 @@ pub trait Locks {
     fn take(&mut self, folder: &str, name: &str) -> Result<LockAnswer, DeviceError>
         requires { ¬ Contains (state self.old).taken name.now }
         ensures taken { IfOk result (λ t. (state self.new).taken ≡ with_lock t name.now (state self.old).taken) }
-        ensures ever_taken { IfOk result
-            (λ t. (state self.new).ever_taken ≡ option_map (with_lock t (folder.now, name.now)) (state self.old).ever_taken) }
+        ensures ever_taken { IfOk result (λ t. RecordsTake t (folder.now, name.now) (state self.old) (state self.new)) }
         ensures held { IfOk result (λ t. t ≡ Busy → Rises (state self.old).refusals (state self.new).refusals) }
-        ensures known { IfOk result (λ t. IfSome (state self.old).others
-            (λ names. (t ≡ Busy) ↔ Contains names name.now)) }
-        ensures err { OnErr result (((state self.new).taken ≡ (state self.old).taken)
-            × ((state self.new).ever_taken ≡ (state self.old).ever_taken)) }
+        ensures known { IfOk result (λ t. TellsHeld t name.now (state self.old)) }
+        ensures err { OnErr result (TakesNone (state self.old) (state self.new)) }
         ensures others { (state self.new).others ≡ (state self.old).others }
         ensures later { (state self.old).refusals ≤ (state self.new).refusals }
         ensures cause { HasCause (state self.old).faults (state self.new).faults result };

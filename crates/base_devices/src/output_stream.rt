@@ -1,7 +1,7 @@
 // The trait of an output.
-ghost use Rattle.std.specs.Prelude.{◌≡◌, ◌<◌, ◌≤◌, ◌++◌, option_map, IfOk, OnErr, length, take};
-ghost use Rattle.base_devices.specs.Cause.{HasCause, Rises};
-ghost use Rattle.base_devices.specs.States.{OutputState};
+ghost use Rattle.std.specs.Prelude.{◌≡◌, ◌<◌, ◌≤◌, IfOk, OnErr, length, take};
+ghost use Rattle.base_devices.specs.Cause.{HasCause};
+ghost use Rattle.base_devices.specs.States.{OutputState, WriteFailed, WritesMore};
 
 use crate::DeviceError;
 
@@ -13,11 +13,8 @@ pub trait OutputStream {
     /// Takes a first part of the bytes and returns how many.
     fn write(&mut self, bytes: &[u8]) -> Result<usize, DeviceError>
         ensures room { IfOk result (λ n. n ≤ length bytes.now) }
-        ensures some { IfOk result (λ n. n ≡ 0 → 0 < length bytes.now
-            → Rises (state self.old).faults (state self.new).faults) }
-        ensures written { IfOk result
-            (λ n. (state self.new).written
-            ≡ option_map (λ text. text ++ take n bytes.now) (state self.old).written) }
+        ensures some { IfOk result (λ n. n ≡ 0 → 0 < length bytes.now → WriteFailed (state self.old) (state self.new)) }
+        ensures written { IfOk result (λ n. WritesMore (take n bytes.now) (state self.old) (state self.new)) }
         ensures same { OnErr result ((state self.new).written ≡ (state self.old).written) }
         ensures cause { HasCause (state self.old).faults (state self.new).faults result };
 }

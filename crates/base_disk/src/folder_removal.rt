@@ -1,11 +1,9 @@
 // Removes all that lies below a folder.
-ghost use Rattle.std.specs.Prelude.{◌≡◌, ◌≤◌, ℕ, List, Bool, Option, None, true, false, nat_eq, option_map, IfErr, OnOk, IsErrOf, IsTrue, All, string_bytes};
+ghost use Rattle.std.specs.Prelude.{◌≡◌, nat_eq, option_map, IfErr, OnOk, IsErrOf, IsTrue};
 ghost use Rattle.std.specs.List.{starts_with};
-ghost use Rattle.base_devices.specs.States.{Works};
-ghost use Rattle.base_devices.specs.Content.{Name, Value, Content, is_below};
-ghost use Rattle.base_devices.specs.Moments.{GrowsBy, MayKeep, is_unsynced};
+ghost use Rattle.base_devices.specs.Content.{is_below, IsBelow};
 ghost use Rattle.base_devices.specs.Cause.{Rises};
-ghost use Rattle.base_disk.specs.Dropped.{without, IsAbsent, Drops};
+ghost use Rattle.base_disk.specs.Dropped.{without, Drops, AreRemoved, OnlyRemoves, StaysGone};
 ghost use Rattle.base_disk.specs.Fault.{IsDeviceFault};
 
 use crate::fault::StoreFault;
@@ -16,10 +14,8 @@ use std::alloc::Global;
 pub fn drop_folder<D: Disk>(alloc: Global, d: &mut D, folder: &str) -> Result<(), StoreFault>
     ensures now { OnOk result ((D.state d.new).view.now ≡ option_map (without folder.now) (D.state d.old).view.now) }
     ensures drops { Drops (is_below folder.now) (D.state d.old).view.now (D.state d.new).view.now }
-    ensures settled { OnOk result ((n : Name) (v : Value) → IsTrue (is_below folder.now n)
-        → is_unsynced (D.state d.old).view n ≡ false → MayKeep (D.state d.new).view n v → v ≡ None) }
-    ensures works { Works (λ n v. IsTrue (is_below folder.now n) × (v ≡ None)) (λ _. ⊥) (D.state d.old)
-        (D.state d.new) }
+    ensures settled { OnOk result (StaysGone (IsBelow folder.now) (D.state d.old) (D.state d.new)) }
+    ensures works { OnlyRemoves (IsBelow folder.now) (D.state d.old) (D.state d.new) }
     ensures cause { IsErrOf result StoreFault.Disk → Rises (D.state d.old).faults (D.state d.new).faults }
     ensures refusals { IfErr result IsDeviceFault }
 {
@@ -32,8 +28,7 @@ pub fn drop_folder<D: Disk>(alloc: Global, d: &mut D, folder: &str) -> Result<()
 fn remove_below<D: Disk>(alloc: Global, d: &mut D, folder: &str) -> Result<(), StoreFault>
     ensures now { OnOk result ((D.state d.new).view.now ≡ option_map (without folder.now) (D.state d.old).view.now) }
     ensures drops { Drops (is_below folder.now) (D.state d.old).view.now (D.state d.new).view.now }
-    ensures works { Works (λ n v. IsTrue (is_below folder.now n) × (v ≡ None)) (λ _. ⊥) (D.state d.old)
-        (D.state d.new) }
+    ensures works { OnlyRemoves (IsBelow folder.now) (D.state d.old) (D.state d.new) }
     ensures cause { IsErrOf result StoreFault.Disk → Rises (D.state d.old).faults (D.state d.new).faults }
     ensures refusals { IfErr result IsDeviceFault }
 {
@@ -44,12 +39,9 @@ fn remove_below<D: Disk>(alloc: Global, d: &mut D, folder: &str) -> Result<(), S
 
 // Removes the names that have this in front: a disk whose contents are unknown may list others.
 fn remove_each<D: Disk>(d: &mut D, found: &[Found], prefix: &str) -> Result<(), StoreFault>
-    ensures gone { OnOk result
-        (All (λ x. starts_with nat_eq (string_bytes x.name) prefix.now ≡ true
-        → IsAbsent (D.state d.new).view.now (string_bytes x.name)) found.now) }
+    ensures gone { OnOk result (AreRemoved prefix.now found.now (D.state d.new)) }
     ensures drops { Drops (λ n. starts_with nat_eq n prefix.now) (D.state d.old).view.now (D.state d.new).view.now }
-    ensures works { Works (λ n v. IsTrue (starts_with nat_eq n prefix.now) × (v ≡ None)) (λ _. ⊥) (D.state d.old)
-        (D.state d.new) }
+    ensures works { OnlyRemoves (λ n. IsTrue (starts_with nat_eq n prefix.now)) (D.state d.old) (D.state d.new) }
     ensures cause { IsErrOf result StoreFault.Disk → Rises (D.state d.old).faults (D.state d.new).faults }
     ensures refusals { IfErr result IsDeviceFault }
 {

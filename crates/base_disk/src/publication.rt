@@ -1,12 +1,13 @@
 // Gives staged bytes a name.
-ghost use Rattle.std.specs.Prelude.{◌≡◌, ◌≢◌, ◌⊎◌, ◌≤◌, ℕ, List, Option, None, false, IfErr, OnOk, IsErrOf, IsTrue};
-ghost use Rattle.base_devices.specs.States.{Works};
-ghost use Rattle.base_devices.specs.Content.{Name, Value, Content, moved, LiesDirectlyIn, Holds, IsThere, Changes};
-ghost use Rattle.base_devices.specs.Moments.{GrowsBy, MayKeep, is_unsynced};
+ghost use Rattle.std.specs.Prelude.{◌≡◌, ◌≢◌, None, false, IfErr, OnOk, IsErrOf};
+ghost use Rattle.base_devices.specs.States.{ChangesDisk};
+ghost use Rattle.base_devices.specs.Content.{Name, moved, LiesDirectlyIn, IsThere};
+ghost use Rattle.base_devices.specs.Moments.{is_unsynced};
 ghost use Rattle.base_devices.specs.Cause.{Rises};
 ghost use Rattle.base_disk.specs.Fault.{IsDeviceFault};
 ghost use Rattle.base_disk.specs.Staged.{staged_name};
 ghost use Rattle.base_disk.specs.Store.{LiesIn};
+ghost use Rattle.base_disk.specs.Publications.{IsPublishedFrom, OnlyMoves};
 
 use crate::fault::StoreFault;
 use crate::staging::Staged;
@@ -18,12 +19,10 @@ pub fn publish<D: Disk>(d: &mut D, staged: Staged, name: &str) -> Result<(), Sto
     requires other { staged_name staged ≢ name.now }
     requires synced { is_unsynced (D.state d.old).view (staged_name staged) ≡ false }
     requires there { IsThere (D.state d.old).view.now (staged_name staged) }
-    ensures now { Changes result (moved (staged_name staged) name.now) (D.state d.old).view.now
-        (D.state d.new).view.now }
-    ensures published { OnOk result (is_unsynced (D.state d.old).view name.now ≡ false → (v : Value)
-        → MayKeep (D.state d.new).view name.now v → Holds (D.state d.old).view.now (staged_name staged) v) }
-    ensures works { Works (λ n v. ((n ≡ name.now) × Holds (D.state d.old).view.now (staged_name staged) v)
-        ⊎ ((n ≡ staged_name staged) × (v ≡ None))) (λ _. ⊥) (D.state d.old) (D.state d.new) }
+    ensures now { ChangesDisk result (moved (staged_name staged) name.now) (D.state d.old) (D.state d.new) }
+    ensures published { OnOk result
+        (IsPublishedFrom (staged_name staged) name.now (D.state d.old) (D.state d.new)) }
+    ensures works { OnlyMoves (staged_name staged) name.now (D.state d.old) (D.state d.new) }
     ensures cause { IsErrOf result StoreFault.Disk → Rises (D.state d.old).faults (D.state d.new).faults }
     ensures refusals { IfErr result IsDeviceFault }
 {
@@ -48,11 +47,9 @@ fn publish_in<D: Disk>(d: &mut D, from: &str, name: &str, folder: &str) -> Resul
     requires other { from.now ≢ name.now }
     requires synced { is_unsynced (D.state d.old).view from.now ≡ false }
     requires there { IsThere (D.state d.old).view.now from.now }
-    ensures now { Changes result (moved from.now name.now) (D.state d.old).view.now (D.state d.new).view.now }
-    ensures published { OnOk result (is_unsynced (D.state d.old).view name.now ≡ false → (v : Value)
-        → MayKeep (D.state d.new).view name.now v → Holds (D.state d.old).view.now from.now v) }
-    ensures works { Works (λ n v. ((n ≡ name.now) × Holds (D.state d.old).view.now from.now v)
-        ⊎ ((n ≡ from.now) × (v ≡ None))) (λ _. ⊥) (D.state d.old) (D.state d.new) }
+    ensures now { ChangesDisk result (moved from.now name.now) (D.state d.old) (D.state d.new) }
+    ensures published { OnOk result (IsPublishedFrom from.now name.now (D.state d.old) (D.state d.new)) }
+    ensures works { OnlyMoves from.now name.now (D.state d.old) (D.state d.new) }
     ensures cause { IsErrOf result StoreFault.Disk → Rises (D.state d.old).faults (D.state d.new).faults }
     ensures refusals { IfErr result IsDeviceFault }
 {

@@ -1,12 +1,12 @@
 // Puts bytes in the place of a name's, by way of a temporary name.
-ghost use Rattle.std.specs.Prelude.{◌≡◌, ◌⊎◌, ◌≤◌, [], ◌∷◌, ℕ, List, Option, None, false, IfErr, OnOk, IsErrOf};
+ghost use Rattle.std.specs.Prelude.{◌≡◌, None, IfErr, OnOk, IsErrOf};
 ghost use Rattle.base_devices.specs.States.{CallsProperly};
-ghost use Rattle.base_devices.specs.Content.{Name, Value, Content};
-ghost use Rattle.base_devices.specs.Moments.{is_unsynced};
-ghost use Rattle.base_devices.specs.Crash.{IsTemporary, Crash, Ends, NowChanges, FirstOf, AllOf};
+ghost use Rattle.base_devices.specs.Content.{Name};
+ghost use Rattle.base_devices.specs.Crash.{IsTemporary};
 ghost use Rattle.base_devices.specs.Cause.{Rises};
 ghost use Rattle.base_disk.specs.Fault.{IsDeviceFault};
-ghost use Rattle.base_disk.specs.Store.{LiesIn, ChangesOnly};
+ghost use Rattle.base_disk.specs.Store.{LiesIn};
+ghost use Rattle.base_disk.specs.Replacements.{ChangesTwo, MayReplace, NowMayReplace, NowReplaces, Replaces};
 
 use crate::fault::StoreFault;
 use crate::publication::publish;
@@ -25,15 +25,11 @@ pub fn replace<D: Disk>(
     requires folder { (folder : Name) × LiesIn folder temp.now × LiesIn folder name.now }
     requires temporary { IsTemporary temp.now }
     requires lasting { ¬ IsTemporary name.now }
-    ensures crash { is_unsynced (D.state d.old).view name.now ≡ false
-        → Crash (FirstOf ((name.now, bytes.now) ∷ [])) (D.state d.old).view (D.state d.new).view }
-    ensures whole { OnOk result (is_unsynced (D.state d.old).view name.now ≡ false
-        → Ends (AllOf ((name.now, bytes.now) ∷ [])) (D.state d.old).view (D.state d.new).view) }
-    ensures now_part { NowChanges (FirstOf ((name.now, bytes.now) ∷ [])) (D.state d.old).view.now
-        (D.state d.new).view.now }
-    ensures now_whole { OnOk result
-        (NowChanges (AllOf ((name.now, bytes.now) ∷ [])) (D.state d.old).view.now (D.state d.new).view.now) }
-    ensures only { ChangesOnly (λ n. (n ≡ temp.now) ⊎ (n ≡ name.now)) (D.state d.old).view (D.state d.new).view }
+    ensures crash { MayReplace name.now bytes.now (D.state d.old) (D.state d.new) }
+    ensures whole { OnOk result (Replaces name.now bytes.now (D.state d.old) (D.state d.new)) }
+    ensures now_part { NowMayReplace name.now bytes.now (D.state d.old) (D.state d.new) }
+    ensures now_whole { OnOk result (NowReplaces name.now bytes.now (D.state d.old) (D.state d.new)) }
+    ensures only { ChangesTwo temp.now name.now (D.state d.old) (D.state d.new) }
     ensures unknown { (D.state d.old).view.now ≡ None → (D.state d.new).view.now ≡ None }
     ensures frame { CallsProperly (D.state d.old) (D.state d.new) }
     ensures cause { IsErrOf result StoreFault.Disk → Rises (D.state d.old).faults (D.state d.new).faults }

@@ -1,11 +1,11 @@
 // Puts bytes at a name of their own, before another name takes them.
-ghost use Rattle.std.specs.Prelude.{◌≡◌, ◌≤◌, ◌<◌, ◌+◌, ◌^◌, ℕ, List, [], Option, Some, false, length, option_map, IfOk, IfErr, OnOk, IsErrOf};
-ghost use Rattle.base_devices.specs.States.{Works};
-ghost use Rattle.base_devices.specs.Content.{Name, Value, Content, put, Appends, Holds, IsThere, SameBut};
-ghost use Rattle.base_devices.specs.Moments.{GrowsBy, is_unsynced};
+ghost use Rattle.std.specs.Prelude.{◌≡◌, ◌<◌, ◌+◌, ◌^◌, [], false, length, IfOk, IfErr, OnOk, IsErrOf};
+ghost use Rattle.base_devices.specs.States.{Works, WorksBySync};
+ghost use Rattle.base_devices.specs.Content.{IsThere, SameBut};
+ghost use Rattle.base_devices.specs.Moments.{is_unsynced};
 ghost use Rattle.base_devices.specs.Cause.{Rises};
 ghost use Rattle.base_disk.specs.Fault.{IsDeviceFault};
-ghost use Rattle.base_disk.specs.Staged.{staged_name, staging_name, staging_length, HasLength};
+ghost use Rattle.base_disk.specs.Staged.{staged_name, staging_name, staging_length, HasLength, AppendsBytes, HoldsStaging, PutsBytes};
 
 use crate::fault::StoreFault;
 use base_devices::Disk;
@@ -51,8 +51,7 @@ impl Staging {
 pub fn start_stage<D: Disk>(alloc: Global, d: &mut D, name: &str) -> Result<Staging, StoreFault>
     ensures name { IfOk result (λ staging. staging_name staging ≡ name.now) }
     ensures length { IfOk result (λ staging. staging_length staging ≡ 0) }
-    ensures now { OnOk result
-        ((D.state d.new).view.now ≡ option_map (put name.now (Some [])) (D.state d.old).view.now) }
+    ensures now { OnOk result (PutsBytes name.now [] (D.state d.old) (D.state d.new)) }
     ensures holds { OnOk result (HasLength (D.state d.new).view.now name.now 0) }
     ensures others { SameBut name.now (D.state d.old).view.now (D.state d.new).view.now }
     ensures works { Works (λ _ _. ⊥) (λ n. n ≡ name.now) (D.state d.old) (D.state d.new) }
@@ -70,14 +69,12 @@ pub fn start_stage<D: Disk>(alloc: Global, d: &mut D, name: &str) -> Result<Stag
 /// Adds bytes at the end of what was put there. After a refusal the name may hold a part of them, so the `Staging` is
 /// given up.
 pub fn add_stage<D: Disk>(d: &mut D, staging: &mut Staging, bytes: &[u8]) -> Result<(), StoreFault>
-    requires holds { HasLength (D.state d.old).view.now (staging_name staging.old) (staging_length staging.old) }
+    requires holds { HoldsStaging staging.old (D.state d.old) }
     requires room { staging_length staging.old + length bytes.now < 2 ^ 64 }
     ensures name { staging_name staging.new ≡ staging_name staging.old }
     ensures length { OnOk result (staging_length staging.new ≡ staging_length staging.old + length bytes.now) }
-    ensures now { Appends result (staging_name staging.old) bytes.now (D.state d.old).view.now
-        (D.state d.new).view.now }
-    ensures holds { OnOk result
-        (HasLength (D.state d.new).view.now (staging_name staging.new) (staging_length staging.new)) }
+    ensures now { AppendsBytes result (staging_name staging.old) bytes.now (D.state d.old) (D.state d.new) }
+    ensures holds { OnOk result (HoldsStaging staging.new (D.state d.new)) }
     ensures others { SameBut (staging_name staging.old) (D.state d.old).view.now (D.state d.new).view.now }
     ensures works { Works (λ _ _. ⊥) (λ n. n ≡ staging_name staging.old) (D.state d.old) (D.state d.new) }
     ensures cause { IsErrOf result StoreFault.Disk → Rises (D.state d.old).faults (D.state d.new).faults }
@@ -90,13 +87,12 @@ pub fn add_stage<D: Disk>(d: &mut D, staging: &mut Staging, bytes: &[u8]) -> Res
 
 /// Syncs what was put there, so that a crash leaves it whole or what the name kept before.
 pub fn end_stage<D: Disk>(d: &mut D, staging: Staging) -> Result<Staged, StoreFault>
-    requires { HasLength (D.state d.old).view.now (staging_name staging) (staging_length staging) }
+    requires { HoldsStaging staging (D.state d.old) }
     ensures name { IfOk result (λ staged. staged_name staged ≡ staging_name staging) }
     ensures now { (D.state d.new).view.now ≡ (D.state d.old).view.now }
     ensures there { OnOk result (IsThere (D.state d.new).view.now (staging_name staging)) }
     ensures synced { OnOk result (is_unsynced (D.state d.new).view (staging_name staging) ≡ false) }
-    ensures works { Works (λ n v. (n ≡ staging_name staging) × Holds (D.state d.old).view.now n v)
-        (λ n. n ≡ staging_name staging) (D.state d.old) (D.state d.new) }
+    ensures works { WorksBySync (λ n. n ≡ staging_name staging) (D.state d.old) (D.state d.new) }
     ensures cause { IsErrOf result StoreFault.Disk → Rises (D.state d.old).faults (D.state d.new).faults }
     ensures refusals { IfErr result IsDeviceFault }
 {
@@ -112,8 +108,7 @@ pub fn stage<D: Disk>(
     bytes: &[u8],
 ) -> Result<Staged, StoreFault>
     ensures name { IfOk result (λ staged. staged_name staged ≡ name.now) }
-    ensures now { OnOk result
-        ((D.state d.new).view.now ≡ option_map (put name.now (Some bytes.now)) (D.state d.old).view.now) }
+    ensures now { OnOk result (PutsBytes name.now bytes.now (D.state d.old) (D.state d.new)) }
     ensures others { SameBut name.now (D.state d.old).view.now (D.state d.new).view.now }
     ensures synced { OnOk result (is_unsynced (D.state d.new).view name.now ≡ false) }
     ensures works { Works (λ n _. n ≡ name.now) (λ n. n ≡ name.now) (D.state d.old) (D.state d.new) }

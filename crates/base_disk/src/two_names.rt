@@ -1,12 +1,12 @@
 // Keeps bytes at two names.
-ghost use Rattle.std.specs.Prelude.{◌≡◌, ◌⊎◌, ◌≤◌, [], ◌∷◌, ℕ, List, Option, false, IfErr, OnOk, IsErrOf};
+ghost use Rattle.std.specs.Prelude.{IfErr, OnOk, IsErrOf};
 ghost use Rattle.base_devices.specs.States.{CallsProperly};
-ghost use Rattle.base_devices.specs.Content.{Name, Value, Content};
-ghost use Rattle.base_devices.specs.Moments.{is_unsynced};
-ghost use Rattle.base_devices.specs.Crash.{IsTemporary, Crash, Ends, NowChanges, FirstOf, AllOf};
+ghost use Rattle.base_devices.specs.Content.{Name};
+ghost use Rattle.base_devices.specs.Crash.{IsTemporary};
 ghost use Rattle.base_devices.specs.Cause.{Rises};
 ghost use Rattle.base_disk.specs.Fault.{IsDeviceFault};
-ghost use Rattle.base_disk.specs.Store.{LiesIn, ChangesOnly};
+ghost use Rattle.base_disk.specs.Store.{LiesIn};
+ghost use Rattle.base_disk.specs.Replacements.{ChangesThree, MayReplaceBoth, NowMayReplaceBoth, NowReplacesBoth, ReplacesBoth};
 
 use crate::fault::StoreFault;
 use crate::replacement::replace;
@@ -27,21 +27,11 @@ pub fn save_both<D: Disk>(
     requires temporary { IsTemporary temp.now }
     requires main_lasts { ¬ IsTemporary main.now }
     requires copy_lasts { ¬ IsTemporary copy.now }
-    ensures crash { is_unsynced (D.state d.old).view main.now ≡ false
-        → is_unsynced (D.state d.old).view copy.now ≡ false
-        → Crash (FirstOf ((main.now, bytes.now) ∷ (copy.now, bytes.now) ∷ [])) (D.state d.old).view
-        (D.state d.new).view }
-    ensures whole { OnOk result (is_unsynced (D.state d.old).view main.now ≡ false
-        → is_unsynced (D.state d.old).view copy.now ≡ false → Ends
-        (AllOf ((main.now, bytes.now) ∷ (copy.now, bytes.now) ∷ [])) (D.state d.old).view (D.state d.new).view) }
-    ensures now_part { NowChanges (FirstOf ((main.now, bytes.now) ∷ (copy.now, bytes.now) ∷ []))
-        (D.state d.old).view.now
-        (D.state d.new).view.now }
-    ensures now_whole { OnOk result
-        (NowChanges (AllOf ((main.now, bytes.now) ∷ (copy.now, bytes.now) ∷ [])) (D.state d.old).view.now
-        (D.state d.new).view.now) }
-    ensures only { ChangesOnly (λ n. (n ≡ temp.now) ⊎ ((n ≡ main.now) ⊎ (n ≡ copy.now))) (D.state d.old).view
-        (D.state d.new).view }
+    ensures crash { MayReplaceBoth main.now copy.now bytes.now (D.state d.old) (D.state d.new) }
+    ensures whole { OnOk result (ReplacesBoth main.now copy.now bytes.now (D.state d.old) (D.state d.new)) }
+    ensures now_part { NowMayReplaceBoth main.now copy.now bytes.now (D.state d.old) (D.state d.new) }
+    ensures now_whole { OnOk result (NowReplacesBoth main.now copy.now bytes.now (D.state d.old) (D.state d.new)) }
+    ensures only { ChangesThree temp.now main.now copy.now (D.state d.old) (D.state d.new) }
     ensures frame { CallsProperly (D.state d.old) (D.state d.new) }
     ensures cause { IsErrOf result StoreFault.Disk → Rises (D.state d.old).faults (D.state d.new).faults }
     ensures refusals { IfErr result IsDeviceFault }

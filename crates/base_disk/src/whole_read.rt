@@ -1,11 +1,10 @@
 // All the bytes of a name.
-ghost use Rattle.std.specs.Prelude.{◌≡◌, ◌≤◌, ◌<◌, ℕ, List, Option, option_map, IfOk, IfErr, IsErrOf, IfSome, IsSomeAnd, Vec, length};
+ghost use Rattle.std.specs.Prelude.{◌≡◌, ◌≤◌, ◌<◌, Option, IfOk, IfErr, IsErrOf, IfSome, Vec, length};
 ghost use Rattle.std.specs.declared.alloc.Global.{Global};
 ghost use Rattle.base_devices.specs.States.{OnlyReads};
-ghost use Rattle.base_devices.specs.Content.{Name, Value, Content};
-ghost use Rattle.base_devices.specs.Moments.{LeavesNoMore};
 ghost use Rattle.base_devices.specs.Cause.{Rises};
 ghost use Rattle.base_disk.specs.Fault.{IfTooLong};
+ghost use Rattle.base_disk.specs.WholeReads.{IsPastLimit, ReadsWhole};
 
 use crate::fault::StoreFault;
 use base_devices::Disk;
@@ -18,14 +17,10 @@ pub fn read_whole<D: Disk>(
     name: &str,
     limit: u64,
 ) -> Result<Option<Vec<u8>>, StoreFault>
-    ensures bytes { IfOk result
-        (λ r. IfSome (D.state d.old).view.now (λ f. (option_map (λ (v : Vec ℕ Global). v.items) r ≡ f name.now)
-        × IfSome (f name.now) (λ b. length b ≤ limit))) }
+    ensures bytes { IfOk result (λ r. ReadsWhole name.now limit (D.state d.old) r) }
     ensures within { IfOk result (λ r. IfSome r (λ v. length v.items ≤ limit)) }
     ensures named { IfErr result (λ e. IfTooLong e (λ n l. (n ≡ name.now) × (l ≡ limit))) }
-    ensures too_long { IfErr result
-        (λ e. IfTooLong e (λ _ _. IfSome (D.state d.old).view.now
-        (λ f. IsSomeAnd (f name.now) (λ b. limit < length b)))) }
+    ensures too_long { IfErr result (λ e. IfTooLong e (λ _ _. IsPastLimit name.now limit (D.state d.old))) }
     ensures looks { OnlyReads (D.state d.old) (D.state d.new) }
     ensures cause { IsErrOf result StoreFault.Disk → Rises (D.state d.old).faults (D.state d.new).faults }
 {

@@ -1,6 +1,6 @@
 -- The names of a repository's files (pgBackRest user guide, "Configure Repository"; PostgreSQL manual, "Continuous
 -- Archiving").
-use Rattle.std.specs.Prelude.{ℕ, [], ◌∷◌, ◌++◌, Option, Some, None, codes, decimal, Bool, ◌||◌}
+use Rattle.std.specs.Prelude.{ℕ, [], ◌∷◌, ◌++◌, Option, Some, None, codes, decimal, Bool, ◌||◌, IsTrue}
 use Rattle.base_devices.specs.Content.{is_below}
 use Rattle.base_model.specs.declared.wal.Segment.{Segment}
 use Rattle.base_model.specs.declared.wal.ArchiveId.{ArchiveId}
@@ -94,3 +94,7 @@ receipt_name stanza name = archive_folder stanza ⫽ codes "out" ⫽ (wal_text n
 -- the name lies below one of the stanza's folders
 abbrev pub is_of_stanza : Text → Text → Bool
 is_of_stanza stanza name = is_below (archive_folder stanza) name || is_below (backup_folder stanza) name
+
+-- the same as a statement
+abbrev pub IsOfStanza : Text → Text → Type 0
+IsOfStanza stanza name = IsTrue (is_of_stanza stanza name)

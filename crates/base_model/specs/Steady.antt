@@ -23,6 +23,11 @@ pub record IsBegun (stanza : Text) (q : Repository) (log : List Done) (v : View)
   pub sound : IsSound repository
   pub steady : IsSteady stanza repository v
 
+-- where the disk was known and kept a log, it is begun
+abbrev pub BeginsCommand : Text → View → View → Type 0
+BeginsCommand stanza old new = (q : Repository) (log : List Done) → KeepsRepository stanza q log old → IsSome old.now
+    → IsBegun stanza q log new
+
 -- A command's way from old to new: at each moment all that may be left has P, the past stays, and at its end no name
 -- that is looked at is unsynced.
 pub record EachImage (stanza : Text) (P : Content → Type 0) (old new : View) : Type 0 where
