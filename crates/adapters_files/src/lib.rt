@@ -3,10 +3,8 @@
 //! What is proved, by the contract of the function that is named:
 //!
 //! - `RealDisk`, `RealDataFolder`, `RealFiles`, `RealInputFiles`, `RealInput`, `RealOutput`, `RealReplies`,
-//! `RealLocks`,
-//!   `RealClock` and `RealConnection` meet their traits: that Failed comes only where the count of faults rose, which
-//! path a
-//!   name means, and the like.
+//!   `RealLocks`, `RealClock` and `RealConnection` meet their traits: that Failed comes only where the count of faults
+//!   rose, which path a name means, and the like.
 //! - Nothing is proved about content, nor about the note of synced folders.
 #![tactic(auto)]
 

@@ -270,9 +270,8 @@ pub enum Opened {
     Other,
 }
 
-/// Opens the file of a path. What is no file isn't opened: a pipe would wait for its other end, and a link
-/// may lead anywhere. The system can't be asked for that at the opening itself, so it is looked at before and after
-/// it.
+/// Opens the file of a path. What is no file isn't opened: a pipe would wait for its other end, and a link may lead
+/// anywhere. The system can't be asked for that at the opening itself, so it is looked at before and after it.
 pub fn open_plain(rt: &HostRuntime, how: &OpenOptions, path: &str) -> io::Result<Opened> {
     let Some(seen) = unless_absent(fs::symlink_metadata(rt, path))? else {
         return Ok(Opened::Absent);

@@ -71,8 +71,7 @@ fn add_rest<D: Disk, H, P: ByteSource<H>>(
         digest.update(&piece[..size]);
         add_stage(d, staging, &piece[..size])?;
     }
-    // Only a source whose bytes are unknown can have others than this many. This is reported as out of
-    // memory.
+    // Only a source whose bytes are unknown can have others than this many. This is reported as out of memory.
     Err(PushFault::Archive(ArchiveFault::NoMemory))
 }
 

@@ -4,8 +4,7 @@
 //! What is proved, by the contract of the function that is named:
 //!
 //! - `BackupKeeper` meets `PartSink` over any disk: each job's bytes lie at its name, item after item, a job that
-//! begins
-//!   anew has none, and no other name is touched. It counts its disk's failures.
+//!   begins anew has none, and no other name is touched. It counts its disk's failures.
 //! - That a job of which nothing was received leaves no file is only tested.
 //! - `seal`: after it a crash leaves each stored name with what it holds. `store_file`: bytes at a name, in place of
 //!   what it had, which a crash then leaves.

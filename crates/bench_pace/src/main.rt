@@ -1,10 +1,8 @@
 //! Measures how fast files are read by workers, for the bench: `bench_pace PROGRAM FOLDER FILES SIZE` has two workers
-//! of
-//! the program read this many files `0`, `1`, .. of the folder, of this many bytes each, which are counted here. Then
-//! one pass of SHA-1 is made over as many bytes in memory. It writes how many they are, and the microseconds of both.
-//! `bench_pace FROM TO SIZE` copies a file of this many bytes, whole MiB, and sums them on the way, by one process:
-//! what
-//! a backup or a restore of it costs at least.
+//! of the program read this many files `0`, `1`, .. of the folder, of this many bytes each, which are counted here.
+//! Then one pass of SHA-1 is made over as many bytes in memory. It writes how many they are, and the microseconds of
+//! both. `bench_pace FROM TO SIZE` copies a file of this many bytes, whole MiB, and sums them on the way, by one
+//! process: what a backup or a restore of it costs at least.
 #![tactic(auto)]
 
 mod pace;

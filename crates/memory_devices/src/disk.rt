@@ -91,9 +91,8 @@ impl MemDisk {
     }
 
     /// The names with bytes that a crash at that moment leaves: a name in `unsynced` has the bytes given there, any
-    /// other
-    /// has the kept value at its position in `choice`, or its last one. Of a name that is given twice the last one
-    /// counts.
+    /// other has the kept value at its position in `choice`, or its last one. Of a name that is given twice the last
+    /// one counts.
     pub fn image(
         &self,
         alloc: Global,

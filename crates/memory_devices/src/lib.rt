@@ -3,8 +3,7 @@
 //! What is proved, by the contract of the function that is named:
 //!
 //! - `MemDisk`, `MemDataFolder`, `MemInputFiles`, `MemFiles`, `MemConnection`, `MemClock`, `MemLocks` and `MemOutput`
-//! meet their traits
-//!   and all of their contents are known. So the traits can be met.
+//!   meet their traits and all of their contents are known. So the traits can be met.
 //! - `MemDisk::unsynced`, `kept`: which names are unsynced at a moment, and what a name keeps there.
 //! - `MemDisk::image`: what a crash then leaves, by a choice. It is one of the contents that a crash may leave, and a
 //!   choice that can't be is refused.

@@ -6,8 +6,7 @@
 //! What is proved, by the contract of the function that is named:
 //!
 //! - `MemProcesses` meets `OtherProcesses`, and its account is always there: of the stanza that it was made for, with
-//! every step of
-//!   others so far.
+//!   every step of others so far.
 //! - `MemProcesses::new`: the account begins with no steps of others.
 #![tactic(auto)]
 

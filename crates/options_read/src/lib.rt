@@ -4,8 +4,7 @@
 //!
 //! - `config_path`: where the arguments say that the configuration lies, or their fault.
 //! - `resolve_arguments`: the command that arguments and configuration resolve to, with the value in force in each
-//! option's
-//!   field, and the unknown keys; or the first fault, in the definition's order.
+//!   option's field, and the unknown keys; or the first fault, in the definition's order.
 #![tactic(auto)]
 
 mod arguments;

@@ -83,8 +83,8 @@ impl<
         // with a part.
         ensures part { OnEach ⟦<Self as Modelled>⟧.known PartDone arguments.now self.old self.new }
 
-        // A refusal for what was found takes no step but the steps of others that were waited for, nor does
-        // one for a connection to the server that failed.
+        // A refusal for what was found takes no step but the steps of others that were waited for, nor does one for a
+        // connection to the server that failed.
         ensures stays { OnEach ⟦<Self as Modelled>⟧.known (StaysAt result) arguments.now self.old self.new }
 
         // At 0, 1 and 65 the command keeps its promise, and its lines are written.

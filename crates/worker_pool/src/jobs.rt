@@ -3,8 +3,7 @@
 //! What is proved, by the contract of the function that is named:
 //!
 //! - `JobTable::new`, `give`, `receive_reply`, `drop_worker`: the four events, each by the definition. The lowest
-//! waiting job is given
-//!   first, and the job of a lost worker waits again.
+//!   waiting job is given first, and the job of a lost worker waits again.
 //! - `busy`, `job`, `is_idle`, `finished`: what is there.
 
 ghost use Rattle.std.specs.Prelude.{false, ◌≡◌, ℕ, ◌^◌, ◌<◌, ◌≤◌, [], length, IfOk, IfSome, IfNone, IsTrue, ◌↔◌, if◌then◌else◌, slice_get, Some};

@@ -3,8 +3,7 @@
 //! What is proved, by the contract of the function that is named:
 //!
 //! - `receive_reply`: each part goes to the keeper as it is received, within its item's size. At its end each item has
-//! its
-//!   number and, where its bytes were asked for, its SHA-1. Where the link reads some files, these are the files'
+//!   its number and, where its bytes were asked for, its SHA-1. Where the link reads some files, these are the files'
 //!   bytes.
 //! - A steady worker is never lost. A link that is lost reported two sums that differ, or its count of faults rose, or
 //!   its cause has the number of bytes of the reply that were received. These are counted up to their end, or to the

@@ -33,8 +33,7 @@ use std::alloc::Global;
 
 /// Serves a file of the archive at a path of the data folder: a whole segment from the spool, where that has it. After
 /// that a fetch is started with these arguments, where the spool doesn't have the next segment. `known` is what the
-/// data
-/// folder says about its cluster, and `info` the value of the archive pair.
+/// data folder says about its cluster, and `info` the value of the archive pair.
 pub fn get_ahead<D: Disk, S: Disk, T: DataFolder, A: OtherProcesses<D, S>>(
     alloc: Global,
     repo: &mut D,
