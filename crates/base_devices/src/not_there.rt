@@ -2,7 +2,7 @@
 ghost use Rattle.std.specs.Prelude.{None, false, []};
 
 use crate::{
-    Clock, DeviceError, Disk, Files, Found, InputFiles, Link, Locks, ServerConnection, Take,
+    Clock, DeviceError, Disk, Files, Found, InputFiles, Link, LockAnswer, Locks, ServerConnection,
 };
 use std::alloc::Global;
 
@@ -140,7 +140,7 @@ impl Clock for NotThere {
 impl Locks for NotThere {
     ghost state = { λ it. record { taken = []; ever_taken = None; others = None; refusals = 0; faults = it.faults } };
 
-    fn take(&mut self, _folder: &str, _name: &str) -> Result<Take, DeviceError> {
+    fn take(&mut self, _folder: &str, _name: &str) -> Result<LockAnswer, DeviceError> {
         self.fail()
     }
 
