@@ -6,3 +6,4 @@ pub mod Reading
 pub mod States
 pub mod Config
 pub mod Views
+pub mod Json

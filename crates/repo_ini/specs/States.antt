@@ -1,10 +1,12 @@
 -- The state that the code's state represents.
-use Rattle.std.specs.Prelude.{string_bytes}
+use Rattle.std.specs.Prelude.{List, Option, string_bytes}
 use Rattle.std.specs.List.{AllByRecursion}
+use Rattle.base_model.specs.Text.{Text}
+use Rattle.repo_ini.specs.declared.part.Part.{Part}
 use Rattle.repo_ini.specs.declared.state.State as held
 use Rattle.repo_ini.specs.declared.state.State.TheVariants as code
 use Rattle.repo_ini.specs.Parts.{keys_of, sections_of, NoFloats}
-use Rattle.repo_ini.specs.Reading.{State, start, format, gap, between, within, check, closing, over}
+use Rattle.repo_ini.specs.Reading.{State, start, format, gap, between, within, check, closing, over, closed, more}
 
 -- what the reader's state represents
 abbrev pub state_of : held.State → State
@@ -16,6 +18,14 @@ state_of (code.Within done part) = within (sections_of done.items) (string_bytes
 state_of (code.Check done) = check (sections_of done.items)
 state_of (code.Closing done known) = closing (sections_of done.items) known.0
 state_of (code.Over done known) = over (sections_of done.items) known.0
+
+-- the state once the section of this part ends
+abbrev pub part_closed : List Part → Part → Option State
+part_closed done part = closed (sections_of done) (string_bytes part.name) (keys_of part)
+
+-- the state with one key more in the section of this part
+abbrev pub part_with : List Part → Part → Text × Text → Option State
+part_with done part key = more (sections_of done) (string_bytes part.name) (keys_of part) key
 
 -- where the text has ended, its values have no float
 abbrev pub EndsWhole : held.State → Type 0

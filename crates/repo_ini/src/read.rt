@@ -1,12 +1,10 @@
 //! From an info text to its sections.
 
-ghost use Rattle.std.specs.Prelude.{◌≡◌, ◌≢◌, ◌<◌, ◌^◌, ◌+◌, List, ℕ, length, IfOk, IfErr, Ok, Err};
-ghost use Rattle.sha1.specs.Sha1.{sha1};
-ghost use Rattle.base_text.specs.Sum.{IsSum, sum_text};
-ghost use Rattle.base_model.specs.InfoText.{Section, IsInfo, info_text, text_with, signed_text};
+ghost use Rattle.std.specs.Prelude.{◌≡◌, ◌<◌, ◌^◌, ◌+◌, List, length, IfOk, IfErr, Ok};
+ghost use Rattle.base_model.specs.InfoText.{Section, IsInfo, info_text};
 ghost use Rattle.repo_ini.specs.Parts.{sections_of};
-ghost use Rattle.repo_ini.specs.Form.{pieces, sum};
-ghost use Rattle.repo_ini.specs.Answers.{Gives, IsFaultOf};
+ghost use Rattle.repo_ini.specs.Form.{pieces};
+ghost use Rattle.repo_ini.specs.Answers.{Gives, GivesSections, WhereSumDiffers, IsFaultOf};
 ghost use Rattle.repo_ini.specs.Reading.{start, run, ended, read_text};
 ghost use Rattle.repo_ini.specs.States.{state_of, EndsWhole};
 
@@ -81,13 +79,9 @@ pub fn read_info_text(alloc: Global, bytes: &[u8]) -> Result<Vec<Part>, IniFault
     ensures found { IfOk result (λ v. IsInfo (sections_of v.items)
         × (bytes.now ≡ info_text (sections_of v.items))) }
     // The text of some sections is read as them, unless memory runs out.
-    ensures only { (ss : List Section) → IsInfo ss → bytes.now ≡ info_text ss
-        → Gives (λ v. sections_of v.items) result (Ok ss) }
+    ensures only { (ss : List Section) → IsInfo ss → bytes.now ≡ info_text ss → GivesSections result (Ok ss) }
     // The text of some sections with a sum that isn't theirs is refused for that sum.
-    ensures wrong { (ss : List Section) → (known : List ℕ) → IsInfo ss → IsSum known
-        → known ≢ sha1 (signed_text ss)
-        → bytes.now ≡ text_with (sum_text known) ss
-        → Gives (λ v. sections_of v.items) result (Err (sum known (sha1 (signed_text ss)))) }
+    ensures wrong { WhereSumDiffers bytes.now (GivesSections result) }
     // The first line that no text continues with, or a wrong sum.
     ensures fault { IfErr result (IsFaultOf bytes.now) }
 {

@@ -1,9 +1,9 @@
 //! Takes one more line of an info text.
 
-ghost use Rattle.std.specs.Prelude.{◌≡◌, map, option_map, string_bytes, IfOk, if◌then◌else◌};
-ghost use Rattle.repo_ini.specs.Parts.{key_of, keys_of, sections_of};
-ghost use Rattle.repo_ini.specs.Reading.{step, opened, closed, more, last_name, last_key};
-ghost use Rattle.repo_ini.specs.States.{state_of};
+ghost use Rattle.std.specs.Prelude.{◌≡◌, map, option_map, IfOk, if◌then◌else◌};
+ghost use Rattle.repo_ini.specs.Parts.{key_of, sections_of};
+ghost use Rattle.repo_ini.specs.Reading.{step, opened, last_name, last_key};
+ghost use Rattle.repo_ini.specs.States.{state_of, part_closed, part_with};
 
 use crate::cuts::{cut_at, name_in, sum_in};
 use crate::names::{is_before, is_key, is_name};
@@ -51,8 +51,7 @@ fn open(alloc: Global, done: Vec<Part>, name: &[u8]) -> Result<Option<State>, No
 
 // Ends a section.
 fn close(done: Vec<Part>, part: Part) -> Result<Option<State>, NoMemory>
-    ensures { IfOk result (λ o. option_map state_of o ≡ closed (sections_of done.items) (string_bytes part.name)
-        (keys_of part)) }
+    ensures { IfOk result (λ o. option_map state_of o ≡ part_closed done.items part) }
 {
     let mut done = done;
     if part.keys.is_empty() {
@@ -70,8 +69,7 @@ fn add(
     key: &[u8],
     value: &[u8],
 ) -> Result<Option<State>, NoMemory>
-    ensures { IfOk result (λ o. option_map state_of o ≡ more (sections_of done.items) (string_bytes part.name)
-        (keys_of part) (key.now, value.now)) }
+    ensures { IfOk result (λ o. option_map state_of o ≡ part_with done.items part (key.now, value.now)) }
 {
     let mut part = part;
     let Some(text) = text_of(key) else {

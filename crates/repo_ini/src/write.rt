@@ -1,12 +1,13 @@
 //! From sections to their one text.
 
-ghost use Rattle.std.specs.Prelude.{◌≡◌, ◌++◌, ◌∷◌, [], true, false, map, IfOk, OnOk};
+ghost use Rattle.std.specs.Prelude.{◌≡◌, ◌++◌, false, map, IfOk, OnOk};
 ghost use Rattle.std.specs.List.{flat_map, AllByRecursion};
 ghost use Rattle.json.specs.Print.{quoted};
 ghost use Rattle.serde_json.specs.View.{view};
-ghost use Rattle.serde_json.specs.Written.{has_float, compact_text, comma_if, members_text};
-ghost use Rattle.base_model.specs.InfoText.{key_line, section_text, members_from, sections_from, info_text, signed_text, IsInfo};
+ghost use Rattle.serde_json.specs.Written.{has_float};
+ghost use Rattle.base_model.specs.InfoText.{key_line, section_text, info_text, signed_text, IsInfo};
 ghost use Rattle.repo_ini.specs.Parts.{key_of, section_of, sections_of, NoFloats};
+ghost use Rattle.repo_ini.specs.Json.{key_json, keys_json, section_json, sections_json};
 
 use crate::part::Part;
 use base_text::{NoMemory, Sum};
@@ -33,9 +34,7 @@ fn add_key(
 ) -> Result<(), AllocError>
     requires { has_float (view key.now.1) ≡ false }
     ensures text { OnOk result (text.new.items ≡ text.old.items ++ key_line (key_of key.now)) }
-    ensures json { OnOk result
-        (json.new.items ≡ json.old.items ++
-        (comma_if later ++ (quoted (key_of key.now).0 ++ 58 ∷ compact_text (key_of key.now).1))) }
+    ensures json { OnOk result (json.new.items ≡ json.old.items ++ key_json later (key_of key.now)) }
 {
     let value = key.1.to_vec(alloc)?;
     text.extend_from_slice(key.0.as_bytes())?;
@@ -60,8 +59,7 @@ fn add_keys(
 ) -> Result<(), AllocError>
     requires { NoFloats keys.now }
     ensures text { OnOk result (text.new.items ≡ text.old.items ++ flat_map key_line (map key_of keys.now)) }
-    ensures json { OnOk result
-        (json.new.items ≡ json.old.items ++ members_text false (members_from (map key_of keys.now))) }
+    ensures json { OnOk result (json.new.items ≡ json.old.items ++ keys_json (map key_of keys.now)) }
 {
     let mut later = false;
     for key in keys {
@@ -81,10 +79,7 @@ fn add_section(
 ) -> Result<(), AllocError>
     requires { NoFloats part.now.keys.items }
     ensures text { OnOk result (text.new.items ≡ text.old.items ++ section_text (section_of part.now)) }
-    ensures json { OnOk result
-        (json.new.items ≡ json.old.items ++
-        (44 ∷ (quoted (section_of part.now).name ++ 58 ∷ 123 ∷ members_text false
-        (members_from (section_of part.now).keys)))) }
+    ensures json { OnOk result (json.new.items ≡ json.old.items ++ section_json (section_of part.now)) }
 {
     text.push(b'[')?;
     text.extend_from_slice(part.name.as_bytes())?;
@@ -106,8 +101,7 @@ fn add_sections(
 ) -> Result<(), AllocError>
     requires { AllByRecursion (λ p. NoFloats p.keys.items) parts.now }
     ensures text { OnOk result (text.new.items ≡ text.old.items ++ flat_map section_text (sections_of parts.now)) }
-    ensures json { OnOk result
-        (json.new.items ≡ json.old.items ++ members_text true (sections_from (sections_of parts.now))) }
+    ensures json { OnOk result (json.new.items ≡ json.old.items ++ sections_json (sections_of parts.now)) }
 {
     for part in parts {
         add_section(alloc, part, text, json)?;

@@ -1,14 +1,14 @@
 -- A label's text states the label.
-use Rattle.std.proofs.Common.{◌≡◌, ◌≢◌, ◌≤◌, [], ◌∷◌, ◌++◌, Option, Some, None, refl, ap, arith}
+use Rattle.std.proofs.Common.{◌≡◌, [], ◌∷◌, ◌++◌, Option, Some, None, refl, ap, arith}
 use Rattle.std.specs.Prelude.{IfSome}
 use Rattle.base_model.specs.declared.labels.BackupKind.{BackupKind}
 use Rattle.base_model.specs.declared.labels.BackupKind.TheVariants.{Full, Diff, Incr}
 use Rattle.base_model.specs.declared.labels.Later.{Later}
 use Rattle.base_model.specs.declared.labels.Label.{Label}
-use Rattle.base_devices.specs.States.{last_second}
 use Rattle.base_model.specs.Dates.{stamp}
 use Rattle.base_model.specs.Names.{letter, later_text, label_text}
 use Rattle.base_model.specs.InfoFiles.{IsLabel}
+use Rattle.repo_names.specs.Labels.{IsSecondPart}
 use Rattle.repo_names.proofs.StampTexts.{same_stamp}
 
 same_letter : (k m : BackupKind) → letter k ≡ letter m → k ≡ m
@@ -22,10 +22,7 @@ same_letter Incr Full e = absurd (omega (arith, e))
 same_letter Incr Diff e = absurd (omega (arith, e))
 same_letter Incr Incr e = refl
 
-abbrev pub IsPart : Later → Type 0
-IsPart p = (p.time ≤ last_second) × (p.kind ≢ Full)
-
-same_later : (o p : Option Later) → IfSome o IsPart → IfSome p IsPart → later_text o ≡ later_text p → o ≡ p
+same_later : (o p : Option Later) → IfSome o IsSecondPart → IfSome p IsSecondPart → later_text o ≡ later_text p → o ≡ p
 same_later None None h g e = refl
 same_later None (Some p) h g e = cc
 same_later (Some o) None h g e = cc

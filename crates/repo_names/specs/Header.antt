@@ -41,6 +41,10 @@ pub record BeginsWith (first : Text) (count : ℕ) (bytes : Text) : Type 0 where
   pub prefix : take (length first) bytes ≡ first
   pub whole : length bytes ≡ count
 
+-- this holds of all bytes that begin with the prefix and are this many
+abbrev pub EachThatBegins : Text → ℕ → (Text → Type 0) → Type 0
+EachThatBegins first count Holds = (bytes : Text) → BeginsWith first count bytes → Holds bytes
+
 -- why they are none: the form comes first, then the size
 abbrev pub IsRefused : Text → ℕ → HeaderFault → Type 0
 IsRefused bytes system (Form found info) = (found ≡ length bytes) × (info ≡ page_info bytes) × ¬ HasLongHeader bytes

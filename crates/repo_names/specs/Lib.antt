@@ -4,3 +4,4 @@ pub mod Header
 pub mod Spans
 pub mod Calendar
 pub mod Faults
+pub mod Labels

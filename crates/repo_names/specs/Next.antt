@@ -16,3 +16,7 @@ pub record IsNext (size : ℕ) (a b : Segment) : Type 0 where
 -- none follows: a timeline has 2^32 logs
 abbrev pub IsLast : ℕ → Segment → Type 0
 IsLast size s = position size s + 1 ≡ 2 ^ 32 * segments_per_log size
+
+-- of all segments of logs b follows a alone
+abbrev pub FollowsOnly : ℕ → Segment → Segment → Type 0
+FollowsOnly size a b = (other : Segment) → IsOfLog size other → IsNext size other b → other ≡ a

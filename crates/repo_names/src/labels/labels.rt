@@ -6,9 +6,9 @@ ghost use Rattle.base_model.specs.declared.labels.BackupKind.TheVariants.{Full};
 ghost use Rattle.base_model.specs.declared.labels.Later.{Later};
 ghost use Rattle.base_model.specs.declared.labels.Label.{Label};
 ghost use Rattle.base_devices.specs.States.{last_second};
-ghost use Rattle.base_model.specs.Dates.{stamp};
 ghost use Rattle.base_model.specs.InfoFiles.{IsLabel, label_kind};
 ghost use Rattle.base_model.specs.Names.{label_text, later_text, letter};
+ghost use Rattle.repo_names.specs.Labels.{IsSecondPart, second_part};
 
 use crate::labels::stamp_reader::{after, split_stamp};
 use crate::labels::stamps::push_stamp;
@@ -65,10 +65,8 @@ fn read_letter(text: &[u8]) -> Option<BackupKind>
 
 // The second part of which this is the text.
 fn read_part(text: &[u8]) -> Option<Later>
-    ensures value { IfSome result (λ l. (l.time ≤ last_second) × (l.kind ≢ Full)
-        × (text.now ≡ stamp l.time ++ letter l.kind ∷ [])) }
-    ensures none { IfNone result ((l : Later) → l.time ≤ last_second → l.kind ≢ Full
-        → text.now ≢ stamp l.time ++ letter l.kind ∷ []) }
+    ensures value { IfSome result (λ l. (l.time ≤ last_second) × (l.kind ≢ Full) × (text.now ≡ second_part l)) }
+    ensures none { IfNone result ((l : Later) → l.time ≤ last_second → l.kind ≢ Full → text.now ≢ second_part l) }
 {
     let (time, rest) = split_stamp(text)?;
     let kind = read_letter(rest)?;
@@ -77,10 +75,8 @@ fn read_part(text: &[u8]) -> Option<Later>
 
 // What follows the first part of a label.
 fn read_later(text: &[u8]) -> Option<Option<Later>>
-    ensures value { IfSome result (λ o. IfSome o (λ l. (l.time ≤ last_second) × (l.kind ≢ Full))
-        × (text.now ≡ later_text o)) }
-    ensures none { IfNone result ((o : Option Later) → IfSome o (λ l. (l.time ≤ last_second) × (l.kind ≢ Full))
-        → text.now ≢ later_text o) }
+    ensures value { IfSome result (λ o. IfSome o IsSecondPart × (text.now ≡ later_text o)) }
+    ensures none { IfNone result ((o : Option Later) → IfSome o IsSecondPart → text.now ≢ later_text o) }
 {
     match text {
         [] => Some(None),

@@ -1,11 +1,12 @@
 // Reads seconds from their digits.
-ghost use Rattle.std.specs.Prelude.{◌≡◌, ◌≢◌, ℕ, List, ◌+◌, ◌/◌, ◌%◌, ◌<◌, ◌≤◌, ◌∷◌, ◌++◌, ◌≤ℤ◌, IfSome, IfNone, pos};
+ghost use Rattle.std.specs.Prelude.{◌≡◌, ◌≢◌, ℕ, List, ◌+◌, ◌<◌, ◌≤◌, ◌∷◌, ◌++◌, ◌≤ℤ◌, IfSome, IfNone, pos};
 ghost use Rattle.jiff_core.specs.declared.civil.date.Date.{Date};
 ghost use Rattle.jiff_core.specs.Calendar.{IsCivilDate};
 ghost use Rattle.jiff_core.specs.Date.{epoch_day};
 ghost use Rattle.base_devices.specs.States.{last_second};
 ghost use Rattle.base_model.specs.Dates.{two, date_digits, clock_digits, date_after, stamp};
-ghost use Rattle.repo_names.specs.Calendar.{parts_of};
+ghost use Rattle.base_model.specs.Text.{Text};
+ghost use Rattle.repo_names.specs.Calendar.{year_before, day_digits};
 
 use jiff_core::civil::Date;
 
@@ -46,10 +47,8 @@ pub(crate) fn after(text: &[u8], byte: u8) -> Option<&[u8]>
 
 // A year in front, and what follows it.
 fn split_year(text: &[u8]) -> Option<(u16, &[u8])>
-    ensures value { IfSome result
-        (λ p. (p.0 < 10000) × (text.now ≡ two (p.0 / 100) ++ two (p.0 % 100) ++ p.1.now)) }
-    ensures none { IfNone result ((n : ℕ) (rest : List ℕ) → n < 10000
-        → text.now ≢ two (n / 100) ++ two (n % 100) ++ rest) }
+    ensures value { IfSome result (λ p. (p.0 < 10000) × (text.now ≡ year_before p.0 p.1.now)) }
+    ensures none { IfNone result ((n : ℕ) (rest : List ℕ) → n < 10000 → text.now ≢ year_before n rest) }
 {
     let (century, rest) = split_two(text)?;
     let (year, rest) = split_two(rest)?;
@@ -69,10 +68,8 @@ fn civil_date(year: u16, month: u8, day: u8) -> Option<Date>
 
 // A date in front, and what follows it.
 fn split_date(text: &[u8]) -> Option<(Date, &[u8])>
-    ensures value { IfSome result
-        (λ p. (pos 0 ≤ℤ p.0.year) × (text.now ≡ date_digits (parts_of p.0) ++ p.1.now)) }
-    ensures none { IfNone result ((d : Date) (rest : List ℕ) → pos 0 ≤ℤ d.year
-        → text.now ≢ date_digits (parts_of d) ++ rest) }
+    ensures value { IfSome result (λ p. (pos 0 ≤ℤ p.0.year) × (text.now ≡ day_digits p.0 ++ p.1.now)) }
+    ensures none { IfNone result ((d : Date) (rest : List ℕ) → pos 0 ≤ℤ d.year → text.now ≢ day_digits d ++ rest) }
 {
     let (year, rest) = split_year(text)?;
     let (month, rest) = split_two(rest)?;
@@ -92,8 +89,7 @@ fn days_to(date: Date) -> Option<u64>
 // A date from 1970 on in front, as its count of days, and what follows it.
 fn split_day(text: &[u8]) -> Option<(u64, &[u8])>
     ensures value { IfSome result (λ p. (p.0 ≤ 2932896) × (text.now ≡ date_digits (date_after p.0) ++ p.1.now)) }
-    ensures none { IfNone result ((n : ℕ) (rest : List ℕ) → n ≤ 2932896
-        → text.now ≢ date_digits (date_after n) ++ rest) }
+    ensures none { IfNone result ((n : ℕ) (rest : Text) → n ≤ 2932896 → text.now ≢ date_digits (date_after n) ++ rest) }
 {
     let (date, rest) = split_date(text)?;
     let days = days_to(date)?;

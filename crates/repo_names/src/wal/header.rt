@@ -18,8 +18,7 @@ pub enum HeaderFault {
 }
 
 ghost use Rattle.std.specs.Prelude.{◌≡◌, ◌⊎◌, ◌+◌, ◌≤◌, length, take, drop, IfOk, IfErr};
-ghost use Rattle.base_model.specs.Text.{Text};
-ghost use Rattle.repo_names.specs.Header.{number_at, page_info, BeginsWith, IsOfSystem, IsRefused};
+ghost use Rattle.repo_names.specs.Header.{number_at, page_info, EachThatBegins, IsOfSystem, IsRefused};
 
 const LONG_HEADER: u16 = 0x0002;
 
@@ -70,10 +69,8 @@ fn page_info(bytes: &[u8]) -> u16
 pub fn check_prefix(prefix: &[u8], count: u64, system: u64) -> Result<SegSize, HeaderFault>
     requires long { (40 ≤ length prefix.now) ⊎ (length prefix.now ≡ count) }
     requires within { length prefix.now ≤ count }
-    ensures valid { IfOk result (λ size. (bytes : Text) → BeginsWith prefix.now count bytes
-        → IsOfSystem bytes system size.0) }
-    ensures refused { IfErr result (λ fault. (bytes : Text) → BeginsWith prefix.now count bytes
-        → IsRefused bytes system fault) }
+    ensures valid { IfOk result (λ size. EachThatBegins prefix.now count (λ bytes. IsOfSystem bytes system size.0)) }
+    ensures refused { IfErr result (λ fault. EachThatBegins prefix.now count (λ bytes. IsRefused bytes system fault)) }
 {
     let info = page_info(prefix);
     if count < 40 || info & LONG_HEADER == 0 {

@@ -1,10 +1,9 @@
 // The order of segments (PostgreSQL manual, "WAL Internals").
 ghost use Rattle.std.specs.Prelude.{◌≡◌, IfSome, IfNone};
-ghost use Rattle.base_model.specs.declared.wal.Segment.{Segment};
 ghost use Rattle.base_model.specs.ManifestText.{IsSegSize};
 ghost use Rattle.base_model.specs.Names.{segment_text};
 ghost use Rattle.base_model.specs.Text.{text_cmp};
-ghost use Rattle.repo_names.specs.Next.{IsOfLog, IsNext, IsLast};
+ghost use Rattle.repo_names.specs.Next.{IsOfLog, IsNext, FollowsOnly, IsLast};
 
 use crate::wal::sizes::segments_per_log;
 use base_model::{SegSize, Segment};
@@ -15,8 +14,7 @@ pub fn next(segment: &Segment, size: SegSize) -> Option<Segment>
     requires valid { IsSegSize size.0 }
     requires of_log { IsOfLog size.0 segment.now }
     ensures next { IfSome result (IsNext size.0 segment.now) }
-    ensures of_one { IfSome result
-        (λ s. (other : Segment) → IsOfLog size.0 other → IsNext size.0 other s → other ≡ segment.now) }
+    ensures of_one { IfSome result (FollowsOnly size.0 segment.now) }
     ensures none { IfNone result (IsLast size.0 segment.now) }
 {
     let Segment { timeline, log, seg } = *segment;
