@@ -34,6 +34,10 @@ span_list (Some w) = w ∷ []
 abbrev pub spans_of : List Entry → List Span
 spans_of es = flat_map (λ e. span_list e.span) es
 
+-- the spans of a cluster's backups that count for an archive kind
+abbrev pub counted_spans : BackupKind → ℕ → List Entry → List Span
+counted_spans kind number es = spans_of (filter (counts kind) (of_cluster number es))
+
 -- how many backups with a span keep the log: as given, or as many as the kind's own rule keeps, of k that there are
 abbrev pub number_by : BackupKind → FullRule → Option ℕ → ℕ → Option ℕ
 number_by Full (Count n) diff k = Some n

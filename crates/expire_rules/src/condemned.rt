@@ -1,11 +1,9 @@
 // Which backups a retention expires.
 ghost use Rattle.std.specs.Prelude.{◌≡◌, ◌∷◌, ◌++◌, [], List, IfOk, OnOk, map, filter};
-ghost use Rattle.base_model.specs.declared.labels.Label.{Label};
-ghost use Rattle.base_model.specs.Repository.{Backup};
 ghost use Rattle.base_model.specs.Values.{entry_of};
 ghost use Rattle.expire_rules.specs.Labels.{has_label, labels_of};
 ghost use Rattle.expire_rules.specs.Condemned.{condemned_labels};
-ghost use Rattle.expire_rules.specs.Descent.{AreInLine, Descends, listed_in};
+ghost use Rattle.expire_rules.specs.Descent.{DescendWhereListed};
 
 use crate::counting_rules::{diff_labels, full_labels};
 use crate::dependents::with_dependents;
@@ -56,10 +54,9 @@ pub fn expired(
     moment: u64,
 ) -> Result<Vec<Label>, NoMemory>
     ensures condemned { IfOk result
-        (λ labels. labels.items ≡ condemned_labels rules.now moment (map entry_of entries.now)) }
-    ensures descends { IfOk result (λ labels. (backups : List Backup)
-        → listed_in backups ≡ map entry_of entries.now
-        → AreInLine (listed_in backups) → Descends rules.now moment backups labels.items) }
+        (λ r. r.items ≡ condemned_labels rules.now moment (map entry_of entries.now)) }
+    ensures descends { IfOk result
+        (λ r. DescendWhereListed rules.now moment (map entry_of entries.now) r.items) }
 {
     let known = full_labels(alloc, entries, rules.full, moment)?;
     let full = with_dependents(entries, known)?;

@@ -1,7 +1,7 @@
 // The spans of backups that count.
-ghost use Rattle.std.specs.Prelude.{◌≡◌, ◌∷◌, ◌++◌, [], IfOk, OnOk, map, filter};
+ghost use Rattle.std.specs.Prelude.{◌≡◌, ◌∷◌, ◌++◌, [], IfOk, OnOk, map};
 ghost use Rattle.base_model.specs.Values.{entry_of};
-ghost use Rattle.expire_rules.specs.Needed.{counts, of_cluster, spans_of, span_list};
+ghost use Rattle.expire_rules.specs.Needed.{counts, counted_spans, span_list};
 
 use base_model::{BackupKind, Entry, Span};
 use base_text::NoMemory;
@@ -20,7 +20,7 @@ fn counts(kind: BackupKind, entry: &Entry) -> bool
 
 // The span of a backup, where it is of the cluster and counts.
 fn span_of(entry: &Entry, number: u32, kind: BackupKind) -> Option<Span>
-    ensures { span_list result ≡ spans_of (filter (counts kind) (of_cluster number (entry_of entry.now ∷ []))) }
+    ensures { span_list result ≡ counted_spans kind number (entry_of entry.now ∷ []) }
 {
     if entry.db == number && counts(kind, entry) {
         entry.span
@@ -48,8 +48,7 @@ pub(crate) fn spans_that(
     number: u32,
     kind: BackupKind,
 ) -> Result<Vec<Span>, NoMemory>
-    ensures { IfOk result
-        (λ r. r.items ≡ spans_of (filter (counts kind) (of_cluster number (map entry_of entries.now)))) }
+    ensures { IfOk result (λ r. r.items ≡ counted_spans kind number (map entry_of entries.now)) }
 {
     let mut spans = Vec::new(alloc);
     for entry in entries {

@@ -1,9 +1,8 @@
 // Which backups the two counting rules condemn.
-ghost use Rattle.std.specs.Prelude.{◌≡◌, ◌++◌, ◌∷◌, [], not, Option, IfOk, OnOk, map, filter, length};
+ghost use Rattle.std.specs.Prelude.{◌≡◌, ◌++◌, ◌∷◌, [], Option, IfOk, OnOk, map, filter, length};
 ghost use Rattle.base_model.specs.Values.{entry_of};
-ghost use Rattle.expire_rules.specs.Labels.{has_label, labels_of};
-ghost use Rattle.expire_rules.specs.Condemned.{is_full, is_counted, is_old, before_last, full_gone, diffs_gone};
-ghost use Rattle.expire_rules.specs.Known.{mark_of, diffs_marked};
+ghost use Rattle.expire_rules.specs.Condemned.{is_full, is_old, before_last, full_gone, labels_of_full, full_labels_gone, diff_labels_gone, without_labels};
+ghost use Rattle.expire_rules.specs.Known.{counted_marks, diffs_marked};
 
 use crate::labels::has_label;
 use crate::rules::FullRule;
@@ -29,8 +28,7 @@ fn is_full(entry: &Entry) -> bool
 }
 
 fn push_full(labels: &mut Vec<Label>, entry: &Entry) -> Result<(), NoMemory>
-    ensures { OnOk result (labels.new.items
-        ≡ labels.old.items ++ labels_of (filter is_full (entry_of entry.now ∷ []))) }
+    ensures { OnOk result (labels.new.items ≡ labels.old.items ++ labels_of_full (entry_of entry.now ∷ [])) }
 {
     if is_full(entry) {
         labels.push(entry.label)?;
@@ -41,7 +39,7 @@ fn push_full(labels: &mut Vec<Label>, entry: &Entry) -> Result<(), NoMemory>
 
 // The labels of the full backups.
 fn labels_of_full(alloc: Global, entries: &[Entry]) -> Result<Vec<Label>, NoMemory>
-    ensures { IfOk result (λ labels. labels.items ≡ labels_of (filter is_full (map entry_of entries.now))) }
+    ensures { IfOk result (λ labels. labels.items ≡ labels_of_full (map entry_of entries.now)) }
 {
     let mut labels = Vec::new(alloc);
     for entry in entries {
@@ -94,8 +92,7 @@ pub(crate) fn full_labels(
     rule: FullRule,
     moment: u64,
 ) -> Result<Vec<Label>, NoMemory>
-    ensures { IfOk result (λ labels. labels.items
-        ≡ labels_of (full_gone rule moment (filter is_full (map entry_of entries.now)))) }
+    ensures { IfOk result (λ labels. labels.items ≡ full_labels_gone rule moment (map entry_of entries.now)) }
 {
     let mut labels = labels_of_full(alloc, entries)?;
     let gone = count_gone(entries, labels.len(), rule, moment);
@@ -107,8 +104,7 @@ pub(crate) fn full_labels(
 
 // Adds a full or a differential backup whose label isn't among those that expire.
 fn push_counted(marks: &mut Vec<Mark>, gone: &[Label], entry: &Entry) -> Result<(), NoMemory>
-    ensures { OnOk result (marks.new.items ≡ marks.old.items ++ map mark_of
-        (filter is_counted (filter (λ e. not (has_label gone.now e.label)) (entry_of entry.now ∷ [])))) }
+    ensures { OnOk result (marks.new.items ≡ marks.old.items ++ counted_marks gone.now (entry_of entry.now ∷ [])) }
 {
     if entry.kind != BackupKind::Incr && !has_label(gone, &entry.label) {
         marks.push(Mark {
@@ -122,9 +118,7 @@ fn push_counted(marks: &mut Vec<Mark>, gone: &[Label], entry: &Entry) -> Result<
 
 // The full and differential backups whose labels aren't among those that expire.
 fn counted(alloc: Global, entries: &[Entry], gone: &[Label]) -> Result<Vec<Mark>, NoMemory>
-    ensures { IfOk result (λ marks. marks.items
-        ≡ map mark_of (filter is_counted (filter (λ e. not (has_label gone.now e.label))
-        (map entry_of entries.now)))) }
+    ensures { IfOk result (λ marks. marks.items ≡ counted_marks gone.now (map entry_of entries.now)) }
 {
     let mut marks = Vec::new(alloc);
     for entry in entries {
@@ -162,8 +156,8 @@ pub(crate) fn diff_labels(
     gone: &[Label],
     rule: Option<u32>,
 ) -> Result<Vec<Label>, NoMemory>
-    ensures { IfOk result (λ labels. labels.items ≡ labels_of
-        (diffs_gone rule (filter (λ e. not (has_label gone.now e.label)) (map entry_of entries.now)))) }
+    ensures { IfOk result
+        (λ r. r.items ≡ diff_labels_gone rule (without_labels gone.now (map entry_of entries.now))) }
 {
     let Some(n) = rule else {
         return Ok(Vec::new(alloc));

@@ -1,10 +1,9 @@
 // Labels, and those of the backups that depend on them.
-ghost use Rattle.std.specs.Prelude.{◌≡◌, ◌||◌, ◌&&◌, false, Option, IfOk, OnOk, map};
+ghost use Rattle.std.specs.Prelude.{◌≡◌, false, Option, IfOk, OnOk, map};
 ghost use Rattle.std.specs.Option.{option_map_or};
-ghost use Rattle.base_model.specs.declared.labels.Label.{Label};
 ghost use Rattle.base_model.specs.Values.{entry_of};
-ghost use Rattle.expire_rules.specs.Labels.{is_label, has_label};
-ghost use Rattle.expire_rules.specs.Condemned.{with_dependents};
+ghost use Rattle.expire_rules.specs.Labels.{has_label};
+ghost use Rattle.expire_rules.specs.Condemned.{AddsDependent, AreWithDependents};
 
 use crate::labels::has_label;
 use base_model::{Entry, Label};
@@ -22,8 +21,7 @@ fn has_prior(labels: &[Label], prior: Option<Label>) -> bool
 
 // Adds the backup's label, where its prior is among the labels.
 fn push_dependent(labels: &mut Vec<Label>, entry: &Entry) -> Result<(), NoMemory>
-    ensures { OnOk result ((l : Label) → has_label labels.new.items l ≡ (has_label labels.old.items l
-        || (is_label entry.now.label l && option_map_or (has_label labels.old.items) entry.now.prior false))) }
+    ensures { OnOk result (AddsDependent entry.now.label entry.now.prior labels.old.items labels.new.items) }
 {
     if has_prior(labels, entry.prior) {
         labels.push(entry.label)?;
@@ -34,8 +32,7 @@ fn push_dependent(labels: &mut Vec<Label>, entry: &Entry) -> Result<(), NoMemory
 
 /// The labels with those of all backups that depend on them by prior.
 pub(crate) fn with_dependents(entries: &[Entry], known: Vec<Label>) -> Result<Vec<Label>, NoMemory>
-    ensures { IfOk result (λ r. (l : Label) → has_label r.items l
-        ≡ with_dependents (has_label known.items) (map entry_of entries.now) l) }
+    ensures { IfOk result (λ r. AreWithDependents known.items (map entry_of entries.now) r.items) }
 {
     let mut labels = known;
     for entry in entries {

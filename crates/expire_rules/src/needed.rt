@@ -2,8 +2,8 @@
 ghost use Rattle.std.specs.Prelude.{◌≡◌, IfOk, map};
 ghost use Rattle.base_model.specs.Values.{entry_of};
 ghost use Rattle.expire_rules.specs.Condemned.{has_some};
-ghost use Rattle.expire_rules.specs.Needed.{keeping, of_cluster, keeps_file, keeps_segment, is_at_or_after, is_within, archive_number, keeps_all, start_from};
-ghost use Rattle.expire_rules.specs.Known.{keeping_known};
+ghost use Rattle.expire_rules.specs.Needed.{keeps_file, keeps_segment, is_at_or_after, is_within, archive_number, keeps_all, start_from};
+ghost use Rattle.expire_rules.specs.Known.{keeping_known, IsKeeping};
 
 use crate::counted_spans::spans_that;
 use crate::rules::{FullRule, KeptFiles, Rules};
@@ -22,8 +22,8 @@ pub fn spans(
     rules: &Rules,
 ) -> Result<KeptFiles, NoMemory>
     ensures id { IfOk result (λ kept. kept.id ≡ id.now) }
-    ensures keeping { IfOk result (λ kept. keeping_known kept
-        ≡ keeping rules.now current (of_cluster id.now.number (map entry_of entries.now))) }
+    ensures keeping { IfOk result
+        (λ kept. IsKeeping rules.now current id.now.number (map entry_of entries.now) kept) }
 {
     let all = spans_that(alloc, entries, id.number, BackupKind::Incr)?;
     let counted = spans_that(alloc, entries, id.number, rules.archive_kind)?;
