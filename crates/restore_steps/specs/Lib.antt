@@ -4,3 +4,6 @@ pub mod Files
 pub mod Apart
 pub mod Keeping
 pub mod Laters
+pub mod Trees
+pub mod Writing
+pub mod Preparing

@@ -1,10 +1,11 @@
 // A file that is written as a worker reads it.
-ghost use Rattle.std.specs.Prelude.{◌≡◌, ◌≢◌, ◌<◌, ◌≤◌, ◌+◌, length, None, Some, IfOk, OnOk, IfErr, string_bytes};
+ghost use Rattle.std.specs.Prelude.{◌≡◌, ◌≤◌, ◌+◌, length, None, Some, IfOk, OnOk, IfErr, string_bytes};
 ghost use Rattle.base_devices.specs.Cause.{HasCause};
 ghost use Rattle.base_devices.specs.Content.{SameBut};
-ghost use Rattle.base_devices.specs.DataFolder.{IsPlaced, IsFileAt};
-ghost use Rattle.worker_protocol.specs.PartSinkState.{Adds, Ends};
-ghost use Rattle.restore_steps.specs.Files.{temporary_path, is_wanted, kept_of, SameBeside, IsTidy, IsUnderWay, Grows, IsBegun, IsPut};
+ghost use Rattle.base_devices.specs.DataFolder.{IsFileAt};
+ghost use Rattle.restore_steps.specs.Files.{temporary_path, is_wanted, SameBeside, IsTidy, IsUnderWay, Grows, IsBegun, IsPut};
+ghost use Rattle.restore_steps.specs.Trees.{ProperAt};
+ghost use Rattle.restore_steps.specs.Writing.{ExtendsProperly, PutsProperly, ReceivesProperly, ReceivesBytes, ReceivesEnd};
 
 use base_devices::{DataFolder, DeviceError};
 use base_text::Sum;
@@ -37,8 +38,7 @@ fn temporary_name(alloc: Global, path: &str) -> Result<String, AllocError>
 fn begin_first<T: DataFolder>(tree: &mut T, name: &str, count: u64) -> Result<(), DeviceError>
     ensures begun { OnOk result (IsBegun count name.now (T.state tree.old).nodes (T.state tree.new).nodes) }
     ensures others { SameBut name.now (T.state tree.old).nodes (T.state tree.new).nodes }
-    ensures proper { IsPlaced (T.state tree.old).nodes name.now
-        → (T.state tree.new).faulty_calls ≡ (T.state tree.old).faulty_calls }
+    ensures proper { ProperAt name.now (T.state tree.old) (T.state tree.new) }
     ensures opened { (T.state tree.new).opened ≡ (T.state tree.old).opened }
     ensures cause { HasCause (T.state tree.old).faults (T.state tree.new).faults result }
 {
@@ -60,8 +60,7 @@ fn extend<T: DataFolder>(
     ensures there { OnOk result (IsFileAt (T.state tree.new).nodes (temporary_path path.now)) }
     ensures others { SameBut (temporary_path path.now) (T.state tree.old).nodes (T.state tree.new).nodes }
     // Where the file's folder is there, and the bytes that were received lie in a file, no call is faulty.
-    ensures proper { (0 < count → IsFileAt (T.state tree.old).nodes (temporary_path path.now))
-        → IsPlaced (T.state tree.old).nodes path.now → (T.state tree.new).faulty_calls ≡ (T.state tree.old).faulty_calls }
+    ensures proper { ExtendsProperly count path.now (T.state tree.old) (T.state tree.new) }
     ensures opened { (T.state tree.new).opened ≡ (T.state tree.old).opened }
     ensures cause { HasCause (T.state tree.old).faults (T.state tree.new).faults result }
 {
@@ -74,8 +73,7 @@ fn extend<T: DataFolder>(
 fn put_in_place<T: DataFolder>(alloc: Global, tree: &mut T, path: &str) -> Result<(), DeviceError>
     ensures put { OnOk result (IsPut path.now (T.state tree.old).nodes (T.state tree.new).nodes) }
     ensures others { SameBeside path.now (T.state tree.old).nodes (T.state tree.new).nodes }
-    ensures proper { IsFileAt (T.state tree.old).nodes (temporary_path path.now)
-        → IsPlaced (T.state tree.old).nodes path.now → (T.state tree.new).faulty_calls ≡ (T.state tree.old).faulty_calls }
+    ensures proper { PutsProperly path.now (T.state tree.old) (T.state tree.new) }
     ensures opened { (T.state tree.new).opened ≡ (T.state tree.old).opened }
     ensures cause { HasCause (T.state tree.old).faults (T.state tree.new).faults result }
 {
@@ -93,13 +91,10 @@ pub(crate) fn add_part<T: DataFolder>(
     requires { file.old.end ≡ None }
     ensures wanted { file.new.wanted ≡ file.old.wanted }
     ensures still_open { file.new.end ≡ None }
-    ensures adds { OnOk result
-        (Adds bytes.now (kept_of (T.state tree.old).nodes file.old) (kept_of (T.state tree.new).nodes file.new)) }
+    ensures adds { OnOk result (ReceivesBytes bytes.now file.old file.new (T.state tree.old) (T.state tree.new)) }
     ensures begun { OnOk result (IsUnderWay (T.state tree.new).nodes file.new) }
     ensures others { SameBeside file.old.wanted.path.now (T.state tree.old).nodes (T.state tree.new).nodes }
-    ensures proper { IsUnderWay (T.state tree.old).nodes file.old
-        → IsPlaced (T.state tree.old).nodes file.old.wanted.path.now
-        → (T.state tree.new).faulty_calls ≡ (T.state tree.old).faulty_calls }
+    ensures proper { ReceivesProperly file.old (T.state tree.old) (T.state tree.new) }
     ensures opened { (T.state tree.new).opened ≡ (T.state tree.old).opened }
     ensures cause { HasCause (T.state tree.old).faults (T.state tree.new).faults result }
 {
@@ -143,13 +138,10 @@ pub(crate) fn end_file<T: DataFolder>(
     requires { file.old.end ≡ None }
     ensures wanted { file.new.wanted ≡ file.old.wanted }
     ensures tidy { OnOk result (IsTidy (T.state tree.new).nodes file.new) }
-    ensures ends { OnOk result
-        (Ends how.now (kept_of (T.state tree.old).nodes file.old) (kept_of (T.state tree.new).nodes file.new)) }
+    ensures ends { OnOk result (ReceivesEnd how.now file.old file.new (T.state tree.old) (T.state tree.new)) }
     ensures begun { OnOk result (IsUnderWay (T.state tree.new).nodes file.new) }
     ensures others { SameBeside file.old.wanted.path.now (T.state tree.old).nodes (T.state tree.new).nodes }
-    ensures proper { IsUnderWay (T.state tree.old).nodes file.old
-        → IsPlaced (T.state tree.old).nodes file.old.wanted.path.now
-        → (T.state tree.new).faulty_calls ≡ (T.state tree.old).faulty_calls }
+    ensures proper { ReceivesProperly file.old (T.state tree.old) (T.state tree.new) }
     ensures opened { (T.state tree.new).opened ≡ (T.state tree.old).opened }
     ensures cause { HasCause (T.state tree.old).faults (T.state tree.new).faults result }
 {

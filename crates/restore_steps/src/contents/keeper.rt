@@ -1,8 +1,7 @@
 // A keeper over a data folder.
-ghost use Rattle.std.specs.Prelude.{◌≡◌, ◌<◌, ℕ, [], Some, map, length, slice_get, IfOk, IsSomeAnd};
+ghost use Rattle.std.specs.Prelude.{◌≡◌, ℕ, [], Some, map, slice_get, IfOk};
 ghost use Rattle.worker_protocol.specs.Frames.{Job as Asked};
 ghost use Rattle.worker_protocol.specs.Views.{job_of};
-ghost use Rattle.worker_protocol.specs.PartSinkState.{IsFresh};
 ghost use Rattle.restore_steps.specs.Files.{untouched_of, wanted_of, path_of, AreInOrder};
 ghost use Rattle.restore_steps.specs.Apart.{AreApart, HasOneItem, counted};
 
@@ -41,6 +40,7 @@ fn start_all<'a>(alloc: Global, wanted: &[Wanted<'a>]) -> Result<Vec<Filed<'a>>,
 
 impl<'a> FileKeeper<'a> {
     ghost use Rattle.restore_steps.specs.Keeping.{state_of};
+    ghost use Rattle.restore_steps.specs.Writing.{HoldsNothing};
 
     /// It is for these jobs, whose files are to be written so, and has nothing of them yet.
     pub fn new<T: DataFolder>(
@@ -53,8 +53,7 @@ impl<'a> FileKeeper<'a> {
         requires one { (j : ℕ) (job : Asked) → slice_get (map job_of jobs.now) j ≡ Some job → HasOneItem job }
         ensures jobs { IfOk result (λ k. (state_of k (T.state tree.now).nodes).jobs ≡ map job_of jobs.now) }
         ensures wanted { IfOk result (λ k. map wanted_of k.files.items ≡ wanted.now) }
-        ensures empty { IfOk result (λ k. (j : ℕ) → j < length wanted.now
-            → IsSomeAnd (slice_get (state_of k (T.state tree.now).nodes).kept j) IsFresh) }
+        ensures empty { IfOk result (HoldsNothing wanted.now (T.state tree.now)) }
         ensures agrees { IfOk result (λ k. AreInOrder (T.state tree.now).nodes k.files.items) }
         ensures faults { IfOk result (λ k. k.faults ≡ 0) }
     {

@@ -1,11 +1,10 @@
 // The files of a backup that have no bytes.
-ghost use Rattle.std.specs.Prelude.{◌≡◌, ◌≢◌, true, [], map, OnOk, IfSome, string_bytes};
+ghost use Rattle.std.specs.Prelude.{◌≡◌, map, OnOk, string_bytes};
 ghost use Rattle.base_devices.specs.Cause.{HasCause};
-ghost use Rattle.base_devices.specs.Content.{at};
-ghost use Rattle.base_devices.specs.DataFolder.{IsPlaced};
-ghost use Rattle.base_model.specs.Text.{Text, In};
-ghost use Rattle.base_model.specs.Values.{FileEntry as Entry, file_entry_of};
-ghost use Rattle.restore_steps.specs.Clearing.{HasFile, is_bare, ArePlaced, Bares};
+ghost use Rattle.base_model.specs.Values.{file_entry_of};
+ghost use Rattle.restore_steps.specs.Clearing.{is_bare, ArePlaced};
+ghost use Rattle.restore_steps.specs.Preparing.{HasBare, ChangesBareFile, BeginsBare, ChangesBareFiles};
+ghost use Rattle.restore_steps.specs.Trees.{ProperAt, ProperWhere};
 
 use crate::folders::folder_setup::is_control;
 use base_devices::{DataFolder, DeviceError};
@@ -20,12 +19,9 @@ fn is_bare(file: &FileEntry) -> bool
 
 // Begins a file that has no bytes.
 fn begin_one<T: DataFolder>(tree: &mut T, file: &FileEntry) -> Result<(), DeviceError>
-    ensures bare { OnOk result (is_bare (file_entry_of file.now) ≡ true
-        → IfSome (T.state tree.new).nodes (HasFile (string_bytes file.now.path) [])) }
-    ensures others { (q : Text) → (is_bare (file_entry_of file.now) ≡ true → q ≢ string_bytes file.now.path)
-        → at q (T.state tree.new).nodes ≡ at q (T.state tree.old).nodes }
-    ensures proper { IsPlaced (T.state tree.old).nodes (string_bytes file.now.path)
-        → (T.state tree.new).faulty_calls ≡ (T.state tree.old).faulty_calls }
+    ensures bare { OnOk result (HasBare (file_entry_of file.now) (T.state tree.new)) }
+    ensures others { ChangesBareFile (file_entry_of file.now) (T.state tree.old) (T.state tree.new) }
+    ensures proper { ProperAt (string_bytes file.now.path) (T.state tree.old) (T.state tree.new) }
     ensures opened { (T.state tree.new).opened ≡ (T.state tree.old).opened }
     ensures cause { HasCause (T.state tree.old).faults (T.state tree.new).faults result }
 {
@@ -37,14 +33,10 @@ fn begin_one<T: DataFolder>(tree: &mut T, file: &FileEntry) -> Result<(), Device
 
 // Begins all files that have no bytes.
 pub fn begin_bare<T: DataFolder>(tree: &mut T, files: &[FileEntry]) -> Result<(), DeviceError>
-    ensures bares { OnOk result
-        (Bares (map file_entry_of files.now) (T.state tree.old).nodes (T.state tree.new).nodes) }
-    ensures others { (q : Text) → ((e : Entry) → In e (map file_entry_of files.now) → is_bare e ≡ true
-        → q ≢ e.path)
-        → at q (T.state tree.new).nodes ≡ at q (T.state tree.old).nodes }
+    ensures bares { OnOk result (BeginsBare (map file_entry_of files.now) (T.state tree.old) (T.state tree.new)) }
+    ensures others { ChangesBareFiles (map file_entry_of files.now) (T.state tree.old) (T.state tree.new) }
     // Where their folders are there, no call is faulty.
-    ensures proper { ArePlaced (map file_entry_of files.now) (T.state tree.old).nodes
-        → (T.state tree.new).faulty_calls ≡ (T.state tree.old).faulty_calls }
+    ensures proper { ProperWhere (ArePlaced (map file_entry_of files.now)) (T.state tree.old) (T.state tree.new) }
     ensures opened { (T.state tree.new).opened ≡ (T.state tree.old).opened }
     ensures cause { HasCause (T.state tree.old).faults (T.state tree.new).faults result }
 {

@@ -1,13 +1,10 @@
 // Makes the data folder ready for a backup's files.
-ghost use Rattle.std.specs.Prelude.{◌≡◌, ◌≢◌, true, false, bytes_eq, map, option_map, IfSome, OnOk, string_bytes};
+ghost use Rattle.std.specs.Prelude.{◌≡◌, bytes_eq, map, OnOk, string_bytes};
 ghost use Rattle.base_devices.specs.Cause.{HasCause};
-ghost use Rattle.base_devices.specs.Content.{at};
-ghost use Rattle.base_devices.specs.Order.{are_in_order};
-ghost use Rattle.base_devices.specs.DataFolder.{IsBare};
-ghost use Rattle.base_model.specs.ManifestText.{HasItsFolders};
-ghost use Rattle.base_model.specs.Text.{Text, In};
 ghost use Rattle.base_model.specs.Values.{manifest_of};
-ghost use Rattle.restore_steps.specs.Clearing.{control_path, stays, seen_of, without_one, without, with_folders, IsOrdered, IsSpared, IsListed, HaveTheirFolders, StaysNone};
+ghost use Rattle.restore_steps.specs.Clearing.{control_path, stays, IsOrdered, StaysNone};
+ghost use Rattle.restore_steps.specs.Preparing.{ClearsNode, SparesBesideNode, ClearsNodeProperly, ClearsTree, SparesOthers, ClearsProperly, MakesFolders, MakesProperly};
+ghost use Rattle.restore_steps.specs.Trees.{ChangesAmong};
 
 use crate::folders::backup_paths::{has_file, has_folder};
 use base_devices::{DataFolder, DeviceError, FolderEntry, Node};
@@ -41,17 +38,10 @@ fn clear_one<T: DataFolder>(
     node: &FolderEntry,
 ) -> Result<(), DeviceError>
     requires { IsOrdered (manifest_of manifest.now) }
-    ensures cleared { OnOk result
-        ((T.state tree.new).nodes ≡ option_map (without_one (manifest_of manifest.now) (seen_of node.now))
-        (T.state tree.old).nodes) }
-    ensures others { (q : Text)
-        → (stays (manifest_of manifest.now) (string_bytes node.now.path) node.now.node ≡ false
-        → q ≢ string_bytes node.now.path)
-        → at q (T.state tree.new).nodes ≡ at q (T.state tree.old).nodes }
+    ensures cleared { OnOk result (ClearsNode manifest.now node.now (T.state tree.old) (T.state tree.new)) }
+    ensures others { SparesBesideNode manifest.now node.now (T.state tree.old) (T.state tree.new) }
     ensures control { StaysNone control_path (T.state tree.old).nodes (T.state tree.new).nodes }
-    ensures proper { (stays (manifest_of manifest.now) (string_bytes node.now.path) node.now.node ≡ false
-        → IsBare (T.state tree.old).nodes (string_bytes node.now.path))
-        → (T.state tree.new).faulty_calls ≡ (T.state tree.old).faulty_calls }
+    ensures proper { ClearsNodeProperly manifest.now node.now (T.state tree.old) (T.state tree.new) }
     ensures opened { (T.state tree.new).opened ≡ (T.state tree.old).opened }
     ensures cause { HasCause (T.state tree.old).faults (T.state tree.new).faults result }
 {
@@ -68,17 +58,12 @@ pub fn clear<T: DataFolder>(
     seen: &[FolderEntry],
 ) -> Result<(), DeviceError>
     requires order { IsOrdered (manifest_of manifest.now) }
-    ensures cleared { OnOk result
-        ((T.state tree.new).nodes ≡ option_map (without (manifest_of manifest.now) (map seen_of seen.now))
-        (T.state tree.old).nodes) }
+    ensures cleared { OnOk result (ClearsTree manifest.now seen.now (T.state tree.old) (T.state tree.new)) }
     // Whatever the result, only what is listed and may not stay has changed.
-    ensures others { (q : Text) → IsSpared (manifest_of manifest.now) (map seen_of seen.now) q
-        → at q (T.state tree.new).nodes ≡ at q (T.state tree.old).nodes }
+    ensures others { SparesOthers manifest.now seen.now (T.state tree.old) (T.state tree.new) }
     ensures control { StaysNone control_path (T.state tree.old).nodes (T.state tree.new).nodes }
     // Where all that is there is listed, no folder is removed that holds something.
-    ensures proper { IfSome (T.state tree.old).nodes (IsListed (map seen_of seen.now))
-        → HaveTheirFolders (manifest_of manifest.now)
-        → (T.state tree.new).faulty_calls ≡ (T.state tree.old).faulty_calls }
+    ensures proper { ClearsProperly manifest.now seen.now (T.state tree.old) (T.state tree.new) }
     ensures opened { (T.state tree.new).opened ≡ (T.state tree.old).opened }
     ensures cause { HasCause (T.state tree.old).faults (T.state tree.new).faults result }
 {
@@ -92,17 +77,12 @@ pub fn clear<T: DataFolder>(
 
 // Makes the folders of a backup, each before what lies in it.
 pub fn make_folders<T: DataFolder>(tree: &mut T, folders: &[String]) -> Result<(), DeviceError>
-    ensures made { OnOk result
-        ((T.state tree.new).nodes ≡ option_map (with_folders (map string_bytes folders.now))
-        (T.state tree.old).nodes) }
+    ensures made { OnOk result (MakesFolders (map string_bytes folders.now) (T.state tree.old) (T.state tree.new)) }
     // Whatever the result, only these paths have changed.
-    ensures others { (q : Text) → ¬ In q (map string_bytes folders.now)
-        → at q (T.state tree.new).nodes ≡ at q (T.state tree.old).nodes }
+    ensures others { ChangesAmong (map string_bytes folders.now) (T.state tree.old) (T.state tree.new) }
     ensures control { StaysNone control_path (T.state tree.old).nodes (T.state tree.new).nodes }
     // In byte order each is made where the folder that holds it is there.
-    ensures proper { are_in_order (map string_bytes folders.now) ≡ true
-        → ((p : Text) → In p (map string_bytes folders.now) → HasItsFolders (map string_bytes folders.now) p)
-        → (T.state tree.new).faulty_calls ≡ (T.state tree.old).faulty_calls }
+    ensures proper { MakesProperly (map string_bytes folders.now) (T.state tree.old) (T.state tree.new) }
     ensures opened { (T.state tree.new).opened ≡ (T.state tree.old).opened }
     ensures cause { HasCause (T.state tree.old).faults (T.state tree.new).faults result }
 {

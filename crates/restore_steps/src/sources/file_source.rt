@@ -1,14 +1,13 @@
 // The place of a file, and the job that reads it there.
-ghost use Rattle.std.specs.Prelude.{◌≡◌, ℕ, List, true, IfOk, codes, decimal, string_bytes};
+ghost use Rattle.std.specs.Prelude.{◌≡◌, ℕ, List, true, IfOk, string_bytes};
 ghost use Rattle.base_model.specs.InfoFiles.{IsLabel};
-ghost use Rattle.base_model.specs.Text.{◌⫽◌};
 ghost use Rattle.base_model.specs.Place.{holder, place};
 ghost use Rattle.base_model.specs.Values.{file_entry_of};
 ghost use Rattle.base_model.specs.declared.labels.Label as labels;
 ghost use Rattle.options_table.specs.Values.{is_stanza};
 ghost use Rattle.worker_protocol.specs.Frames.{FitsItem, FitsJob};
 ghost use Rattle.worker_protocol.specs.Views.{item_of, job_of};
-ghost use Rattle.restore_steps.specs.Sources.{IsEntry, source, reading};
+ghost use Rattle.restore_steps.specs.Sources.{IsEntry, file_name_by, bundle_name_by, source, reading};
 
 use base_model::{FileEntry, Label};
 use base_text::NoMemory;
@@ -24,15 +23,13 @@ fn holder(own: &Label, file: &FileEntry) -> Label
 }
 
 fn file_name(alloc: Global, stanza: &str, label: &str, path: &str) -> Result<String, AllocError>
-    ensures { IfOk result (λ name. string_bytes name
-        ≡ codes "backup" ⫽ stanza.now ⫽ label.now ⫽ codes "pg_data" ⫽ path.now) }
+    ensures { IfOk result (λ name. string_bytes name ≡ file_name_by stanza.now label.now path.now) }
 {
     format!(in alloc; "backup/{stanza}/{label}/pg_data/{path}")
 }
 
 fn bundle_name(alloc: Global, stanza: &str, label: &str, number: u32) -> Result<String, AllocError>
-    ensures { IfOk result (λ name. string_bytes name
-        ≡ codes "backup" ⫽ stanza.now ⫽ label.now ⫽ codes "bundle" ⫽ decimal number) }
+    ensures { IfOk result (λ name. string_bytes name ≡ bundle_name_by stanza.now label.now number) }
 {
     format!(in alloc; "backup/{stanza}/{label}/bundle/{number}")
 }
