@@ -4,6 +4,7 @@ use Rattle.std.specs.Prelude.{◌≡◌, ◌≢◌, ◌⊎◌, ◌≤◌, ◌<�
 use Rattle.base_devices.specs.declared.data_folder.Node.{Node}
 use Rattle.base_devices.specs.declared.data_folder.Node.TheVariants as nodes
 use Rattle.base_devices.specs.Crash.{IsTemporary}
+use Rattle.base_devices.specs.DataFolder.{Nodes, IsTreeListing}
 use Rattle.base_devices.specs.Order.{are_in_order}
 use Rattle.base_model.specs.Text.{Text, In}
 use Rattle.base_model.specs.Paths.{IsPath}
@@ -27,6 +28,10 @@ is_special nodes.Link = false
 -- neither left out, nor a socket, a pipe or a device
 abbrev pub is_kept : Bool → ListedNode → Bool
 is_kept online n = not (is_omitted online n.0 n.1) && not (is_special n.1)
+
+-- no folder has just these nodes
+abbrev pub ShowsNoFolder : List ListedNode → Type 0
+ShowsNoFolder seen = (folder : Nodes) → ¬ IsTreeListing folder seen
 
 -- the nodes that a backup looks at
 abbrev pub kept : Bool → List ListedNode → List ListedNode
@@ -80,12 +85,20 @@ pub record IsPlaced (folders : List Text) (f : Taken) : Type 0 where
   pub below : HasItsFolders folders f.path
   pub apart : ¬ In f.path folders
 
+-- each file is placed so
+abbrev pub ArePlaced : List Text → List Taken → Type 0
+ArePlaced folders fs = (f : Taken) → In f fs → IsPlaced folders f
+
+-- each folder on the path of one of these is among them
+abbrev pub HaveTheirFolders : List Text → Type 0
+HaveTheirFolders folders = (path : Text) → In path folders → HasItsFolders folders path
+
 -- files and folders in byte order of their paths, each below folders that are among them
 pub record IsOrdered (fs : List Taken) (folders : List Text) : Type 0 where
   pub files : are_in_order (paths_of fs) ≡ true
   pub folders_order : are_in_order folders ≡ true
-  pub placed : (f : Taken) → In f fs → IsPlaced folders f
-  pub below : (path : Text) → In path folders → HasItsFolders folders path
+  pub placed : ArePlaced folders fs
+  pub below : HaveTheirFolders folders
 
 -- the file that states a server's version
 abbrev pub version_path : Text

@@ -1,10 +1,10 @@
 // What a backup copies.
-ghost use Rattle.std.specs.Prelude.{◌≡◌, true, ◌<◌, ◌^◌, ◌-◌, ◌++◌, map, length, IfOk};
+ghost use Rattle.std.specs.Prelude.{◌≡◌, true, ◌<◌, ◌^◌, ◌-◌, map, length, IfOk};
 ghost use Rattle.base_devices.specs.Order.{are_in_order};
 ghost use Rattle.base_model.specs.Values.{file_entry_of};
-ghost use Rattle.worker_protocol.specs.Views.{job_of};
-ghost use Rattle.backup_plan.specs.Layout.{layout, jobs_of, IsWithin};
-ghost use Rattle.backup_plan.specs.Views.{taken_of, layout_of};
+ghost use Rattle.backup_plan.specs.Layout.{IsWithin};
+ghost use Rattle.backup_plan.specs.Planned.{layout_for, AreJobsOf, HasChoicesOf, HasJobsOf, HasSinglesOf};
+ghost use Rattle.backup_plan.specs.Views.{layout_of};
 
 use crate::file_kind::what_is;
 use crate::listing_walk::{Walk, close};
@@ -25,8 +25,7 @@ fn walk(
     requires same { length equal.now ≡ length files.now }
     requires few { length files.now < 2 ^ 32 - 1 }
     requires order { are_in_order (map (λ e. e.path) (map file_entry_of old.now)) ≡ true }
-    ensures layout { IfOk result (λ w. layout_of w ≡ layout settings.now (map file_entry_of old.now)
-        (map taken_of files.now) equal.now) }
+    ensures layout { IfOk result (λ w. layout_of w ≡ layout_for settings.now old.now files.now equal.now) }
     ensures within { IfOk result (λ w. IsWithin (layout_of w)) }
     ensures count { IfOk result (λ w. length w.choices.items ≡ length files.now) }
 {
@@ -41,8 +40,7 @@ fn walk(
 
 // The jobs of a walk.
 fn jobs_in(mut singles: Vec<Job>, full: Vec<Job>, last: Vec<Job>) -> Result<Vec<Job>, AllocError>
-    ensures { IfOk result (λ js. map job_of js.items ≡ map job_of singles.items ++ map job_of full.items
-        ++ map job_of last.items) }
+    ensures { IfOk result (λ js. AreJobsOf singles.items full.items last.items js.items) }
 {
     let mut full = full;
     let mut last = last;
@@ -62,12 +60,9 @@ pub fn plan(
     requires same { length equal.now ≡ length files.now }
     requires few { length files.now < 2 ^ 32 - 1 }
     requires order { are_in_order (map (λ e. e.path) (map file_entry_of old.now)) ≡ true }
-    ensures choices { IfOk result (λ p. p.choices.items ≡ (layout settings.now (map file_entry_of old.now)
-        (map taken_of files.now) equal.now).choices) }
-    ensures singles { IfOk result (λ p. p.singles ≡ length (layout settings.now (map file_entry_of old.now)
-        (map taken_of files.now) equal.now).singles) }
-    ensures jobs { IfOk result (λ p. map job_of p.jobs.items ≡ jobs_of (layout settings.now
-        (map file_entry_of old.now) (map taken_of files.now) equal.now)) }
+    ensures choices { IfOk result (HasChoicesOf (layout_for settings.now old.now files.now equal.now)) }
+    ensures singles { IfOk result (HasSinglesOf (layout_for settings.now old.now files.now equal.now)) }
+    ensures jobs { IfOk result (HasJobsOf (layout_for settings.now old.now files.now equal.now)) }
 {
     let walk = walk(alloc, files, old, equal, settings)?;
     let Walk {

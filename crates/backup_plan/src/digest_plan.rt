@@ -3,7 +3,8 @@ ghost use Rattle.std.specs.Prelude.{◌≡◌, true, [], ◌∷◌, map, option_
 ghost use Rattle.base_devices.specs.Order.{are_in_order};
 ghost use Rattle.base_model.specs.Values.{file_entry_of};
 ghost use Rattle.worker_protocol.specs.Views.{job_of};
-ghost use Rattle.backup_plan.specs.Digests.{is_asked, digest_job, digest_jobs};
+ghost use Rattle.backup_plan.specs.Digests.{is_asked, digest_job};
+ghost use Rattle.backup_plan.specs.Planned.{digests_for};
 ghost use Rattle.backup_plan.specs.Views.{taken_of};
 
 use crate::listing_walk::item_of_file;
@@ -39,8 +40,7 @@ fn job_for(alloc: Global, file: &Taken) -> Result<Job, AllocError>
 /// A job for each file of the listing that may be the one of the prior backup.
 pub fn digests(alloc: Global, files: &[Taken], old: &[FileEntry]) -> Result<Vec<Job>, AllocError>
     requires { are_in_order (map (λ e. e.path) (map file_entry_of old.now)) ≡ true }
-    ensures { IfOk result (λ js. map job_of js.items ≡ digest_jobs (map file_entry_of old.now)
-        (map taken_of files.now)) }
+    ensures { IfOk result (λ js. map job_of js.items ≡ digests_for old.now files.now) }
 {
     let mut jobs = Vec::new(alloc);
     for file in files {

@@ -1,8 +1,8 @@
 // What of a listing a backup takes.
-ghost use Rattle.std.specs.Prelude.{◌≡◌, ◌++◌, ◌∷◌, [], true, map, string_bytes, IfOk, IfErr, OnOk, OnErr};
-ghost use Rattle.base_devices.specs.DataFolder.{Nodes, IsTreeListing};
-ghost use Rattle.backup_plan.specs.Filter.{is_kept, kept, files_of, folders_of, IsFine, AreFine, IsRefused, IsRefusedNode, IsTimed, AreTimed, Takes};
-ghost use Rattle.backup_plan.specs.Views.{taken_of, seen_of};
+ghost use Rattle.std.specs.Prelude.{◌≡◌, ◌∷◌, [], true, map, IfOk, IfErr, OnOk, OnErr};
+ghost use Rattle.backup_plan.specs.Filter.{is_kept, kept, files_of, folders_of, IsFine, AreFine, IsRefused, IsRefusedNode, IsTimed, AreTimed, ShowsNoFolder, Takes};
+ghost use Rattle.backup_plan.specs.Planned.{AddsFiles, AddsFolders};
+ghost use Rattle.backup_plan.specs.Views.{seen_of, taken_files, taken_folders};
 
 use crate::fault::PlanFault;
 use crate::file_limits::{missing_file, passed_limit};
@@ -41,10 +41,8 @@ fn check_node(seen: &FolderEntry) -> Result<(), PlanFault>
 
 // Adds a node to what is taken.
 fn add(listing: &mut Listing, seen: &FolderEntry) -> Result<(), AllocError>
-    ensures files { OnOk result (map taken_of listing.new.files.items ≡ map taken_of listing.old.files.items
-        ++ files_of (seen_of seen.now ∷ [])) }
-    ensures folders { OnOk result (map string_bytes listing.new.folders.items
-        ≡ map string_bytes listing.old.folders.items ++ folders_of (seen_of seen.now ∷ [])) }
+    ensures files { OnOk result (AddsFiles (seen_of seen.now ∷ []) listing.old listing.new) }
+    ensures folders { OnOk result (AddsFolders (seen_of seen.now ∷ []) listing.old listing.new) }
     ensures timed { OnOk result (IsTimed (seen_of seen.now)) }
 {
     match seen.node {
@@ -61,10 +59,8 @@ fn add(listing: &mut Listing, seen: &FolderEntry) -> Result<(), AllocError>
 // Takes a node, where it isn't left out.
 fn take(listing: &mut Listing, seen: &FolderEntry, online: bool) -> Result<(), PlanFault>
     ensures fine { OnOk result (AreFine (kept online (seen_of seen.now ∷ []))) }
-    ensures files { OnOk result (map taken_of listing.new.files.items ≡ map taken_of listing.old.files.items
-        ++ files_of (kept online (seen_of seen.now ∷ []))) }
-    ensures folders { OnOk result (map string_bytes listing.new.folders.items
-        ≡ map string_bytes listing.old.folders.items ++ folders_of (kept online (seen_of seen.now ∷ []))) }
+    ensures files { OnOk result (AddsFiles (kept online (seen_of seen.now ∷ [])) listing.old listing.new) }
+    ensures folders { OnOk result (AddsFolders (kept online (seen_of seen.now ∷ [])) listing.old listing.new) }
     ensures timed { OnOk result (AreTimed (kept online (seen_of seen.now ∷ []))) }
     ensures kept { OnErr result (is_kept online (seen_of seen.now) ≡ true) }
     ensures refused { IfErr result (IsRefusedNode (seen_of seen.now)) }
@@ -80,9 +76,8 @@ fn take(listing: &mut Listing, seen: &FolderEntry, online: bool) -> Result<(), P
 // The files and folders of a listing.
 fn collect(alloc: Global, seen: &[FolderEntry], online: bool) -> Result<Listing, PlanFault>
     ensures fine { OnOk result (AreFine (kept online (map seen_of seen.now))) }
-    ensures files { IfOk result (λ l. map taken_of l.files.items ≡ files_of (kept online (map seen_of seen.now))) }
-    ensures folders { IfOk result (λ l. map string_bytes l.folders.items ≡ folders_of (kept online
-        (map seen_of seen.now))) }
+    ensures files { IfOk result (λ l. taken_files l ≡ files_of (kept online (map seen_of seen.now))) }
+    ensures folders { IfOk result (λ l. taken_folders l ≡ folders_of (kept online (map seen_of seen.now))) }
     ensures timed { OnOk result (AreTimed (kept online (map seen_of seen.now))) }
     ensures refused { IfErr result (IsRefused (kept online (map seen_of seen.now))) }
 {
@@ -98,12 +93,10 @@ fn collect(alloc: Global, seen: &[FolderEntry], online: bool) -> Result<Listing,
 
 /// The files and folders of a listing that a backup takes, with the server running (`online`) or stopped.
 pub fn filter(alloc: Global, seen: &[FolderEntry], online: bool) -> Result<Listing, PlanFault>
-    ensures takes { IfOk result (λ l. Takes online (map seen_of seen.now) (map taken_of l.files.items)
-        (map string_bytes l.folders.items)) }
+    ensures takes { IfOk result (λ l. Takes online (map seen_of seen.now) (taken_files l) (taken_folders l)) }
     ensures refused { IfErr result (IsRefused (kept online (map seen_of seen.now))) }
     // A listing that shows a folder's nodes is never asked to be out of order.
-    ensures orderly { result ≡ Err PlanFault.Unordered → (nodes : Nodes) → ¬ IsTreeListing nodes
-        (map seen_of seen.now) }
+    ensures orderly { result ≡ Err PlanFault.Unordered → ShowsNoFolder (map seen_of seen.now) }
 {
     let listing = collect(alloc, seen, online)?;
     if !is_ordered(&listing.files, &listing.folders) {

@@ -1,10 +1,9 @@
 // Whether files and folders are in order.
 ghost use Rattle.std.specs.Prelude.{◌≡◌, ◌↔◌, true, map, string_bytes, IsTrue};
 ghost use Rattle.base_devices.specs.Order.{are_in_order};
-ghost use Rattle.base_model.specs.Text.{Text, In};
+ghost use Rattle.base_model.specs.Text.{In};
 ghost use Rattle.base_model.specs.ManifestText.{HasItsFolders};
-ghost use Rattle.backup_plan.specs.Listed.{Taken as SpecTaken};
-ghost use Rattle.backup_plan.specs.Filter.{IsPlaced, IsOrdered, paths_of};
+ghost use Rattle.backup_plan.specs.Filter.{ArePlaced, HaveTheirFolders, IsPlaced, IsOrdered, paths_of};
 ghost use Rattle.backup_plan.specs.Views.{taken_of};
 
 use crate::prior_entry::order_of;
@@ -76,8 +75,7 @@ fn is_placed(folders: &[String], file: &Taken) -> bool
 
 fn are_files_placed(files: &[Taken], folders: &[String]) -> bool
     requires { are_in_order (map string_bytes folders.now) ≡ true }
-    ensures { IsTrue result ↔ ((f : SpecTaken) → In f (map taken_of files.now) → IsPlaced
-        (map string_bytes folders.now) f) }
+    ensures { IsTrue result ↔ ArePlaced (map string_bytes folders.now) (map taken_of files.now) }
 {
     for file in files {
         if !is_placed(folders, file) {
@@ -89,8 +87,7 @@ fn are_files_placed(files: &[Taken], folders: &[String]) -> bool
 
 fn are_folders_placed(folders: &[String]) -> bool
     requires { are_in_order (map string_bytes folders.now) ≡ true }
-    ensures { IsTrue result ↔ ((path : Text) → In path (map string_bytes folders.now) → HasItsFolders
-        (map string_bytes folders.now) path) }
+    ensures { IsTrue result ↔ HaveTheirFolders (map string_bytes folders.now) }
 {
     for folder in folders {
         if !has_folders(folders, folder) {

@@ -10,3 +10,4 @@ pub mod Making
 pub mod Bounds
 pub mod Faults
 pub mod Further
+pub mod Recorded

@@ -1,5 +1,5 @@
 -- The manifest of a backup, and the stanza's list with it (pgBackRest user guide, "Backup").
-use Rattle.std.specs.Prelude.{◌≡◌, ◌↔◌, ℕ, true, List, [], ◌∷◌, ◌++◌, map, sum_by, Some, option_map}
+use Rattle.std.specs.Prelude.{◌≡◌, ◌↔◌, ◌⊎◌, ℕ, true, List, [], ◌∷◌, ◌++◌, map, sum_by, Option, Some, option_map}
 use Rattle.base_devices.specs.Order.{are_in_order}
 use Rattle.base_model.specs.declared.labels.Label.{Label}
 use Rattle.base_model.specs.declared.wal.WalPart.{WalPart}
@@ -66,10 +66,23 @@ labels_of backups = map (λ (e : Entry). e.label) backups
 abbrev pub RefersTo : List FileEntry → Label → Type 0
 RefersTo files l = (e : FileEntry) × In e files × (e.reference ≡ Some l)
 
+-- these labels are those from before, and that of this reference, where there is one
+abbrev pub GainsReference : Option Label → List Label → List Label → Type 0
+GainsReference reference old new = (l : Label) → In l new ↔ (In l old ⊎ (reference ≡ Some l))
+
+-- of these labels, those of which the list has a backup
+abbrev pub AreThoseListed : List Entry → List Label → List Label → Type 0
+AreThoseListed backups labels found = (l : Label) → In l found ↔ (In l (labels_of backups) × In l labels)
+
+-- they are in byte order, where the labels of the list are
+abbrev pub KeepListOrder : List Entry → List Label → Type 0
+KeepListOrder backups labels = are_in_order (map label_text (labels_of backups)) ≡ true
+    → are_in_order (map label_text labels) ≡ true
+
 -- these are the listed labels that files refer to, in the order of the list
 pub record AreReferences (backups : List Entry) (files : List FileEntry) (references : List Label) : Type 0 where
   pub each : (l : Label) → In l references ↔ (In l (labels_of backups) × RefersTo files l)
-  pub order : are_in_order (map label_text (labels_of backups)) ≡ true → are_in_order (map label_text references) ≡ true
+  pub order : KeepListOrder backups references
 
 -- one backup more, as the last
 abbrev pub list_with : Entry → BackupInfo → BackupInfo

@@ -1,6 +1,8 @@
 -- The names at which the bytes of a backup's jobs are kept.
-use Rattle.std.specs.Prelude.{◌≡◌, ◌+◌, ℕ, List, [], ◌∷◌, ◌++◌, length, map, codes, decimal, Some, slice_get}
+use Rattle.std.specs.Prelude.{◌≡◌, ◌+◌, ℕ, List, [], ◌∷◌, ◌++◌, length, map, codes, decimal, Some, slice_get, String, string_bytes, Vec}
+use Rattle.std.specs.declared.alloc.Global.{Global}
 use Rattle.base_devices.specs.Content.{Name}
+use Rattle.worker_protocol.specs.declared.frames.frames.Job as rust_job
 use Rattle.worker_protocol.specs.Frames.{Item, Job}
 use Rattle.base_model.specs.declared.labels.Label.{Label}
 use Rattle.worker_protocol.specs.Views.{job_of}
@@ -41,6 +43,20 @@ pub record IsPlanned (p : BackupPlan) (l : Layout) : Type 0 where
   pub singles : p.singles ≡ length l.singles
   pub jobs : map job_of p.jobs.items ≡ jobs_of l
   pub last : length l.last ≡ 1
+
+-- these names are those of the plan's jobs
+abbrev pub AreNamesFor : Text → BackupPlan → List Name → Type 0
+AreNamesFor folder p names = (l : Layout) → IsPlanned p l → names ≡ names_in folder l
+
+-- so many names more
+abbrev pub AddsNames : List Name → Vec (String Global) Global → Vec (String Global) Global → Type 0
+AddsNames more old new = map string_bytes new.items ≡ map string_bytes old.items ++ more
+
+-- the names of jobs of one file, of bundles, and of last ones
+abbrev pub AreNamesOf : Text → List rust_job.Job → List rust_job.Job → List rust_job.Job → List (String Global)
+    → Type 0
+AreNamesOf folder singles full last names = map string_bytes names ≡ map (single_in folder) (map job_of singles)
+    ++ (bundles_in folder 1 (map job_of full) ++ map (single_in folder) (map job_of last))
 
 -- each job's name is that of its file, or of its bundle
 pub record IsNaming (stanza : Text) (label : Label) (names : List Name) (w : BackupRun) (l : Layout) : Type 0 where

@@ -3,8 +3,8 @@ ghost use Rattle.std.specs.Prelude.{◌≡◌, length, map, option_map, IfOk};
 ghost use Rattle.base_model.specs.Values.{file_entry_of};
 ghost use Rattle.backup_plan.specs.Views.{taken_of};
 ghost use Rattle.backup_plan.specs.declared.values.Choice.TheVariants.{Bundle};
-ghost use Rattle.backup_record.specs.Entries.{copied, empty_entry, left_entry, entry_for, entries};
-ghost use Rattle.backup_record.specs.Views.{went_of};
+ghost use Rattle.backup_record.specs.Entries.{copied, empty_entry, left_entry};
+ghost use Rattle.backup_record.specs.Views.{IsEntryFor, entries_in};
 
 use crate::places::{end_of, sum_at};
 use crate::ran::Ran;
@@ -78,8 +78,7 @@ fn bundled(
     number: u32,
     item: u32,
 ) -> Result<Option<FileEntry>, AllocError>
-    ensures { IfOk result (λ o. option_map file_entry_of o
-        ≡ entry_for (went_of ran.now) (taken_of file.now) (Bundle number item)) }
+    ensures { IfOk result (IsEntryFor ran.now file.now (Bundle number item)) }
 {
     let job = ran.singles as usize + (number as usize).saturating_sub(1);
     let Some(at) = sum_at(ran.places, job, item as usize) else {
@@ -94,8 +93,7 @@ fn bundled(
 
 // The manifest's entry of a file.
 fn entry(ran: &Ran<'_>, file: &Taken, choice: Choice) -> Result<Option<FileEntry>, AllocError>
-    ensures { IfOk result (λ o. option_map file_entry_of o
-        ≡ entry_for (went_of ran.now) (taken_of file.now) choice) }
+    ensures { IfOk result (IsEntryFor ran.now file.now choice) }
 {
     match choice {
         Choice::Skip => match find_entry(ran.old, &file.path) {
@@ -121,8 +119,7 @@ pub fn entries_of(
     choices: &[Choice],
 ) -> Result<Vec<FileEntry>, AllocError>
     requires { length choices.now ≡ length files.now }
-    ensures { IfOk result (λ v. map file_entry_of v.items ≡ entries (went_of ran.now)
-        (map taken_of files.now) choices.now) }
+    ensures { IfOk result (λ v. map file_entry_of v.items ≡ entries_in ran.now files.now choices.now) }
 {
     let mut list = Vec::new(alloc);
     for i in 0..files.len() {

@@ -1,9 +1,8 @@
 // A file that is besides those of the listing.
-ghost use Rattle.std.specs.Prelude.{◌≡◌, OnOk, map, option_map, string_bytes};
+ghost use Rattle.std.specs.Prelude.{◌≡◌, OnOk, string_bytes};
 ghost use Rattle.std.specs.List.{position_or_len};
 ghost use Rattle.base_devices.specs.Order.{is_before};
-ghost use Rattle.base_model.specs.Values.{file_entry_of};
-ghost use Rattle.backup_record.specs.Further.{put_in, with_further};
+ghost use Rattle.backup_record.specs.Views.{AddsFurther, PutsIn};
 
 use base_model::FileEntry;
 use repo_ini::is_before;
@@ -23,8 +22,7 @@ fn place_of(files: &[FileEntry], path: &str) -> usize
 
 // Adds the file at its place in byte order of the paths.
 fn put_in(files: &mut Vec<FileEntry>, file: FileEntry) -> Result<(), AllocError>
-    ensures { OnOk result (map file_entry_of files.new.items
-        ≡ put_in (λ e. e.path) (file_entry_of file) (map file_entry_of files.old.items)) }
+    ensures { OnOk result (PutsIn file files.old.items files.new.items) }
 {
     let at = place_of(files, file.path.as_str());
     files.insert(at, file)?;
@@ -36,8 +34,7 @@ pub(crate) fn add_further(
     files: &mut Vec<FileEntry>,
     further: Option<FileEntry>,
 ) -> Result<(), AllocError>
-    ensures { OnOk result (map file_entry_of files.new.items
-        ≡ with_further (option_map file_entry_of further) (map file_entry_of files.old.items)) }
+    ensures { OnOk result (AddsFurther further files.old.items files.new.items) }
 {
     match further {
         Some(file) => put_in(files, file),

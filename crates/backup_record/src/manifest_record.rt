@@ -1,18 +1,17 @@
 // The record of a backup.
-ghost use Rattle.std.specs.Prelude.{◌≡◌, ◌<◌, ◌^◌, true, map, option_map, string_bytes, IfOk, IfErr, IfSome, OnOk};
+ghost use Rattle.std.specs.Prelude.{◌≡◌, ◌<◌, ◌^◌, true, map, string_bytes, IfOk, IfErr, IfSome, OnOk};
 ghost use Rattle.base_devices.specs.Order.{are_in_order};
 ghost use Rattle.base_model.specs.InfoFiles.{IsBackupInfo, label_kind};
 ghost use Rattle.base_model.specs.ManifestText.{IsManifest};
 ghost use Rattle.base_model.specs.Values.{backup_info_of, entry_of, file_entry_of, manifest_of};
 ghost use Rattle.backup_plan.specs.Filter.{IsListing};
-ghost use Rattle.backup_plan.specs.Views.{taken_of};
+ghost use Rattle.backup_plan.specs.Views.{taken_files, taken_folders};
 ghost use Rattle.backup_record.specs.Bounds.{KeepsBounds, MayFollow};
-ghost use Rattle.backup_record.specs.Entries.{entries};
 ghost use Rattle.backup_record.specs.Faults.{HasControl, RecordFails};
-ghost use Rattle.backup_record.specs.Further.{MayBeAdded, with_further};
 ghost use Rattle.backup_record.specs.Making as making;
 ghost use Rattle.backup_record.specs.Making.{size_of, IsListWith};
-ghost use Rattle.backup_record.specs.Views.{went_of};
+ghost use Rattle.backup_record.specs.Recorded.{ExtendsList, IsManifestWith, MayBeAddedTo, RecordsListing};
+ghost use Rattle.backup_record.specs.Views.{entries_in, went_of};
 
 use crate::entries::entries_of;
 use crate::further_file::add_further;
@@ -93,8 +92,7 @@ fn kind_of(label: &Label) -> BackupKind
 
 // The manifest of these files and folders.
 fn manifest_with(head: &Head, files: Vec<FileEntry>, folders: Vec<String>) -> Manifest
-    ensures { manifest_of result ≡ making.manifest_with head.now (map file_entry_of files.items)
-        (map string_bytes folders.items) }
+    ensures { IsManifestWith head.now (map file_entry_of files.items) (map string_bytes folders.items) result }
 {
     Manifest {
         label: head.label,
@@ -165,29 +163,23 @@ pub fn record_of(
     further: Option<FileEntry>,
     before: BackupInfo,
 ) -> Result<Record, RecordFault>
-    requires listing { IsListing (map taken_of listing.files.items) (map string_bytes listing.folders.items) }
-    requires came { KeepsBounds (went_of ran.now) (map taken_of listing.files.items) choices.now }
-    requires further { IfSome further (λ e. MayBeAdded (map taken_of listing.files.items)
-        (map string_bytes listing.folders.items) (file_entry_of e)) }
+    requires listing { IsListing (taken_files listing) (taken_folders listing) }
+    requires came { KeepsBounds (went_of ran.now) (taken_files listing) choices.now }
+    requires further { IfSome further (MayBeAddedTo listing) }
     requires list { IsBackupInfo (backup_info_of before) }
     requires follows { MayFollow head.now (backup_info_of before) }
 
     // The manifest has what was received, and is within the rules of its text.
-    ensures manifest { IfOk result (λ r. manifest_of r.manifest ≡ making.manifest_with head.now
-        (with_further (option_map file_entry_of further)
-        (entries (went_of ran.now) (map taken_of listing.files.items) choices.now))
-        (map string_bytes listing.folders.items)) }
+    ensures manifest { IfOk result (RecordsListing head.now ran.now listing choices.now further) }
     ensures manifest_rules { IfOk result (λ r. IsManifest (manifest_of r.manifest)) }
 
     // So is the list, which has its backup as the last.
-    ensures info { IfOk result (λ r. IsListWith (backup_info_of before) (manifest_of r.manifest)
-        (backup_info_of r.info)) }
+    ensures info { IfOk result (ExtendsList (backup_info_of before)) }
     ensures info_rules { IfOk result (λ r. IsBackupInfo (backup_info_of r.info)) }
 
     // A file without which there is no backup vanished, or memory ran out.
     ensures control { IfOk result (λ r. HasControl (manifest_of r.manifest).files) }
-    ensures fault { IfErr result (RecordFails (entries (went_of ran.now) (map taken_of listing.files.items)
-        choices.now)) }
+    ensures fault { IfErr result (RecordFails (entries_in ran.now listing.files.items choices.now)) }
 {
     let Listing { files, folders } = listing;
     let mut entries = entries_of(alloc, ran, &files, choices)?;

@@ -1,8 +1,7 @@
 // The names at which the bytes of a backup's jobs are kept.
-ghost use Rattle.std.specs.Prelude.{◌≡◌, ◌++◌, map, string_bytes, IfOk, OnOk};
+ghost use Rattle.std.specs.Prelude.{◌≡◌, map, string_bytes, IfOk, OnOk};
 ghost use Rattle.worker_protocol.specs.Views.{job_of};
-ghost use Rattle.backup_plan.specs.Layout.{Layout};
-ghost use Rattle.backup_record.specs.Naming.{single_in, bundles_in, names_in, IsPlanned};
+ghost use Rattle.backup_record.specs.Naming.{AddsNames, AreNamesFor, AreNamesOf, bundles_in, single_in};
 
 use backup_plan::BackupPlan;
 use std::alloc::{AllocError, Global};
@@ -28,8 +27,7 @@ fn add_singles(
     folder: &str,
     jobs: &[Job],
 ) -> Result<(), AllocError>
-    ensures { OnOk result (map string_bytes names.new.items ≡ map string_bytes names.old.items
-        ++ map (single_in folder.now) (map job_of jobs.now)) }
+    ensures { OnOk result (AddsNames (map (single_in folder.now) (map job_of jobs.now)) names.old names.new) }
 {
     for job in jobs {
         names.push(single_name(alloc, folder, job)?)?;
@@ -44,8 +42,7 @@ fn add_bundles(
     folder: &str,
     jobs: &[Job],
 ) -> Result<(), AllocError>
-    ensures { OnOk result (map string_bytes names.new.items ≡ map string_bytes names.old.items
-        ++ bundles_in folder.now 1 (map job_of jobs.now)) }
+    ensures { OnOk result (AddsNames (bundles_in folder.now 1 (map job_of jobs.now)) names.old names.new) }
 {
     for i in 0..jobs.len() {
         let number = i + 1;
@@ -62,9 +59,7 @@ fn joined(
     bundles: &[Job],
     last: &[Job],
 ) -> Result<Vec<String>, AllocError>
-    ensures { IfOk result (λ names. map string_bytes names.items ≡ map (single_in folder.now)
-        (map job_of singles.now) ++ (bundles_in folder.now 1 (map job_of bundles.now)
-        ++ map (single_in folder.now) (map job_of last.now))) }
+    ensures { IfOk result (λ names. AreNamesOf folder.now singles.now bundles.now last.now names.items) }
 {
     let mut names = Vec::new(alloc);
     add_singles(alloc, &mut names, folder, singles)?;
@@ -75,8 +70,7 @@ fn joined(
 
 /// The name of each job of a plan, below the folder of the backup's label.
 pub fn names_of(alloc: Global, folder: &str, plan: &BackupPlan) -> Result<Vec<String>, AllocError>
-    ensures { IfOk result (λ names. (l : Layout) → IsPlanned plan.now l → map string_bytes names.items
-        ≡ names_in folder.now l) }
+    ensures { IfOk result (λ names. AreNamesFor folder.now plan.now (map string_bytes names.items)) }
 {
     let jobs = plan.jobs.as_slice();
     let singles = jobs.len().min(plan.singles as usize);

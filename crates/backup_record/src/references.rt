@@ -1,11 +1,9 @@
 // The labels that a backup refers to.
-ghost use Rattle.std.specs.Prelude.{◌≡◌, ◌↔◌, ◌⊎◌, true, Some, map, IsTrue, IfOk, OnOk};
-ghost use Rattle.base_devices.specs.Order.{are_in_order};
+ghost use Rattle.std.specs.Prelude.{◌≡◌, ◌↔◌, ◌⊎◌, map, IsTrue, IfOk, OnOk};
 ghost use Rattle.base_model.specs.declared.labels.Label as spec_label;
-ghost use Rattle.base_model.specs.Names.{label_text};
 ghost use Rattle.base_model.specs.Text.{In};
 ghost use Rattle.base_model.specs.Values.{entry_of, file_entry_of};
-ghost use Rattle.backup_record.specs.Making.{labels_of, RefersTo};
+ghost use Rattle.backup_record.specs.Making.{AreThoseListed, GainsReference, KeepListOrder, RefersTo};
 
 use base_model::{BackupKind, Entry, FileEntry, Label, Later};
 use std::alloc::{AllocError, Global};
@@ -63,8 +61,7 @@ fn note(labels: &mut Vec<Label>, label: Label) -> Result<(), AllocError>
 
 // Adds the label to which the file refers.
 fn note_of(labels: &mut Vec<Label>, file: &FileEntry) -> Result<(), AllocError>
-    ensures { OnOk result ((l : spec_label.Label) → In l labels.new.items
-        ↔ (In l labels.old.items ⊎ (file.now.reference ≡ Some l))) }
+    ensures { OnOk result (GainsReference file.now.reference labels.old.items labels.new.items) }
 {
     match file.reference {
         Some(label) => note(labels, label),
@@ -89,10 +86,8 @@ pub(crate) fn references_of(
     listed: &[Entry],
     labels: &[Label],
 ) -> Result<Vec<Label>, AllocError>
-    ensures each { IfOk result (λ v. (l : spec_label.Label) → In l v.items
-        ↔ (In l (labels_of (map entry_of listed.now)) × In l labels.now)) }
-    ensures order { IfOk result (λ v. are_in_order (map label_text (labels_of (map entry_of listed.now))) ≡ true
-        → are_in_order (map label_text v.items) ≡ true) }
+    ensures each { IfOk result (λ v. AreThoseListed (map entry_of listed.now) labels.now v.items) }
+    ensures order { IfOk result (λ v. KeepListOrder (map entry_of listed.now) v.items) }
 {
     let mut references = Vec::new(alloc);
     for backup in listed {

@@ -39,6 +39,10 @@ after_end how p = record { begun = p.begun; ended = p.ended ++ (record { count =
 pub record Becomes (job : ℕ) (after : Progress) (old new : List Progress) : Type 0 where
   pub is : new ≡ slice_set old job after
 
+-- the one job has what this makes of its progress
+abbrev pub BecomesBy : ℕ → (Progress → Progress) → List Progress → List Progress → Type 0
+BecomesBy job change old new = IfSome (slice_get old job) (λ p. Becomes job (change p) old new)
+
 -- what a name holds after these bytes were added, where it was begun, or were the first
 abbrev pub lengthened_from : Bool → Text → Option Value → Option Value
 lengthened_from begun bytes = option_map (λ (v : Value). Some ((if begun then unwrap_or v [] else []) ++ bytes))

@@ -85,10 +85,10 @@ pub struct BackupKeeper<'a> {
 }
 
 impl<'a> BackupKeeper<'a> {
-    ghost use Rattle.std.specs.Prelude.{◌+◌, Some, Err, OnOk, IfOk, IfSome, IsSomeAnd, IsErrOf, All, slice_get};
+    ghost use Rattle.std.specs.Prelude.{◌+◌, Some, Err, OnOk, IfOk, IsSomeAnd, IsErrOf, All, slice_get};
     ghost use Rattle.base_devices.specs.declared.device_error.DeviceError.TheVariants.{Failed};
     ghost use Rattle.worker_protocol.specs.Views.{job_of};
-    ghost use Rattle.backup_sink.specs.Keeping.{Becomes, CountsFault, grown, after_end, nothing};
+    ghost use Rattle.backup_sink.specs.Keeping.{Becomes, BecomesBy, CountsFault, grown, after_end, nothing};
     ghost use Rattle.backup_sink.specs.Keeper.{folder_of, jobs_of, names_of, progress_in, faults_of, HasSpace, SamePlan};
 
     /// A keeper for these jobs, each with its name, which has nothing of them.
@@ -166,8 +166,7 @@ impl<'a> BackupKeeper<'a> {
     // This many bytes were received of its next item.
     fn grow(&mut self, job: u32, count: u64)
         requires { job < length self.old.names.now }
-        ensures states { IfSome (slice_get (progress_in self.old) job)
-            (λ p. Becomes job (grown count p) (progress_in self.old) (progress_in self.new)) }
+        ensures states { BecomesBy job (grown count) (progress_in self.old) (progress_in self.new) }
         ensures same { SamePlan self.old self.new }
         ensures faults { faults_of self.new ≡ faults_of self.old }
     {
@@ -177,8 +176,7 @@ impl<'a> BackupKeeper<'a> {
     // Its next item has its end.
     fn close(&mut self, job: u32, how: ItemEnd) -> Result<(), DeviceError>
         requires { job < length self.old.names.now }
-        ensures states { OnOk result (IfSome (slice_get (progress_in self.old) job)
-            (λ p. Becomes job (after_end how p) (progress_in self.old) (progress_in self.new))) }
+        ensures states { OnOk result (BecomesBy job (after_end how) (progress_in self.old) (progress_in self.new)) }
         ensures same { SamePlan self.old self.new }
         ensures faults { faults_of self.new ≡ faults_of self.old }
         ensures none { IsErrOf result Failed → ⊥ }

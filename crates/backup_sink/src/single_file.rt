@@ -1,9 +1,10 @@
 // Stores a file by itself.
-ghost use Rattle.std.specs.Prelude.{◌≡◌, Some, OnOk, option_map};
-ghost use Rattle.base_devices.specs.Content.{LiesDirectlyIn, SameBut, at};
+ghost use Rattle.std.specs.Prelude.{◌≡◌, OnOk};
+ghost use Rattle.base_devices.specs.Content.{LiesDirectlyIn, SameBut};
 ghost use Rattle.base_devices.specs.States.{Works};
 ghost use Rattle.base_devices.specs.Cause.{HasCause};
 ghost use Rattle.backup_sink.specs.Sealed.{IsSealedAt};
+ghost use Rattle.backup_sink.specs.Writing.{Replaces};
 
 use crate::parts::begin_with;
 use base_devices::{DeviceError, Disk};
@@ -16,8 +17,7 @@ pub fn store_file<D: Disk>(
     bytes: &[u8],
 ) -> Result<(), DeviceError>
     requires { LiesDirectlyIn folder.now name.now }
-    ensures value { OnOk result (at name.now (D.state d.new).view.now
-        ≡ option_map (λ _. Some bytes.now) (D.state d.old).view.now) }
+    ensures value { OnOk result (Replaces name.now bytes.now (D.state d.old) (D.state d.new)) }
     ensures others { SameBut name.now (D.state d.old).view.now (D.state d.new).view.now }
     ensures works { Works (λ n _. n ≡ name.now) (λ n. n ≡ name.now) (D.state d.old) (D.state d.new) }
     ensures sealed { OnOk result (IsSealedAt name.now (D.state d.new).view) }
