@@ -1,4 +1,5 @@
 pub mod Bytes
+pub mod Calls
 pub mod Folder
 pub mod Having
 pub mod Stops

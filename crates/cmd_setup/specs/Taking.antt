@@ -4,6 +4,7 @@ use Rattle.std.specs.declared.alloc.Global.{Global}
 use Rattle.base_devices.specs.Cause.{Rises}
 use Rattle.base_devices.specs.Content.{Name}
 use Rattle.base_devices.specs.Locking.{without}
+use Rattle.base_devices.specs.States.{LocksState}
 use Rattle.base_model.specs.Text.{Text}
 use Rattle.cmd_types.specs.declared.stages.plan.Plan.{Plan}
 use Rattle.cmd_types.specs.declared.stages.fault.StageFault.{StageFault}
@@ -11,7 +12,7 @@ use Rattle.cmd_types.specs.declared.stages.fault.StageFault.TheVariants.{Held}
 use Rattle.cmd_types.specs.declared.stages.halt.Halt.{Halt}
 use Rattle.cmd_types.specs.declared.stages.object.Object.TheVariants.{Locks}
 use Rattle.cmd_types.specs.Halts.{HaltCause, Only}
-use Rattle.cmd_types.specs.Plans.{with_one, first_lock, second_lock, IsLockOf}
+use Rattle.cmd_types.specs.Plans.{with_one, first_lock, second_lock, IsLockOf, TakesLocks}
 use Rattle.cmd_setup.specs.declared.command_locks.LockNames.{LockNames}
 
 -- the lock is held too, or none more than before
@@ -24,6 +25,10 @@ pub record HoldsOnly (first second : Option Text) (held : List Name) : Type 0 wh
   pub with_first : List Name
   pub is_first : MayHold first [] with_first
   pub is_second : MayHold second with_first held
+
+-- no locks are held but those of the plan
+abbrev pub HoldsAtMost : Plan → Text → List Name → Type 0
+HoldsAtMost plan stanza held = HoldsOnly (first_lock plan stanza) (second_lock plan stanza) held
 
 -- those of other names
 abbrev pub released : Option Text → List Name → List Name
@@ -41,9 +46,9 @@ HeldCause plan stanza held (Held name) = IsLockOf plan stanza (string_bytes name
 HeldCause plan stanza held other = ⊥
 
 -- a call on the locks was refused for one that was held, or the locks failed
-abbrev pub LocksCause : (Type 0 → StageFault → Type 0) → ℕ → ℕ → ℕ → ℕ → Halt StageFault → Type 0
-LocksCause why refusals new_refusals faults new_faults halt =
-    HaltCause (why (Rises refusals new_refusals)) (Only Locks (Rises faults new_faults)) halt
+abbrev pub LocksCause : (Type 0 → StageFault → Type 0) → LocksState → LocksState → Halt StageFault → Type 0
+LocksCause why old new halt =
+    HaltCause (why (Rises old.refusals new.refusals)) (Only Locks (Rises old.faults new.faults)) halt
 
 -- the name of a lock, where there is one
 abbrev pub name_of : Option (String Global) → Option Text
@@ -57,3 +62,17 @@ AreNames names plan stanza = (name_of names.first ≡ first_lock plan stanza)
 -- the plan's first lock was taken, or none was
 abbrev pub MayTake : Plan → Text → Text → Option (List (Text × Text)) → Option (List (Text × Text)) → Type 0
 MayTake plan folder stanza old new = (new ≡ old) ⊎ (new ≡ option_map (with_one folder (first_lock plan stanza)) old)
+
+-- ---- by what is known of the locks before and after
+
+-- the lock of this name was taken, where there is one
+abbrev pub TakesOne : Text → Option Text → LocksState → LocksState → Type 0
+TakesOne folder name old new = new.ever_taken ≡ option_map (with_one folder name) old.ever_taken
+
+-- the plan's locks were taken
+abbrev pub TakesPlanned : Plan → Text → Text → LocksState → LocksState → Type 0
+TakesPlanned plan folder stanza old new = TakesLocks plan folder stanza old.ever_taken new.ever_taken
+
+-- the plan's first lock was taken, or none was
+abbrev pub MayTakeFirst : Plan → Text → Text → LocksState → LocksState → Type 0
+MayTakeFirst plan folder stanza old new = MayTake plan folder stanza old.ever_taken new.ever_taken

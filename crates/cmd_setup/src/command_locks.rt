@@ -1,7 +1,7 @@
 // Takes and releases the locks of a command.
-ghost use Rattle.std.specs.Prelude.{◌≡◌, ◌≤◌, false, None, ◌++◌, [], option_map, OnOk, OnErr, IfOk, IfErr, IfSome, Contains};
-ghost use Rattle.cmd_types.specs.Plans.{when, with_one, with_held, first_lock, second_lock, TakesLocks, AreHeld};
-ghost use Rattle.cmd_setup.specs.Taking.{name_of, AreNames, MayHold, HoldsOnly, MayTake, released};
+ghost use Rattle.std.specs.Prelude.{◌≡◌, ◌≤◌, false, None, ◌++◌, [], OnOk, OnErr, IfOk, IfErr, IfSome, Contains};
+ghost use Rattle.cmd_types.specs.Plans.{when, with_held, AreHeld};
+ghost use Rattle.cmd_setup.specs.Taking.{name_of, AreNames, MayHold, released, HoldsAtMost, TakesOne, TakesPlanned, MayTakeFirst};
 ghost use Rattle.cmd_setup.specs.Taking.{IsHeldName, HeldCause, LocksCause};
 
 use base_devices::{LockAnswer, Locks};
@@ -43,15 +43,12 @@ fn take_one<K: Locks>(
     requires { IfSome (name_of name.now) (λ n. ¬ Contains (K.state locks.old).taken n) }
     ensures held { OnOk result ((K.state locks.new).taken ≡ with_held (name_of name.now) (K.state locks.old).taken) }
     ensures may { MayHold (name_of name.now) (K.state locks.old).taken (K.state locks.new).taken }
-    ensures ever_taken { OnOk result ((K.state locks.new).ever_taken ≡
-        option_map (with_one folder.now (name_of name.now)) (K.state locks.old).ever_taken) }
+    ensures ever_taken { OnOk result (TakesOne folder.now (name_of name.now) (K.state locks.old) (K.state locks.new)) }
     ensures free { OnErr result ((K.state locks.new).ever_taken ≡ (K.state locks.old).ever_taken) }
     ensures none { name_of name.now ≡ None → locks.new ≡ locks.old }
     ensures later { (K.state locks.old).faults ≤ (K.state locks.new).faults }
     ensures refusals { (K.state locks.old).refusals ≤ (K.state locks.new).refusals }
-    ensures cause { IfErr result (LocksCause (IsHeldName (name_of name.now))
-        (K.state locks.old).refusals (K.state locks.new).refusals (K.state locks.old).faults
-        (K.state locks.new).faults) }
+    ensures cause { IfErr result (LocksCause (IsHeldName (name_of name.now)) (K.state locks.old) (K.state locks.new)) }
 {
     let Some(name) = name else {
         return Ok(());
@@ -77,18 +74,13 @@ pub fn take_locks<K: Locks>(
     requires free { (K.state locks.old).taken ≡ [] }
     requires names { AreNames names.now plan.now stanza.now }
     ensures held { OnOk result (AreHeld plan.now stanza.now (K.state locks.new).taken) }
-    ensures only { HoldsOnly (first_lock plan.now stanza.now) (second_lock plan.now stanza.now)
-        (K.state locks.new).taken }
-    ensures ever_taken { OnOk result (TakesLocks plan.now folder.now stanza.now (K.state locks.old).ever_taken
-        (K.state locks.new).ever_taken) }
-    ensures may { OnErr result (MayTake plan.now folder.now stanza.now (K.state locks.old).ever_taken
-        (K.state locks.new).ever_taken) }
+    ensures only { HoldsAtMost plan.now stanza.now (K.state locks.new).taken }
+    ensures ever_taken { OnOk result (TakesPlanned plan.now folder.now stanza.now (K.state locks.old) (K.state locks.new)) }
+    ensures may { OnErr result (MayTakeFirst plan.now folder.now stanza.now (K.state locks.old) (K.state locks.new)) }
     ensures idle { plan.now.backup_lock ≡ false → plan.now.archive_lock ≡ false → locks.new ≡ locks.old }
     ensures later { (K.state locks.old).faults ≤ (K.state locks.new).faults }
     ensures refusals { (K.state locks.old).refusals ≤ (K.state locks.new).refusals }
-    ensures cause { IfErr result (LocksCause (HeldCause plan.now stanza.now)
-        (K.state locks.old).refusals (K.state locks.new).refusals (K.state locks.old).faults
-        (K.state locks.new).faults) }
+    ensures cause { IfErr result (LocksCause (HeldCause plan.now stanza.now) (K.state locks.old) (K.state locks.new)) }
 {
     take_one(alloc, locks, folder, &names.first)?;
     take_one(alloc, locks, folder, &names.second)?;
@@ -110,8 +102,7 @@ fn release_one<K: Locks>(locks: &mut K, name: &Option<String>)
 /// Releases the locks of these names, the last one first.
 pub fn release_locks<K: Locks>(locks: &mut K, names: &LockNames, plan: &Plan, stanza: &str)
     requires names { AreNames names.now plan.now stanza.now }
-    requires only { HoldsOnly (first_lock plan.now stanza.now) (second_lock plan.now stanza.now)
-        (K.state locks.old).taken }
+    requires only { HoldsAtMost plan.now stanza.now (K.state locks.old).taken }
     ensures released { (K.state locks.new).taken ≡ [] }
     ensures idle { plan.now.backup_lock ≡ false → plan.now.archive_lock ≡ false → locks.new ≡ locks.old }
     ensures ever_taken { (K.state locks.new).ever_taken ≡ (K.state locks.old).ever_taken }

@@ -2,7 +2,6 @@
 ghost use Rattle.std.specs.Prelude.{◌≡◌, string_bytes, OnOk, IfOk, IfErr, IfSome};
 ghost use Rattle.base_devices.specs.States.{CallsProperly, OnlyReads};
 ghost use Rattle.base_model.specs.Names.{archive_info};
-ghost use Rattle.repo_pair.specs.Member.{KeepsMembers};
 ghost use Rattle.archive_store.specs.Still.{IsStill};
 ghost use Rattle.cmd_types.specs.declared.stages.plan.Pairs.TheVariants.{HealArchive as Healing};
 ghost use Rattle.cmd_types.specs.Current.{AgreesAtPair, ArchiveCause, BackupCause};
@@ -10,6 +9,7 @@ ghost use Rattle.cmd_types.specs.Plans.{Heals, OnReading, AreHealed};
 ghost use Rattle.cmd_types.specs.DisksEffect.{HealsPair};
 ghost use Rattle.cmd_setup.specs.Readies.{has_archive, has_backup, FitsLimit, IfAsked, IsArchiveOf, IsBackupOf};
 ghost use Rattle.cmd_setup.specs.Stages.{IsArchiveFault, ArchivePairCause, NoArchive, NoBackup, RepoCause};
+ghost use Rattle.cmd_setup.specs.Calls.{KeepsArchivePair};
 
 use base_devices::Disk;
 use base_model::{ArchiveInfo, BackupInfo};
@@ -65,8 +65,7 @@ fn heal_pair_at<D: Disk>(
     ensures found { IfOk result (IsArchiveOf stanza.now (D.state repo.new).view.now) }
     ensures agrees { OnOk result (IfSome (D.state repo.new).view.now (AgreesAtPair stanza.now)) }
     ensures heals_pair { HealsPair stanza.now (D.state repo.old).view (D.state repo.new).view }
-    ensures lasts { OnOk result (KeepsMembers (archive_info stanza.now) (D.state repo.old).view
-        (D.state repo.new).view) }
+    ensures lasts { OnOk result (KeepsArchivePair stanza.now (D.state repo.old) (D.state repo.new)) }
     ensures only { OnOk result (Heals Healing stanza.now (D.state repo.old).view.now (D.state repo.new).view.now) }
     ensures frame { CallsProperly (D.state repo.old) (D.state repo.new) }
     ensures cause { IfErr result (ArchivePairCause stanza.now (D.state repo.old) (D.state repo.new)) }
@@ -84,8 +83,7 @@ fn heal_archive<D: Disk>(
     ensures found { IfOk result (IsArchiveOf stanza.now (D.state repo.new).view.now) }
     ensures agrees { OnOk result (IfSome (D.state repo.new).view.now (AgreesAtPair stanza.now)) }
     ensures heals_pair { HealsPair stanza.now (D.state repo.old).view (D.state repo.new).view }
-    ensures lasts { OnOk result (KeepsMembers (archive_info stanza.now) (D.state repo.old).view
-        (D.state repo.new).view) }
+    ensures lasts { OnOk result (KeepsArchivePair stanza.now (D.state repo.old) (D.state repo.new)) }
     ensures only { OnOk result (Heals Healing stanza.now (D.state repo.old).view.now (D.state repo.new).view.now) }
     ensures frame { CallsProperly (D.state repo.old) (D.state repo.new) }
     ensures cause { IfErr result (RepoCause (ArchiveCause stanza.now) (D.state repo.old) (D.state repo.new)) }
@@ -135,8 +133,7 @@ pub(crate) fn archive_by<D: Disk>(
     ensures healed { OnOk result (IfSome (D.state repo.new).view.now (AreHealed pairs stanza.now)) }
     ensures heals { OnOk result (Heals pairs stanza.now (D.state repo.old).view.now (D.state repo.new).view.now) }
     ensures heals_pair { HealsPair stanza.now (D.state repo.old).view (D.state repo.new).view }
-    ensures lasts { OnOk result (KeepsMembers (archive_info stanza.now) (D.state repo.old).view
-        (D.state repo.new).view) }
+    ensures lasts { OnOk result (KeepsArchivePair stanza.now (D.state repo.old) (D.state repo.new)) }
     ensures still { OnReading pairs (IsStill (D.state repo.old).view (D.state repo.new).view) }
     ensures frame { CallsProperly (D.state repo.old) (D.state repo.new) }
     ensures cause { IfErr result (RepoCause (NoArchive pairs stanza.now) (D.state repo.old) (D.state repo.new)) }

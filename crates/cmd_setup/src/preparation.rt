@@ -1,18 +1,16 @@
 // What is done under the locks, before a command's own part.
-ghost use Rattle.std.specs.Prelude.{◌≡◌, false, OnOk, IfOk, IfErr, IfSome, IsSome, string_bytes};
-ghost use Rattle.base_devices.specs.Moments.{SyncsFolders};
+ghost use Rattle.std.specs.Prelude.{◌≡◌, false, OnOk, IfOk, IfErr, IfSome, string_bytes};
 ghost use Rattle.base_devices.specs.States.{CallsProperly, OnlyReads, OnlyReadsFolder};
-ghost use Rattle.repo_pair.specs.Member.{IsMember, KeepsMembers};
 ghost use Rattle.archive_store.specs.Still.{IsStill};
 ghost use Rattle.cmd_types.specs.declared.stages.plan.SyncScope.TheVariants.{Whole, Looked};
 ghost use Rattle.cmd_types.specs.Halts.{Never};
-ghost use Rattle.cmd_types.specs.Plans.{Heals, AreHealed, HealsToLast, AreHeld, OnReading};
-ghost use Rattle.base_model.specs.Names.{archive_folder, archive_info};
-ghost use Rattle.base_model.specs.Walks.{IsSynced};
-ghost use Rattle.cmd_types.specs.DisksEffect.{Quiet, HealsPair, Begins};
+ghost use Rattle.cmd_types.specs.Plans.{AreHealed, AreHeld, OnReading};
+ghost use Rattle.base_model.specs.Names.{archive_folder};
+ghost use Rattle.cmd_types.specs.DisksEffect.{Quiet, HealsPair};
 ghost use Rattle.cmd_setup.specs.Readies.{IsReady};
 ghost use Rattle.cmd_setup.specs.Settled.{SettlesFor};
-ghost use Rattle.cmd_setup.specs.Stages.{RepoCause, StopCause};
+ghost use Rattle.cmd_setup.specs.Stages.{RepoCause};
+ghost use Rattle.cmd_setup.specs.Calls.{KeepsArchivePair, SyncsArchivePair, BeginsBy, HealsBy, HealsForGood, NotReady};
 
 use crate::cluster::cluster_by;
 use crate::pairs::{archive_by, backup_by};
@@ -35,19 +33,16 @@ pub fn prepare<D: Disk, T: DataFolder, K: Locks>(
     requires locked { AreHeld plan.now stanza.now (K.state _locks.now).taken }
     ensures ready { IfOk result (IsReady plan.now stanza.now (D.state repo.new).view.now (T.state tree.old).nodes) }
     ensures quiet { Quiet stanza.now (D.state repo.old).view (D.state repo.new).view }
-    ensures begun { OnOk result (Begins plan.now.sync_scope stanza.now (D.state repo.old).view (D.state repo.new).view) }
-    ensures heals { OnOk result (Heals plan.now.pairs stanza.now (D.state repo.old).view.now
-        (D.state repo.new).view.now) }
+    ensures begun { OnOk result (BeginsBy plan.now stanza.now (D.state repo.old) (D.state repo.new)) }
+    ensures heals { OnOk result (HealsBy plan.now stanza.now (D.state repo.old) (D.state repo.new)) }
     ensures healed { OnOk result (IfSome (D.state repo.new).view.now (AreHealed plan.now.pairs stanza.now)) }
     // No crash removes it.
-    ensures lasts { OnOk result (IsSynced stanza.now (D.state repo.old).view → IsSome (D.state repo.old).view.now
-        → HealsToLast plan.now.pairs stanza.now (D.state repo.new).view) }
+    ensures lasts { OnOk result (HealsForGood plan.now stanza.now (D.state repo.old) (D.state repo.new)) }
     ensures still { OnReading plan.now.pairs (IsStill (D.state repo.old).view (D.state repo.new).view) }
     ensures frame { CallsProperly (D.state repo.old) (D.state repo.new) }
     ensures looks { OnlyReadsFolder (T.state tree.old) (T.state tree.new) }
     ensures unread { plan.now.control ≡ false → tree.new ≡ tree.old }
-    ensures cause { IfErr result (StopCause plan.now stanza.now (D.state repo.old) (D.state repo.new)
-        (T.state tree.old) (T.state tree.new)) }
+    ensures cause { IfErr result (NotReady D.state T.state plan.now stanza.now repo.old repo.new tree.old tree.new) }
 {
     sync_directories(alloc, repo, stanza, plan.sync_scope)?;
     find(alloc, repo, tree, stanza, plan)
@@ -56,8 +51,7 @@ pub fn prepare<D: Disk, T: DataFolder, K: Locks>(
 // Syncs all of the stanza's folders.
 fn sync_whole<D: Disk>(alloc: Global, repo: &mut D, stanza: &str) -> Result<(), Halt<StageFault>>
     ensures settled { OnOk result (SettlesFor Whole stanza.now (D.state repo.old).view (D.state repo.new).view) }
-    ensures members { OnOk result (SyncsFolders (IsMember (archive_info stanza.now)) (D.state repo.old).view
-        (D.state repo.new).view) }
+    ensures members { OnOk result (SyncsArchivePair stanza.now (D.state repo.old) (D.state repo.new)) }
     ensures looks { OnlyReads (D.state repo.old) (D.state repo.new) }
     ensures cause { IfErr result (RepoCause (λ _. Never) (D.state repo.old) (D.state repo.new)) }
 {
@@ -77,8 +71,7 @@ fn pair_folder(alloc: Global, stanza: &str) -> Result<String, AllocError>
 // Syncs the folder of the archive pair.
 fn sync_pair<D: Disk>(alloc: Global, repo: &mut D, stanza: &str) -> Result<(), Halt<StageFault>>
     ensures settled { OnOk result (SettlesFor Looked stanza.now (D.state repo.old).view (D.state repo.new).view) }
-    ensures members { OnOk result (SyncsFolders (IsMember (archive_info stanza.now)) (D.state repo.old).view
-        (D.state repo.new).view) }
+    ensures members { OnOk result (SyncsArchivePair stanza.now (D.state repo.old) (D.state repo.new)) }
     ensures looks { OnlyReads (D.state repo.old) (D.state repo.new) }
     ensures cause { IfErr result (RepoCause (λ _. Never) (D.state repo.old) (D.state repo.new)) }
 {
@@ -97,8 +90,7 @@ fn sync_directories<D: Disk>(
     sync_scope: SyncScope,
 ) -> Result<(), Halt<StageFault>>
     ensures settled { OnOk result (SettlesFor sync_scope stanza.now (D.state repo.old).view (D.state repo.new).view) }
-    ensures members { OnOk result (SyncsFolders (IsMember (archive_info stanza.now)) (D.state repo.old).view
-        (D.state repo.new).view) }
+    ensures members { OnOk result (SyncsArchivePair stanza.now (D.state repo.old) (D.state repo.new)) }
     ensures looks { OnlyReads (D.state repo.old) (D.state repo.new) }
     ensures cause { IfErr result (RepoCause (λ _. Never) (D.state repo.old) (D.state repo.new)) }
 {
@@ -118,17 +110,14 @@ fn find<D: Disk, T: DataFolder>(
 ) -> Result<Ready, Halt<StageFault>>
     ensures ready { IfOk result (IsReady plan.now stanza.now (D.state repo.new).view.now (T.state tree.old).nodes) }
     ensures heals_pair { HealsPair stanza.now (D.state repo.old).view (D.state repo.new).view }
-    ensures lasts { OnOk result (KeepsMembers (archive_info stanza.now) (D.state repo.old).view
-        (D.state repo.new).view) }
-    ensures heals { OnOk result (Heals plan.now.pairs stanza.now (D.state repo.old).view.now
-        (D.state repo.new).view.now) }
+    ensures lasts { OnOk result (KeepsArchivePair stanza.now (D.state repo.old) (D.state repo.new)) }
+    ensures heals { OnOk result (HealsBy plan.now stanza.now (D.state repo.old) (D.state repo.new)) }
     ensures healed { OnOk result (IfSome (D.state repo.new).view.now (AreHealed plan.now.pairs stanza.now)) }
     ensures still { OnReading plan.now.pairs (IsStill (D.state repo.old).view (D.state repo.new).view) }
     ensures frame { CallsProperly (D.state repo.old) (D.state repo.new) }
     ensures looks { OnlyReadsFolder (T.state tree.old) (T.state tree.new) }
     ensures unread { plan.now.control ≡ false → tree.new ≡ tree.old }
-    ensures cause { IfErr result (StopCause plan.now stanza.now (D.state repo.old) (D.state repo.new)
-        (T.state tree.old) (T.state tree.new)) }
+    ensures cause { IfErr result (NotReady D.state T.state plan.now stanza.now repo.old repo.new tree.old tree.new) }
 {
     let control = cluster_by(alloc, tree, plan.control)?;
     let archive = archive_by(alloc, repo, stanza, plan.pairs)?;

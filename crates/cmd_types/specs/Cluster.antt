@@ -1,7 +1,10 @@
 -- What a data folder says about its cluster.
-use Rattle.std.specs.Prelude.{◌≡◌, Option, Some, None, IfSome, IsSome, IsSomeAnd}
+use Rattle.std.specs.Prelude.{◌≡◌, ℕ, Vec, option_map, take, Option, Some, None, IfSome, IsSome, IsSomeAnd}
 use Rattle.base_devices.specs.Content.{Value}
+use Rattle.std.specs.declared.alloc.Global.{Global}
 use Rattle.base_devices.specs.DataFolder.{Nodes, file_bytes, known_path}
+use Rattle.base_devices.specs.States.{DataFolderState}
+use Rattle.base_devices.specs.declared.data_folder.ReadableFile.{ReadableFile}
 use Rattle.base_devices.specs.declared.data_folder.ReadableFile.TheVariants.{Control as ControlName, Version as VersionName}
 use Rattle.base_model.specs.Text.{Text}
 use Rattle.base_model.specs.declared.clusters.Cluster.{Cluster}
@@ -18,6 +21,11 @@ control_bytes f = file_bytes (f (known_path ControlName))
 
 abbrev pub version_bytes : Nodes → Value
 version_bytes f = file_bytes (f (known_path VersionName))
+
+-- where the folder is known, these are the first bytes of a known file, at most so many; none where it isn't there
+abbrev pub IsFilePrefix : ReadableFile → ℕ → DataFolderState → Option (Vec ℕ Global) → Type 0
+IsFilePrefix what limit folder found = IfSome folder.nodes (λ f.
+    option_map (λ (v : Vec ℕ Global). v.items) found ≡ option_map (take limit) (file_bytes (f (known_path what))))
 
 -- both files are there, and this holds of their bytes
 abbrev pub OfBoth : Nodes → (Text → Text → Type 0) → Type 0

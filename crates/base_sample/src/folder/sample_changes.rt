@@ -1,12 +1,12 @@
 // Changes a sample cluster.
-ghost use Rattle.std.specs.Prelude.{◌≡◌, ◌≢◌, ◌+◌, ◌*◌, ◌<◌, ◌≤◌, ◌^◌, ◌∷◌, [], ℕ, Some, None, IfSome, IsSome, OnOk};
+ghost use Rattle.std.specs.Prelude.{◌≡◌, ◌+◌, ◌*◌, ◌<◌, ◌≤◌, ◌^◌, IfSome, IsSome, OnOk};
 ghost use Rattle.base_devices.specs.Cause.{HasCause};
-ghost use Rattle.base_devices.specs.Content.{Name, Content, SameBut, at, lengthened, put};
+ghost use Rattle.base_devices.specs.Content.{Name, Content, SameBut};
 ghost use Rattle.base_devices.specs.DataFolder.{IsFileAt};
-ghost use Rattle.base_model.specs.Text.{Text};
 ghost use Rattle.base_sample.specs.Bytes.{relation_path, zeros};
 ghost use Rattle.base_sample.specs.Folder.{made, grown, spoiled, grown_by};
 ghost use Rattle.base_sample.specs.Having.{Has, KeepsOthers};
+ghost use Rattle.base_sample.specs.Calls.{ChangesFilesBy, without_first, with_blank_second, SameButTwo, ProperWhere, ProperWhereGrown, with_zero_in, with_two_spoiled};
 
 use crate::folder::sample_files::write_file;
 use crate::values::{relation_path, zeros};
@@ -16,11 +16,9 @@ use std::alloc::Global;
 // Adds one zero to a relation file.
 fn grow_one<T: DataFolder>(alloc: Global, tree: &mut T, place: u32) -> Result<(), DeviceError>
     requires { place < 2 ^ 31 }
-    ensures grown { OnOk result ((c : Content) → Has c (T.state tree.old).nodes
-        → Has (lengthened (relation_path place) (0 ∷ []) c) (T.state tree.new).nodes) }
+    ensures grown { OnOk result (ChangesFilesBy (with_zero_in place) (T.state tree.old) (T.state tree.new)) }
     ensures others { SameBut (relation_path place) (T.state tree.old).nodes (T.state tree.new).nodes }
-    ensures proper { IsFileAt (T.state tree.old).nodes (relation_path place)
-        → (T.state tree.new).faulty_calls ≡ (T.state tree.old).faulty_calls }
+    ensures proper { ProperWhere (λ f. IsFileAt f (relation_path place)) (T.state tree.old) (T.state tree.new) }
     ensures opened { (T.state tree.new).opened ≡ (T.state tree.old).opened }
     ensures cause { HasCause (T.state tree.old).faults (T.state tree.new).faults result }
 {
@@ -35,12 +33,10 @@ pub fn grow_cluster<T: DataFolder>(
     number: u32,
 ) -> Result<(), DeviceError>
     requires { number ≤ 64 }
-    ensures grown { OnOk result ((c : Content) → Has c (T.state tree.old).nodes
-        → Has (grown_by (10 * number) c) (T.state tree.new).nodes) }
+    ensures grown { OnOk result (ChangesFilesBy (grown_by (10 * number)) (T.state tree.old) (T.state tree.new)) }
     // Whatever the result, only paths of the cluster have changed.
     ensures others { KeepsOthers number (T.state tree.old).nodes (T.state tree.new).nodes }
-    ensures proper { Has (made number) (T.state tree.old).nodes
-        → (T.state tree.new).faulty_calls ≡ (T.state tree.old).faulty_calls }
+    ensures proper { ProperWhere (Has (made number)) (T.state tree.old) (T.state tree.new) }
     ensures opened { (T.state tree.new).opened ≡ (T.state tree.old).opened }
     ensures cause { HasCause (T.state tree.old).faults (T.state tree.new).faults result }
 {
@@ -52,11 +48,9 @@ pub fn grow_cluster<T: DataFolder>(
 
 // Removes the first relation file.
 fn remove_first<T: DataFolder>(alloc: Global, tree: &mut T) -> Result<(), DeviceError>
-    ensures removed { OnOk result ((c : Content) → Has c (T.state tree.old).nodes
-        → Has (put (relation_path 0) None c) (T.state tree.new).nodes) }
+    ensures removed { OnOk result (ChangesFilesBy without_first (T.state tree.old) (T.state tree.new)) }
     ensures others { SameBut (relation_path 0) (T.state tree.old).nodes (T.state tree.new).nodes }
-    ensures proper { (n : ℕ) → n ≤ 64 → Has (grown n) (T.state tree.old).nodes
-        → (T.state tree.new).faulty_calls ≡ (T.state tree.old).faulty_calls }
+    ensures proper { ProperWhereGrown (T.state tree.old) (T.state tree.new) }
     ensures opened { (T.state tree.new).opened ≡ (T.state tree.old).opened }
     ensures cause { HasCause (T.state tree.old).faults (T.state tree.new).faults result }
 {
@@ -66,11 +60,9 @@ fn remove_first<T: DataFolder>(alloc: Global, tree: &mut T) -> Result<(), Device
 
 // Puts zeros into the second relation file.
 fn blank_second<T: DataFolder>(alloc: Global, tree: &mut T) -> Result<(), DeviceError>
-    ensures blanked { OnOk result ((c : Content) → Has c (T.state tree.old).nodes
-        → Has (put (relation_path 1) (Some (zeros 512)) c) (T.state tree.new).nodes) }
+    ensures blanked { OnOk result (ChangesFilesBy with_blank_second (T.state tree.old) (T.state tree.new)) }
     ensures others { SameBut (relation_path 1) (T.state tree.old).nodes (T.state tree.new).nodes }
-    ensures proper { (c : Content) → Has c (T.state tree.old).nodes
-        → (T.state tree.new).faulty_calls ≡ (T.state tree.old).faulty_calls }
+    ensures proper { (c : Content) → ProperWhere (Has c) (T.state tree.old) (T.state tree.new) }
     ensures opened { (T.state tree.new).opened ≡ (T.state tree.old).opened }
     ensures cause { HasCause (T.state tree.old).faults (T.state tree.new).faults result }
 {
@@ -81,12 +73,9 @@ fn blank_second<T: DataFolder>(alloc: Global, tree: &mut T) -> Result<(), Device
 
 /// Removes the first relation file, and puts zeros into the second.
 pub fn spoil_cluster<T: DataFolder>(alloc: Global, tree: &mut T) -> Result<(), DeviceError>
-    ensures spoiled { OnOk result ((c : Content) → Has c (T.state tree.old).nodes
-        → Has (put (relation_path 1) (Some (zeros 512)) (put (relation_path 0) None c)) (T.state tree.new).nodes) }
-    ensures others { (q : Text) → q ≢ relation_path 0 → q ≢ relation_path 1
-        → at q (T.state tree.new).nodes ≡ at q (T.state tree.old).nodes }
-    ensures proper { (n : ℕ) → n ≤ 64 → Has (grown n) (T.state tree.old).nodes
-        → (T.state tree.new).faulty_calls ≡ (T.state tree.old).faulty_calls }
+    ensures spoiled { OnOk result (ChangesFilesBy with_two_spoiled (T.state tree.old) (T.state tree.new)) }
+    ensures others { SameButTwo (relation_path 0) (relation_path 1) (T.state tree.old) (T.state tree.new) }
+    ensures proper { ProperWhereGrown (T.state tree.old) (T.state tree.new) }
     ensures opened { (T.state tree.new).opened ≡ (T.state tree.old).opened }
     ensures cause { HasCause (T.state tree.old).faults (T.state tree.new).faults result }
 {

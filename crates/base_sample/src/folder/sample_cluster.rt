@@ -1,11 +1,11 @@
 // Makes a sample cluster.
 ghost use Rattle.std.specs.Prelude.{◌≡◌, ◌≤◌, ◌⊎◌, IfSome, IfErr, OnOk};
-ghost use Rattle.base_devices.specs.Cause.{HasCause, Rises};
-ghost use Rattle.base_devices.specs.Content.{Name, at};
+ghost use Rattle.base_devices.specs.Cause.{HasCause};
 ghost use Rattle.base_devices.specs.States.{OnlyReadsFolder};
 ghost use Rattle.base_model.specs.Text.{In};
 ghost use Rattle.base_sample.specs.Folder.{sample_folders, made};
-ghost use Rattle.base_sample.specs.Having.{IsEmpty, Has, nothing, KeepsOthers, FolderCause, IfFull};
+ghost use Rattle.base_sample.specs.Having.{IsEmpty, Has, nothing, KeepsOthers, IfFull};
+ghost use Rattle.base_sample.specs.Calls.{SameWhere, ProperWhere, SampleCause};
 
 use crate::folder::fault::FolderFault;
 use crate::folder::sample_files::{write_file, write_relations};
@@ -17,8 +17,7 @@ use std::alloc::Global;
 fn check_empty<T: DataFolder>(alloc: Global, tree: &mut T) -> Result<(), FolderFault>
     ensures empty { OnOk result (IfSome (T.state tree.old).nodes IsEmpty) }
     ensures looks { OnlyReadsFolder (T.state tree.old) (T.state tree.new) }
-    ensures cause { IfErr result (FolderCause (T.state tree.old).nodes
-        (Rises (T.state tree.old).faults (T.state tree.new).faults)) }
+    ensures cause { IfErr result (SampleCause (T.state tree.old) (T.state tree.new)) }
 {
     let seen = tree.list(alloc)?;
     let Some(first) = seen.first() else {
@@ -31,10 +30,8 @@ fn check_empty<T: DataFolder>(alloc: Global, tree: &mut T) -> Result<(), FolderF
 // Makes the folders, each before what lies in it.
 fn make_folders<T: DataFolder>(tree: &mut T) -> Result<(), DeviceError>
     ensures made { OnOk result (IfSome (T.state tree.old).nodes IsEmpty → Has nothing (T.state tree.new).nodes) }
-    ensures others { (q : Name) → ¬ In q sample_folders
-        → at q (T.state tree.new).nodes ≡ at q (T.state tree.old).nodes }
-    ensures proper { IfSome (T.state tree.old).nodes IsEmpty
-        → (T.state tree.new).faulty_calls ≡ (T.state tree.old).faulty_calls }
+    ensures others { SameWhere (λ q. ¬ In q sample_folders) (T.state tree.old) (T.state tree.new) }
+    ensures proper { ProperWhere (λ f. IfSome f IsEmpty) (T.state tree.old) (T.state tree.new) }
     ensures opened { (T.state tree.new).opened ≡ (T.state tree.old).opened }
     ensures cause { HasCause (T.state tree.old).faults (T.state tree.new).faults result }
 {
@@ -49,8 +46,7 @@ fn write_cluster<T: DataFolder>(alloc: Global, tree: &mut T, number: u32) -> Res
     ensures made { OnOk result
         (Has nothing (T.state tree.old).nodes → Has (made number) (T.state tree.new).nodes) }
     ensures others { KeepsOthers number (T.state tree.old).nodes (T.state tree.new).nodes }
-    ensures proper { Has nothing (T.state tree.old).nodes
-        → (T.state tree.new).faulty_calls ≡ (T.state tree.old).faulty_calls }
+    ensures proper { ProperWhere (Has nothing) (T.state tree.old) (T.state tree.new) }
     ensures opened { (T.state tree.new).opened ≡ (T.state tree.old).opened }
     ensures cause { HasCause (T.state tree.old).faults (T.state tree.new).faults result }
 {
@@ -77,8 +73,7 @@ pub fn make_cluster<T: DataFolder>(
     ensures proper { (T.state tree.new).faulty_calls ≡ (T.state tree.old).faulty_calls }
     ensures opened { (T.state tree.new).opened ≡ (T.state tree.old).opened }
     ensures later { (T.state tree.old).faults ≤ (T.state tree.new).faults }
-    ensures cause { IfErr result (FolderCause (T.state tree.old).nodes
-        (Rises (T.state tree.old).faults (T.state tree.new).faults)) }
+    ensures cause { IfErr result (SampleCause (T.state tree.old) (T.state tree.new)) }
 {
     check_empty(alloc, tree)?;
     make_folders(tree)?;

@@ -1,11 +1,12 @@
 // Writes the files of a sample cluster.
 ghost use Rattle.std.specs.Prelude.{◌≡◌, ◌<◌, ◌≤◌, ◌^◌, None, IfSome, OnOk};
 ghost use Rattle.base_devices.specs.Cause.{HasCause};
-ghost use Rattle.base_devices.specs.Content.{Name, SameBut, at};
+ghost use Rattle.base_devices.specs.Content.{SameBut};
 ghost use Rattle.base_devices.specs.DataFolder.{IsPlaced};
 ghost use Rattle.base_sample.specs.Bytes.{relation_path, relation_bytes};
 ghost use Rattle.base_sample.specs.Folder.{relations};
 ghost use Rattle.base_sample.specs.Having.{Has, HasFile, nothing};
+ghost use Rattle.base_sample.specs.Calls.{SameWhere, ProperWhere};
 
 use crate::values::{relation_bytes, relation_path};
 use base_devices::{DataFolder, DeviceError};
@@ -19,8 +20,7 @@ pub(crate) fn write_file<T: DataFolder>(
 ) -> Result<(), DeviceError>
     ensures has { OnOk result (IfSome (T.state tree.new).nodes (HasFile path.now bytes.now)) }
     ensures others { SameBut path.now (T.state tree.old).nodes (T.state tree.new).nodes }
-    ensures proper { IsPlaced (T.state tree.old).nodes path.now
-        → (T.state tree.new).faulty_calls ≡ (T.state tree.old).faulty_calls }
+    ensures proper { ProperWhere (λ f. IsPlaced f path.now) (T.state tree.old) (T.state tree.new) }
     ensures opened { (T.state tree.new).opened ≡ (T.state tree.old).opened }
     ensures cause { HasCause (T.state tree.old).faults (T.state tree.new).faults result }
 {
@@ -34,8 +34,7 @@ fn write_relation<T: DataFolder>(alloc: Global, tree: &mut T, place: u32) -> Res
     ensures has { OnOk result
         (IfSome (T.state tree.new).nodes (HasFile (relation_path place) (relation_bytes place))) }
     ensures others { SameBut (relation_path place) (T.state tree.old).nodes (T.state tree.new).nodes }
-    ensures proper { IsPlaced (T.state tree.old).nodes (relation_path place)
-        → (T.state tree.new).faulty_calls ≡ (T.state tree.old).faulty_calls }
+    ensures proper { ProperWhere (λ f. IsPlaced f (relation_path place)) (T.state tree.old) (T.state tree.new) }
     ensures opened { (T.state tree.new).opened ≡ (T.state tree.old).opened }
     ensures cause { HasCause (T.state tree.old).faults (T.state tree.new).faults result }
 {
@@ -53,10 +52,8 @@ pub(crate) fn write_relations<T: DataFolder>(
     requires { count < 2 ^ 31 }
     ensures has { OnOk result (Has nothing (T.state tree.old).nodes
         → Has (relations count) (T.state tree.new).nodes) }
-    ensures others { (q : Name) → relations count q ≡ None
-        → at q (T.state tree.new).nodes ≡ at q (T.state tree.old).nodes }
-    ensures proper { Has nothing (T.state tree.old).nodes
-        → (T.state tree.new).faulty_calls ≡ (T.state tree.old).faulty_calls }
+    ensures others { SameWhere (λ q. relations count q ≡ None) (T.state tree.old) (T.state tree.new) }
+    ensures proper { ProperWhere (Has nothing) (T.state tree.old) (T.state tree.new) }
     ensures opened { (T.state tree.new).opened ≡ (T.state tree.old).opened }
     ensures cause { HasCause (T.state tree.old).faults (T.state tree.new).faults result }
 {

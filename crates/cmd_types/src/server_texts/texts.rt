@@ -1,7 +1,6 @@
 // The status and the message of each refusal.
-ghost use Rattle.std.specs.Prelude.{◌≡◌, ◌++◌, codes, IfOk};
-ghost use Rattle.cmd_types.specs.StagesTexts.{shown};
-ghost use Rattle.cmd_types.specs.ServerTextsTexts.{server_status, server_message};
+ghost use Rattle.std.specs.Prelude.{◌≡◌, IfOk};
+ghost use Rattle.cmd_types.specs.ServerTextsTexts.{server_status, server_message, said_text};
 
 use crate::stages::{bytes_of, push_shown, quoted};
 use base_text::NoMemory;
@@ -27,8 +26,7 @@ pub fn server_status(fault: &ServerFault) -> u8
 
 // The message of a server's own error.
 fn said_text(alloc: Global, code: &str, text: &str) -> Result<Vec<u8>, NoMemory>
-    ensures { IfOk result (λ line. line.items
-        ≡ codes "server: [" ++ (shown code.now ++ (codes "] " ++ shown text.now))) }
+    ensures { IfOk result (λ line. line.items ≡ said_text code.now text.now) }
 {
     let mut line = quoted(alloc, "server: [", code, "] ")?;
     push_shown(&mut line, text)?;

@@ -1,9 +1,8 @@
 // Reads the prefix of a known file.
-ghost use Rattle.std.specs.Prelude.{◌≡◌, ◌≤◌, ◌<◌, ℕ, List, Option, option_map, IfOk, IfSome, Vec, length, take};
-ghost use Rattle.std.specs.declared.alloc.Global.{Global};
+ghost use Rattle.std.specs.Prelude.{◌≤◌, ◌<◌, IfOk, IfSome, length};
 ghost use Rattle.base_devices.specs.States.{OnlyReadsFolder};
-ghost use Rattle.base_devices.specs.DataFolder.{file_bytes, known_path};
 ghost use Rattle.base_devices.specs.Cause.{HasCause};
+ghost use Rattle.cmd_types.specs.Cluster.{IsFilePrefix};
 
 use base_devices::{DataFolder, DeviceError, ReadableFile};
 use std::alloc::Global;
@@ -16,9 +15,7 @@ pub fn read_prefix<T: DataFolder>(
     limit: usize,
 ) -> Result<Option<Vec<u8>>, DeviceError>
     requires { 0 < limit }
-    ensures bytes { IfOk result (λ r. IfSome (T.state tree.old).nodes (λ f.
-        option_map (λ (v : Vec ℕ Global). v.items) r
-        ≡ option_map (take limit) (file_bytes (f (known_path what.now))))) }
+    ensures bytes { IfOk result (IsFilePrefix what.now limit (T.state tree.old)) }
     ensures within { IfOk result (λ r. IfSome r (λ v. length v.items ≤ limit)) }
     ensures looks { OnlyReadsFolder (T.state tree.old) (T.state tree.new) }
     ensures cause { HasCause (T.state tree.old).faults (T.state tree.new).faults result }

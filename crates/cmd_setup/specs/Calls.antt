@@ -1,0 +1,41 @@
+-- What the stages do to the repository, by what is known of it before and after, and why they end.
+use Rattle.std.specs.Prelude.{IsSome}
+use Rattle.base_devices.specs.Moments.{SyncsFolders}
+use Rattle.base_devices.specs.States.{DiskState, DataFolderState}
+use Rattle.base_model.specs.Names.{archive_info}
+use Rattle.base_model.specs.Text.{Text}
+use Rattle.base_model.specs.Walks.{IsSynced}
+use Rattle.repo_pair.specs.Member.{IsMember, KeepsMembers}
+use Rattle.cmd_types.specs.declared.stages.plan.Plan.{Plan}
+use Rattle.cmd_types.specs.declared.stages.fault.StageFault.{StageFault}
+use Rattle.cmd_types.specs.declared.stages.halt.Halt.{Halt}
+use Rattle.cmd_types.specs.DisksEffect.{Begins}
+use Rattle.cmd_types.specs.Plans.{Heals, HealsToLast}
+use Rattle.cmd_setup.specs.Stages.{StopCause}
+
+-- where all that a crash left had of the archive pair what the disk held, it does so still
+abbrev pub KeepsArchivePair : Text → DiskState → DiskState → Type 0
+KeepsArchivePair stanza old new = KeepsMembers (archive_info stanza) old.view new.view
+
+-- the folder of the archive pair was synced
+abbrev pub SyncsArchivePair : Text → DiskState → DiskState → Type 0
+SyncsArchivePair stanza old new = SyncsFolders (IsMember (archive_info stanza)) old.view new.view
+
+-- what the plan syncs was synced, so that a command's own part can begin
+abbrev pub BeginsBy : Plan → Text → DiskState → DiskState → Type 0
+BeginsBy plan stanza old new = Begins plan.sync_scope stanza old.view new.view
+
+-- the disk holds what it held, but for a pair that the plan heals
+abbrev pub HealsBy : Plan → Text → DiskState → DiskState → Type 0
+HealsBy plan stanza old new = Heals plan.pairs stanza old.view.now new.view.now
+
+-- where no name was unsynced, no crash undoes what was healed
+abbrev pub HealsForGood : Plan → Text → DiskState → DiskState → Type 0
+HealsForGood plan stanza old new = IsSynced stanza old.view → IsSome old.view.now
+    → HealsToLast plan.pairs stanza new.view
+
+-- why nothing is made ready, by the states of the repository and of the data folder
+abbrev pub NotReady : {D T : Type 0} → (D → DiskState) → (T → DataFolderState) → Plan → Text → D → D → T → T
+    → Halt StageFault → Type 0
+NotReady disk folder plan stanza repo new_repo tree new_tree =
+    StopCause plan stanza (disk repo) (disk new_repo) (folder tree) (folder new_tree)
