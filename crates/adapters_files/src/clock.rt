@@ -65,7 +65,7 @@ impl RealClock {
             }
             thread::sleep(&self.rt, Duration::from_millis(100));
         }
-        self.faults.known(
+        self.faults.counted(
             &call_of(&self.rt, "waiting for", "the clock"),
             Err(io::Error::from(ErrorKind::TimedOut)),
         )
@@ -117,7 +117,7 @@ impl Clock for RealClock {
     fn now(&mut self) -> Result<u64, DeviceError> {
         let known = second_from(&self.rt, self.least);
         let call = call_of(&self.rt, "reading of", "the clock");
-        let second = self.faults.known(&call, known)?;
+        let second = self.faults.counted(&call, known)?;
         self.least = second;
         Ok(second)
     }
@@ -130,7 +130,7 @@ impl Clock for RealClock {
         self.pass(second)?;
         let done = self.pass_file_second(of_files);
         let call = call_of(&self.rt, "waiting for", "the clock of files");
-        self.faults.known(&call, done)
+        self.faults.counted(&call, done)
     }
 }
 

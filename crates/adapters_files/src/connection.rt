@@ -120,7 +120,7 @@ impl ServerConnection for RealConnection {
     fn open(&mut self, path: &str) -> Result<(), DeviceError> {
         let done = self.open_place(path);
         self.faults
-            .known(&call_of(&self.rt, "opening of", path), done)
+            .counted(&call_of(&self.rt, "opening of", path), done)
     }
 
     fn send(&mut self, bytes: &[u8]) -> Result<(), DeviceError> {
@@ -130,12 +130,12 @@ impl ServerConnection for RealConnection {
             None => Err(io::Error::from(ErrorKind::NotConnected)),
         };
         self.faults
-            .known(&call_of(&self.rt, "writing to", &self.place), done)
+            .counted(&call_of(&self.rt, "writing to", &self.place), done)
     }
 
     fn receive(&mut self, buf: &mut [u8]) -> Result<usize, DeviceError> {
         let done = self.receive_reply(buf);
         self.faults
-            .known(&call_of(&self.rt, "reading of", &self.place), done)
+            .counted(&call_of(&self.rt, "reading of", &self.place), done)
     }
 }

@@ -102,19 +102,20 @@ impl Disk for RealDisk {
         self.settled.forget_root();
         self.is_swift = None;
         let done = self.place.open(path);
-        self.faults.known(&self.place.call("opening of", ""), done)
+        self.faults
+            .counted(&self.place.call("opening of", ""), done)
     }
 
     fn names(&mut self, alloc: Global, folder: &str) -> Result<Vec<Found>, DeviceError> {
         let done = names_below(alloc, &self.place, folder);
         self.faults
-            .known(&self.place.call("listing of", folder), done)
+            .counted(&self.place.call("listing of", folder), done)
     }
 
     fn folders(&mut self, alloc: Global, folder: &str) -> Result<Vec<String>, DeviceError> {
         let done = folders_in(alloc, &self.place, folder);
         self.faults
-            .known(&self.place.call("listing of", folder), done)
+            .counted(&self.place.call("listing of", folder), done)
     }
 
     fn read(&mut self, name: &str, at: u64, buf: &mut [u8]) -> Result<Option<usize>, DeviceError> {
@@ -123,7 +124,7 @@ impl Disk for RealDisk {
             self.total.see(&self.progress, name, at, &buf[..count]);
         }
         self.faults
-            .known(&self.place.call("reading of", name), done)
+            .counted(&self.place.call("reading of", name), done)
     }
 
     fn begin(&mut self, name: &str) -> Result<(), DeviceError> {
@@ -135,7 +136,7 @@ impl Disk for RealDisk {
             name,
         );
         self.faults
-            .known(&self.place.call("creation of", name), done)
+            .counted(&self.place.call("creation of", name), done)
     }
 
     fn append(&mut self, name: &str, bytes: &[u8]) -> Result<(), DeviceError> {
@@ -144,12 +145,12 @@ impl Disk for RealDisk {
             self.progress.add(bytes.len());
         }
         self.faults
-            .known(&self.place.call("writing to", name), done)
+            .counted(&self.place.call("writing to", name), done)
     }
 
     fn sync(&mut self, name: &str) -> Result<(), DeviceError> {
         let done = self.handles.sync(&self.place, name);
-        self.faults.known(&self.place.call("sync of", name), done)
+        self.faults.counted(&self.place.call("sync of", name), done)
     }
 
     fn rename(&mut self, from: &str, to: &str) -> Result<(), DeviceError> {
@@ -161,19 +162,20 @@ impl Disk for RealDisk {
             from,
             to,
         );
-        self.faults.known(&self.place.move_of(from, to), done)
+        self.faults.counted(&self.place.move_of(from, to), done)
     }
 
     fn remove(&mut self, name: &str) -> Result<(), DeviceError> {
         self.handles.forget_name(name);
         let done = remove_name(&self.place, &mut self.settled, name);
         self.faults
-            .known(&self.place.call("removal of", name), done)
+            .counted(&self.place.call("removal of", name), done)
     }
 
     fn sync_below(&mut self, folder: &str) -> Result<(), DeviceError> {
         let done = sync_below(&self.place, &mut self.handles, &mut self.settled, folder);
-        self.faults.known(&self.place.call("sync of", folder), done)
+        self.faults
+            .counted(&self.place.call("sync of", folder), done)
     }
 
     fn sync_directories(&mut self, folder: &str) -> Result<(), DeviceError> {
@@ -183,13 +185,15 @@ impl Disk for RealDisk {
             &mut self.settled,
             folder,
         ));
-        self.faults.known(&self.place.call("sync of", folder), done)
+        self.faults
+            .counted(&self.place.call("sync of", folder), done)
     }
 
     fn sync_directory(&mut self, folder: &str) -> Result<(), DeviceError> {
         let none_lost = self.handles.demand_none_lost();
         let done = none_lost.and_then(|()| sync_directory(&self.place, &mut self.settled, folder));
-        self.faults.known(&self.place.call("sync of", folder), done)
+        self.faults
+            .counted(&self.place.call("sync of", folder), done)
     }
 }
 

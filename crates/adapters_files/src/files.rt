@@ -43,7 +43,8 @@ impl Files for RealFiles {
         self.handles.forget();
         self.control.forget();
         let done = self.place.enter(root);
-        self.faults.known(&self.place.call("opening of", ""), done)
+        self.faults
+            .counted(&self.place.call("opening of", ""), done)
     }
 
     fn read(&mut self, name: &str, at: u64, buf: &mut [u8]) -> Result<Option<usize>, DeviceError> {
@@ -56,7 +57,7 @@ impl Files for RealFiles {
             buf,
         );
         self.faults
-            .known(&self.place.call("reading of", name), done)
+            .counted(&self.place.call("reading of", name), done)
     }
 }
 

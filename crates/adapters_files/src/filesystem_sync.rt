@@ -99,8 +99,8 @@ fn is_known(place: &Place, program: &str) -> io::Result<bool> {
     command.arg("--version")?;
     command.stdin(Stdio::null());
     command.stderr(Stdio::null());
-    let known = command.output(&place.rt)?;
-    Ok(known.status.success() && known.stdout.starts_with(MAKER))
+    let answer = command.output(&place.rt)?;
+    Ok(answer.status.success() && answer.stdout.starts_with(MAKER))
 }
 
 fn is_new_enough(place: &Place) -> io::Result<bool> {

@@ -29,7 +29,7 @@ impl InputFiles for RealInput {
     ghost state = { λ s. record { files = None; left = None; place = []; faults = s.faults.count } };
 
     fn open(&mut self, _path: &str) -> Result<bool, DeviceError> {
-        self.faults.known(
+        self.faults.counted(
             &call_of(&self.rt, "opening of", "standard input"),
             Err(io::Error::from(ErrorKind::Unsupported)),
         )
@@ -38,7 +38,7 @@ impl InputFiles for RealInput {
     fn read(&mut self, buf: &mut [u8]) -> Result<usize, DeviceError> {
         let done = read_some(&self.rt, buf);
         self.faults
-            .known(&call_of(&self.rt, "reading of", "standard input"), done)
+            .counted(&call_of(&self.rt, "reading of", "standard input"), done)
     }
 }
 

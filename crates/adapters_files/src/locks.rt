@@ -126,7 +126,7 @@ impl Locks for RealLocks {
     fn take(&mut self, folder: &str, name: &str) -> Result<LockAnswer, DeviceError> {
         let done = self.take_file(folder, name);
         let call = call_in(&self.rt, folder, name);
-        self.faults.known(&call, done)
+        self.faults.counted(&call, done)
     }
 
     fn release(&mut self, name: &str) {

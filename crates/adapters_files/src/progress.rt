@@ -10,30 +10,30 @@ const MIB: u128 = 1_048_576;
 #[derive(Drop)]
 pub struct Progress {
     rt: HostRuntime,
-    is_known_fact: bool,
+    is_shown: bool,
     // whether the sum of what there is to do is shown, once it is known
     has_total: bool,
     bytes: u64,
     // when the first bytes were counted, and when they were reported last
     began: Option<Instant>,
-    known: Option<Instant>,
+    last: Option<Instant>,
 }
 
 impl Progress {
     pub fn new(rt: HostRuntime) -> Self {
         Progress {
             rt,
-            is_known_fact: false,
+            is_shown: false,
             has_total: false,
             bytes: 0,
             began: None,
-            known: None,
+            last: None,
         }
     }
 
     /// Turns on progress output.
     pub fn tell(&mut self) {
-        self.is_known_fact = true;
+        self.is_shown = true;
     }
 
     /// Progress output shows the sum of what there is to do, once that is known.
@@ -57,7 +57,7 @@ impl Progress {
     /// Counts bytes that were written, and returns the sum every ten seconds.
     pub fn add(&mut self, count: usize) {
         self.bytes = self.bytes.saturating_add(count as u64);
-        if self.is_known_fact {
+        if self.is_shown {
             self.tell_in_time();
         }
     }
@@ -69,9 +69,9 @@ impl Progress {
         if self.began.is_none() {
             self.began = Some(now);
         }
-        let last = self.known.or(self.began).unwrap_or(now);
+        let last = self.last.or(self.began).unwrap_or(now);
         if now.duration_since(last).as_secs() >= BETWEEN {
-            self.known = Some(now);
+            self.last = Some(now);
             self.show(now);
         }
     }
@@ -79,7 +79,7 @@ impl Progress {
     /// Reports the sum at the end, and how fast it was reached.
     pub fn end(&self) {
         if let Ok(now) = Instant::now(&self.rt) {
-            if self.is_known_fact {
+            if self.is_shown {
                 self.show(now);
             }
         }

@@ -62,7 +62,7 @@ impl OutputStream for RealReplies {
     fn write(&mut self, bytes: &[u8]) -> Result<usize, DeviceError> {
         let done = self.put(bytes);
         self.faults
-            .known(&call_of(&self.rt, "writing to", "standard output"), done)
+            .counted(&call_of(&self.rt, "writing to", "standard output"), done)
     }
 }
 

@@ -103,7 +103,7 @@ impl OutputStream for RealOutput {
             kept.add(&bytes[..*count]);
         }
         self.faults
-            .known(&call_of(&self.rt, "writing to", "standard output"), done)
+            .counted(&call_of(&self.rt, "writing to", "standard output"), done)
     }
 }
 

@@ -58,7 +58,7 @@ impl InputFiles for RealInputFiles {
     fn open(&mut self, path: &str) -> Result<bool, DeviceError> {
         let done = self.open_place(path);
         self.faults
-            .known(&call_of(&self.rt, "opening of", path), done)
+            .counted(&call_of(&self.rt, "opening of", path), done)
     }
 
     fn read(&mut self, buf: &mut [u8]) -> Result<usize, DeviceError> {
@@ -71,7 +71,7 @@ impl InputFiles for RealInputFiles {
             self.file = None;
         }
         self.faults
-            .known(&call_of(&self.rt, "reading of", &self.place), done)
+            .counted(&call_of(&self.rt, "reading of", &self.place), done)
     }
 }
 

@@ -119,7 +119,8 @@ impl DataFolder for RealDataFolder {
         if done.is_ok() && self.is_held {
             done = hold(&self.place, &mut self.held);
         }
-        self.faults.known(&self.place.call("opening of", ""), done)
+        self.faults
+            .counted(&self.place.call("opening of", ""), done)
     }
 
     fn list(&mut self, alloc: Global) -> Result<Vec<FolderEntry>, DeviceError> {
@@ -129,7 +130,8 @@ impl DataFolder for RealDataFolder {
             self.listed = bytes_of(seen);
             self.progress.show_total(self.listed);
         }
-        self.faults.known(&self.place.call("listing of", ""), done)
+        self.faults
+            .counted(&self.place.call("listing of", ""), done)
     }
 
     fn read(
@@ -148,34 +150,34 @@ impl DataFolder for RealDataFolder {
             buf,
         );
         self.faults
-            .known(&self.place.call("reading of", &path), done)
+            .counted(&self.place.call("reading of", &path), done)
     }
 
     fn size(&mut self, what: &ReadableFile) -> Result<Option<u64>, DeviceError> {
         let path = path_of(self.place.rt.alloc(), what)?;
         let done = size_of(&self.place, &self.handles, self.size, &path);
         self.faults
-            .known(&self.place.call("reading of", &path), done)
+            .counted(&self.place.call("reading of", &path), done)
     }
 
     fn make(&mut self, folder: &str) -> Result<(), DeviceError> {
         let done = self.place.make_folder(folder);
         self.faults
-            .known(&self.place.call("creation of", folder), done)
+            .counted(&self.place.call("creation of", folder), done)
     }
 
     fn begin(&mut self, path: &str) -> Result<(), DeviceError> {
         let writes = self.restore_sync.writes(&self.place, path);
         let done = self.handles.begin(&self.place, path, writes);
         self.faults
-            .known(&self.place.call("creation of", path), done)
+            .counted(&self.place.call("creation of", path), done)
     }
 
     fn begin_new(&mut self, path: &str) -> Result<bool, DeviceError> {
         let writes = self.restore_sync.writes(&self.place, path);
         let done = self.handles.begin_new(&self.place, path, writes);
         self.faults
-            .known(&self.place.call("creation of", path), done)
+            .counted(&self.place.call("creation of", path), done)
     }
 
     fn append(&mut self, path: &str, bytes: &[u8]) -> Result<(), DeviceError> {
@@ -184,14 +186,14 @@ impl DataFolder for RealDataFolder {
             self.progress.add(bytes.len());
         }
         self.faults
-            .known(&self.place.call("writing to", path), done)
+            .counted(&self.place.call("writing to", path), done)
     }
 
     fn rename(&mut self, from: &str, to: &str) -> Result<(), DeviceError> {
         let done = self
             .restore_sync
             .move_file(&self.place, &mut self.handles, from, to);
-        self.faults.known(&self.place.move_of(from, to), done)
+        self.faults.counted(&self.place.move_of(from, to), done)
     }
 
     fn remove(&mut self, path: &str) -> Result<(), DeviceError> {
@@ -200,7 +202,7 @@ impl DataFolder for RealDataFolder {
             .restore_sync
             .end_removal(&self.place, path));
         self.faults
-            .known(&self.place.call("removal of", path), done)
+            .counted(&self.place.call("removal of", path), done)
     }
 }
 

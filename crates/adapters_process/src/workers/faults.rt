@@ -72,7 +72,11 @@ impl Faults {
     }
 
     /// Counts a call that failed, but not one that lacked memory.
-    pub fn known<T: Drop>(&mut self, call: &Call<'_>, done: io::Result<T>) -> Result<T, DeviceError>
+    pub fn counted<T: Drop>(
+        &mut self,
+        call: &Call<'_>,
+        done: io::Result<T>,
+    ) -> Result<T, DeviceError>
         ensures value { IfOk done (λ v. result ≡ Ok v) }
         ensures memory { IfErr done (λ e. error_kind e ≡ ErrorKind.OutOfMemory → result ≡ Err DeviceError.NoMemory) }
         ensures failed { IfErr done (λ e. error_kind e ≢ ErrorKind.OutOfMemory → result ≡ Err DeviceError.Failed) }

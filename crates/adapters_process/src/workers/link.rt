@@ -1,18 +1,20 @@
 // The connection to a worker process.
 ghost use Rattle.std.specs.Prelude.{◌≡◌, ◌≤◌, [], None, IfOk, IsErr, length, slice_get, if◌then◌else◌};
 ghost use Rattle.base_devices.specs.Links.{is_byte, is_job, is_read_job, bumped, SendLeaves, ReceiveLeaves};
+ghost use Rattle.adapters_process.specs.Counts.{CountsTheSame};
 ghost use Rattle.adapters_process.specs.Tail.{tail_of};
 
 use crate::workers::ended::end;
 use crate::workers::faults::{Call, Faults};
 use crate::workers::pieces::read_some;
-use crate::workers::ready::{Ready, wait_for};
+use crate::workers::ready::{Ready, Silence, wait_for};
 use crate::workers::tail::Tail;
 use base_devices::{DeviceError, Link};
 use std::io;
 use std::io::{BufReader, ErrorKind, Write};
 use std::os::fd::AsRawFd;
 use std::process::{Child, ChildStdout, Command, Stdio};
+use std::time::Instant;
 
 // As many bytes as a pipe holds.
 const PIPE: usize = 1 << 16;
@@ -38,8 +40,10 @@ pub struct RealLink {
     started: Option<Started>,
     // the process of a worker whose pipes were closed, and that wasn't waited for yet
     ending: Option<Child>,
-    // in milliseconds, of each wait
+    // how long it may be silent, in milliseconds
     longest: Option<u64>,
+    // when it last took or sent something
+    last: Option<Instant>,
     jobs: u64,
     reads: u64,
     given: Tail,
@@ -75,17 +79,17 @@ fn give(
     rt: &HostRuntime,
     started: &mut Started,
     frame: &[u8],
-    longest: Option<u64>,
+    silence: Option<Silence>,
 ) -> io::Result<()> {
     let worker = started.child.id();
     let Some(input) = &mut started.child.stdin else {
         return broken();
     };
-    let Some(longest) = longest else {
+    let Some(silence) = silence else {
         return input.write_all(frame);
     };
     for part in frame.chunks(AT_ONCE) {
-        wait_for(rt, worker, input.as_raw_fd(), Ready::ToWrite, longest)?;
+        wait_for(rt, worker, input.as_raw_fd(), Ready::ToWrite, silence)?;
         input.write_all(part)?;
     }
     Ok(())
@@ -96,14 +100,14 @@ fn receive_reply(
     rt: &HostRuntime,
     started: &mut Started,
     buf: &mut [u8],
-    longest: Option<u64>,
+    silence: Option<Silence>,
 ) -> io::Result<usize>
     ensures { IfOk result (λ n. n ≤ length buf.old) }
 {
-    if let Some(longest) = longest {
+    if let Some(silence) = silence {
         if started.output.buffer().is_empty() {
             let pipe = started.output.get_ref().as_raw_fd();
-            wait_for(rt, started.child.id(), pipe, Ready::ToRead, longest)?;
+            wait_for(rt, started.child.id(), pipe, Ready::ToRead, silence)?;
         }
     }
     read_some(&mut started.output, buf)
@@ -142,6 +146,7 @@ impl RealLink {
             started: None,
             ending: None,
             longest: None,
+            last: None,
             jobs: 0,
             reads: 0,
             given: Tail::new(),
@@ -149,8 +154,7 @@ impl RealLink {
         }
     }
 
-    /// From now on a worker is lost that sends nothing, or takes nothing, for this long, and then reads nothing for as
-    /// long again. 0 is never.
+    /// From now on a worker is lost that sends nothing, takes nothing and reads nothing for this long. 0 is never.
     pub fn set_timeout(&mut self, seconds: u64) {
         self.longest = if seconds == 0 {
             None
@@ -187,43 +191,64 @@ impl RealLink {
         !is_there
     }
 
+    // How long it may be silent, and how long it was.
+    fn silence(&self) -> Option<Silence> {
+        let longest = self.longest?;
+        let so_far = match (self.last, Instant::now(&self.rt)) {
+            (Some(last), Ok(now)) => u64::try_from(now.duration_since(last).as_millis()).unwrap_or(
+                u64::MAX,
+            ),
+            _ => 0,
+        };
+        Some(Silence { longest, so_far })
+    }
+
+    // It took or sent something.
+    fn note(&mut self)
+        ensures { CountsTheSame self.old self.new }
+    {
+        self.last = Instant::now(&self.rt).ok();
+    }
+
     fn put(&mut self, frame: &[u8]) -> io::Result<()>
-        ensures { (self.new.jobs ≡ self.old.jobs) × (self.new.reads ≡ self.old.reads)
-            × (self.new.given ≡ self.old.given) × (self.new.faults ≡ self.old.faults) }
+        ensures { CountsTheSame self.old self.new }
     {
         if self.started.is_none() {
             self.started = Some(start(&self.rt, self.program.as_str(), &self.arguments)?);
         }
+        let silence = self.silence();
         let done = match &mut self.started {
-            Some(started) => give(&self.rt, started, frame, self.longest),
+            Some(started) => give(&self.rt, started, frame, silence),
             None => broken(),
         };
-        if done.is_err() {
-            self.end_worker();
+        match done {
+            Ok(()) => self.note(),
+            Err(_) => self.end_worker(),
         }
         done
     }
 
     fn take(&mut self, buf: &mut [u8]) -> io::Result<usize>
         ensures room { IfOk result (λ n. n ≤ length buf.old) }
-        ensures same { (self.new.jobs ≡ self.old.jobs) × (self.new.reads ≡ self.old.reads)
-            × (self.new.given ≡ self.old.given) × (self.new.faults ≡ self.old.faults) }
+        ensures same { CountsTheSame self.old self.new }
     {
+        let silence = self.silence();
         let done = match &mut self.started {
-            Some(started) => receive_reply(&self.rt, started, buf, self.longest),
+            Some(started) => receive_reply(&self.rt, started, buf, silence),
             None => broken(),
         };
         let is_over = matches!(done, Ok(0)) && !buf.is_empty();
         if done.is_err() || is_over {
             self.end_worker();
+        } else {
+            self.note();
         }
         done
     }
 
     // Ends a worker that failed or sends no more, and waits for it.
     fn end_worker(&mut self)
-        ensures { (self.new.jobs ≡ self.old.jobs) × (self.new.reads ≡ self.old.reads)
-            × (self.new.given ≡ self.old.given) × (self.new.faults ≡ self.old.faults) }
+        ensures { CountsTheSame self.old self.new }
     {
         if let Some(started) = &mut self.started {
             end(&self.rt, &mut started.child);
@@ -257,7 +282,7 @@ impl Link for RealLink {
     fn send(&mut self, bytes: &[u8]) -> Result<(), DeviceError> {
         let done = self.put(bytes);
         let call = call_of(&self.rt, "writing to a worker", &self.program);
-        match self.faults.known(&call, done) {
+        match self.faults.counted(&call, done) {
             Ok(()) => {
                 self.count(bytes);
                 Ok(())
@@ -269,7 +294,7 @@ impl Link for RealLink {
     fn receive(&mut self, buf: &mut [u8]) -> Result<usize, DeviceError> {
         let done = self.take(buf);
         let call = call_of(&self.rt, "reading from a worker", &self.program);
-        match self.faults.known(&call, done) {
+        match self.faults.counted(&call, done) {
             Ok(n) => {
                 self.given.add(&buf[..n]);
                 Ok(n)

@@ -14,6 +14,24 @@ pub(crate) enum Ready {
 // The system is asked to wait for this many milliseconds at once.
 const AT_ONCE: u64 = 1000;
 
+// A worker that was silent for long as it is waited for gets this many milliseconds more, if it may be silent so long.
+const LOOK: u64 = 60_000;
+
+/// How long a worker may be silent, and how long it was, in milliseconds.
+#[derive(Clone, Copy)]
+pub(crate) struct Silence {
+    pub longest: u64,
+    pub so_far: u64,
+}
+
+impl Silence {
+    // How long it may go on, once it was waited for.
+    fn rest(&self) -> u64 {
+        let rest = self.longest.saturating_sub(AT_ONCE).max(1);
+        rest.saturating_sub(self.so_far).max(rest.min(LOOK))
+    }
+}
+
 // Waits until a pipe is ready, or has no other end any more, for at most this many milliseconds, and returns whether.
 fn is_ready_within(pipe: i32, ready: Ready, longest: u64) -> bool {
     let events = match ready {
@@ -48,16 +66,20 @@ fn is_idle(before: &Option<String>, now: &Option<String>) -> bool {
     }
 }
 
-/// Waits until a pipe of a worker is ready. One that is silent for this many milliseconds may be summing a large file:
-/// it is waited for as long as it reads, which is looked at each time that they are over.
+/// Waits until a pipe of a worker is ready. One that may be silent no longer may be summing a large file: it is waited for
+/// as long as it reads, which is looked at each time that it was silent so long.
 pub(crate) fn wait_for(
     rt: &HostRuntime,
     worker: u32,
     pipe: i32,
     ready: Ready,
-    longest: u64,
+    silence: Silence,
 ) -> io::Result<()> {
-    let mut before = None;
+    if is_ready_within(pipe, ready, silence.longest.min(AT_ONCE)) {
+        return Ok(());
+    }
+    let mut before = work_of(rt, worker);
+    let mut longest = silence.rest();
     for _ in 0..u64::MAX {
         if is_ready_within(pipe, ready, longest) {
             return Ok(());
@@ -67,6 +89,7 @@ pub(crate) fn wait_for(
             break;
         }
         before = now;
+        longest = silence.longest;
     }
     let text = "it says and reads nothing for too long";
     Err(io::Error::new(ErrorKind::TimedOut, text))
