@@ -2,6 +2,7 @@
 use Rattle.std.specs.Prelude.{◌≡◌, ◌≢◌, ◌<◌, ◌^◌, ℕ, List, length, Option, Some, None, IfSome, IsSomeAnd, Result, MatchResult, string_bytes}
 use Rattle.sha1.specs.Sha1.{sha1}
 use Rattle.base_devices.specs.Content.{Content}
+use Rattle.base_devices.specs.States.{DiskState, DiskFailed}
 use Rattle.base_model.specs.declared.wal.ArchiveId.{ArchiveId}
 use Rattle.base_model.specs.declared.wal.ArchiveName.{ArchiveName}
 use Rattle.base_model.specs.declared.wal.ArchiveName.TheVariants.{Segment as Whole, Partial, History, Backup}
@@ -71,6 +72,11 @@ PushCause stanza id name system bytes now rose Disk = IsFileOf name bytes system
 PushCause stanza id name system bytes now rose NoMemory = IsFileOf name bytes system
 PushCause stanza id name system bytes now rose fault = ⊥
 
+-- the same on this disk
+abbrev pub Rejects : Text → ArchiveId → ArchiveName → ℕ → Text → DiskState → DiskState → ArchiveFault → Type 0
+Rejects stanza id name system bytes old new fault =
+    PushCause stanza id name system bytes old.view.now (DiskFailed old new) fault
+
 -- ---- a file that is got
 
 -- f stores the file with one sum alone, and at its path these bytes
@@ -97,6 +103,10 @@ GetCause stanza id name now rose Disk = rose
 GetCause stanza id name now rose NoMemory = Unit {0}
 GetCause stanza id name now rose fault = ⊥
 
+-- the same on this disk
+abbrev pub GetFails : Text → ArchiveId → ArchiveName → DiskState → DiskState → ArchiveFault → Type 0
+GetFails stanza id name old new fault = GetCause stanza id name old.view.now (DiskFailed old new) fault
+
 -- no file of this id and name is archived
 abbrev pub IsUnarchived : ArchiveId → ArchiveName → List Archived → Type 0
 IsUnarchived id name files = (a : Archived) → In a files → a.id ≡ id → a.name ≢ name
@@ -112,6 +122,10 @@ ReadCause kept now rose Disk = rose
 ReadCause kept now rose NoMemory = Unit {0}
 ReadCause kept now rose fault = ⊥
 
+-- the same on this disk
+abbrev pub ReadFails : StoredFile → DiskState → DiskState → ArchiveFault → Type 0
+ReadFails kept old new fault = ReadCause kept old.view.now (DiskFailed old new) fault
+
 -- ---- what is stored
 
 -- why it isn't known whether a file is stored
@@ -124,6 +138,10 @@ PresentCause stanza id name now rose Disk = rose
 PresentCause stanza id name now rose NoMemory = Unit {0}
 PresentCause stanza id name now rose fault = ⊥
 
+-- the same on this disk
+abbrev pub PresentFails : Text → ArchiveId → ArchiveName → DiskState → DiskState → ArchiveFault → Type 0
+PresentFails stanza id name old new fault = PresentCause stanza id name old.view.now (DiskFailed old new) fault
+
 -- the most files that are listed
 abbrev pub most_files : ℕ
 most_files = 4000000
@@ -135,6 +153,10 @@ AllCause stanza now rose (TooMany limit) = (limit ≡ most_files)
 AllCause stanza now rose Disk = rose
 AllCause stanza now rose NoMemory = Unit {0}
 AllCause stanza now rose fault = ⊥
+
+-- the same on this disk
+abbrev pub ListingFails : Text → DiskState → DiskState → ArchiveFault → Type 0
+ListingFails stanza old new fault = AllCause stanza old.view.now (DiskFailed old new) fault
 
 -- ---- all of them
 

@@ -1,7 +1,8 @@
 -- Where a file lies, and what a look there shows.
 use Rattle.std.specs.Prelude.{◌≡◌, ◌⊎◌, ◌<◌, ◌^◌, Bool, true, false, List, [], ◌∷◌, ◌++◌, Option, IfSome, IsSomeAnd, codes, length, option_map, string_bytes}
 use Rattle.base_text.specs.Sum.{sum_text}
-use Rattle.base_devices.specs.Content.{Content}
+use Rattle.base_devices.specs.Content.{Name, Content, LiesDirectlyIn}
+use Rattle.base_devices.specs.States.{DiskState, DiskFailed}
 use Rattle.base_model.specs.declared.wal.ArchiveId.{ArchiveId}
 use Rattle.base_model.specs.declared.wal.ArchiveName.{ArchiveName}
 use Rattle.base_model.specs.declared.wal.ArchiveName.TheVariants.{Segment as Whole, Partial, History, Backup}
@@ -46,6 +47,10 @@ pub record AreNamesOf (stanza : Text) (id : ArchiveId) (name : ArchiveName) (nam
   pub temporary : string_bytes names.temporary ≡ file_place stanza id name ⫽ codes ".pgbackrest.tmp"
   pub summed : names.has_sum ≡ has_sum name
 
+-- a name directly in the folder of the file's paths
+abbrev pub LiesBeside : FileNames → Name → Type 0
+LiesBeside names n = LiesDirectlyIn (string_bytes names.folder) n
+
 -- the path with this sum
 abbrev pub path_with : FileNames → Text → Text
 path_with names sum = string_bytes names.prefix ++ sum_digits names.has_sum sum
@@ -64,6 +69,16 @@ abbrev pub Shows : Text → ArchiveId → ArchiveName → Content → Look → T
 Shows stanza id name f Free = StoresNone stanza id name f
 Shows stanza id name f (One kept) = ShowsOne stanza id name f kept
 Shows stanza id name f (Two first second) = StoresTwo stanza id name f (string_bytes first) (string_bytes second)
+
+-- what a look at this disk shows of the file that has these names, where what it holds is known
+abbrev pub LookShows : FileNames → DiskState → Look → Type 0
+LookShows names disk look = IfSome disk.view.now (λ f. (stanza : Text) (id : ArchiveId) (name : ArchiveName)
+    → AreNamesOf stanza id name names → Shows stanza id name f look)
+
+-- the same, where its path has a sum
+abbrev pub LookShowsSegment : FileNames → DiskState → Look → Type 0
+LookShowsSegment names disk look = IfSome disk.view.now (λ f. (stanza : Text) (id : ArchiveId) (name : ArchiveName)
+    → AreNamesOf stanza id name names → has_sum name ≡ true → Shows stanza id name f look)
 
 -- the two state the same
 pub record IsAlike (one other : StoredFile) : Type 0 where
@@ -113,3 +128,7 @@ LookCause names now rose (TooLong path limit) = (names.has_sum ≡ false) × (st
 LookCause names now rose Disk = rose
 LookCause names now rose NoMemory = Unit {0}
 LookCause names now rose fault = ⊥
+
+-- the same on this disk
+abbrev pub LookFails : FileNames → DiskState → DiskState → ArchiveFault → Type 0
+LookFails names old new fault = LookCause names old.view.now (DiskFailed old new) fault

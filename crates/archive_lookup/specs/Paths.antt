@@ -1,5 +1,5 @@
 -- How the path of an archive file is put together.
-use Rattle.std.specs.Prelude.{◌≡◌, ◌≢◌, ℕ, Bool, true, false, ◌∷◌, ◌++◌, Option, Some, None}
+use Rattle.std.specs.Prelude.{◌≡◌, ◌≢◌, ℕ, Bool, true, false, ◌∷◌, ◌++◌, Option, Some, None, option_map}
 use Rattle.std.specs.List.{AllByRecursion}
 use Rattle.base_text.specs.Sum.{IsSum, sum_text}
 use Rattle.base_model.specs.declared.wal.ArchiveId.{ArchiveId}
@@ -7,6 +7,8 @@ use Rattle.base_model.specs.declared.wal.ArchiveName.{ArchiveName}
 use Rattle.base_model.specs.declared.wal.ArchiveName.TheVariants.{Segment as Whole, Partial, History, Backup}
 use Rattle.base_model.specs.Text.{Text, ◌⫽◌}
 use Rattle.base_model.specs.Names.{id_text, wal_text, archive_text, segment_folder}
+use Rattle.base_model.specs.Represents.{IsWalName, IsArchivePlace}
+use Rattle.archive_lookup.specs.declared.stored.paths.StoredName.{StoredName}
 use Rattle.archive_lookup.specs.Stored.{known_sum}
 
 -- no byte of the text is this one
@@ -43,6 +45,10 @@ IsCut text (Some folder) file = (text ≡ folder ⫽ file) × Lacks 47 folder
 abbrev pub IsReadAs : (ArchiveName → Text → Text) → Text → ArchiveName → Option Text → Type 0
 IsReadAs text_of text name known = (sum : Text) × IsSum sum × (text ≡ text_of name sum) × (known ≡ known_sum name sum)
 
+-- the text is that of no file
+abbrev pub IsTextOfNone : (ArchiveName → Text → Text) → Text → Type 0
+IsTextOfNone text_of text = (name : ArchiveName) (sum : Text) → IsWalName name → IsSum sum → text ≢ text_of name sum
+
 -- the path below the id
 abbrev pub below_id : ArchiveName → Text → Text
 below_id name sum = archive_text name (sum_text sum)
@@ -50,3 +56,13 @@ below_id name sum = archive_text name (sum_text sum)
 -- the path below a folder of ids
 abbrev pub below_folder : Text → ArchiveId → ArchiveName → Text → Text
 below_folder folder id name sum = folder ++ (id_text id ⫽ below_id name sum)
+
+-- this is what a path below a folder of ids states
+abbrev pub IsPathRead : Text → Text → StoredName → Type 0
+IsPathRead folder path known =
+    IsReadAs (below_folder folder known.id) path known.name (option_map (λ s. s.0) known.sum)
+
+-- it is the path of no archive file
+abbrev pub IsPathOfNone : Text → Text → Type 0
+IsPathOfNone folder path = (id : ArchiveId) (name : ArchiveName) (sum : Text) → IsArchivePlace id name sum
+    → path ≢ below_folder folder id name sum

@@ -1,10 +1,11 @@
 -- What other processes do in a step: they push files of one stanza, and mark in the spool the result of it.
-use Rattle.std.specs.Prelude.{◌≡◌, ◌⊎◌, ◌≤◌, ℕ, Bool, List, [], ◌∷◌, ◌++◌, Option, Some, None, IsSome, codes}
+use Rattle.std.specs.Prelude.{◌≡◌, ◌⊎◌, ◌≤◌, ℕ, Bool, List, [], ◌∷◌, ◌++◌, Option, Some, None, Result, OnOk, IsSome, codes, option_map}
 use Rattle.sha1.specs.Sha1.{sha1}
 use Rattle.base_text.specs.Sum.{sum_text}
 use Rattle.base_devices.specs.Content.{Content}
 use Rattle.base_devices.specs.Moments.{View}
 use Rattle.base_devices.specs.Crash.{Leaves, Write}
+use Rattle.base_devices.specs.States.{DiskState}
 use Rattle.base_model.specs.declared.clusters.Cluster.{Cluster}
 use Rattle.base_model.specs.declared.wal.ArchiveName.{ArchiveName}
 use Rattle.base_model.specs.Text.{Text, ◌⫽◌, In}
@@ -15,6 +16,7 @@ use Rattle.base_model.specs.Steps.{Turn, Named, ArchivePushAsync}
 use Rattle.base_model.specs.Log.{Done, Keeps, HasReceipt}
 use Rattle.base_model.specs.Now.{NowRepresents, NowEffect}
 use Rattle.base_model.specs.Steady.{CarriesOn, PassesOnly}
+use Rattle.archive_lookup.specs.Stored.{ChangesArchive}
 
 -- ---- what is known
 
@@ -51,6 +53,10 @@ GoesOn ended old new = IsSome new → (stanza : Text) × (t : Turned) × GoesOnB
 -- this holds of the stanza and of the step of others that the account continued by
 abbrev pub OnTurn : Option Account → Option Account → (Text → Turned → Type 0) → Type 0
 OnTurn old new P = (stanza : Text) (t : Turned) → GoesOnBy t stanza old new → P stanza t
+
+-- the program was started with these arguments, where that is known
+abbrev pub IsStarted : List Text → ProcessesState → ProcessesState → Type 0
+IsStarted arguments old new = new.started ≡ option_map (λ past. past ++ arguments ∷ []) old.started
 
 -- ---- what it does to the repository
 
@@ -104,3 +110,25 @@ pub record LeavesMarks (stanza : Text) (marks : List Write) (old new : Option Co
   pub stand : (f : Content) → new ≡ Some f → (w : Write) → In w marks → f w.0 ≡ Some w.1
   pub others : (f g : Content) → old ≡ Some f → new ≡ Some g → (name bytes : Text) → IsMark stanza name
       → g name ≡ Some bytes → (f name ≡ Some bytes) ⊎ In (name, bytes) marks
+
+-- ---- the same of the step that the account continued by
+
+-- what it does to the repository
+abbrev pub TurnGoes : ProcessesState → ProcessesState → DiskState → DiskState → Type 0
+TurnGoes old new repo new_repo = OnTurn old.account new.account
+    (λ stanza t. GoesByTurn stanza t.turn repo.view new_repo.view)
+
+-- which marks it leaves in the spool, where it succeeded
+abbrev pub TurnMarks : {T E : Type 0} → Result T E → ProcessesState → ProcessesState → DiskState → DiskState → Type 0
+TurnMarks result old new spool new_spool = OnOk result
+    (OnTurn old.account new.account (λ stanza t. LeavesMarks stanza t.marks spool.view.now new_spool.view.now))
+
+-- of this disk it changes the stanza's folder of the archive alone
+abbrev pub TurnChanges : ProcessesState → ProcessesState → DiskState → DiskState → Type 0
+TurnChanges old new disk new_disk = OnTurn old.account new.account
+    (λ stanza t. ChangesArchive stanza disk.view new_disk.view)
+
+-- which receipts it gives
+abbrev pub TurnReceipts : ProcessesState → ProcessesState → DiskState → DiskState → DiskState → DiskState → Type 0
+TurnReceipts old new repo new_repo spool new_spool = OnTurn old.account new.account
+    (λ stanza t. GivesReceipts stanza t.turn repo.view new_repo.view spool.view new_spool.view)

@@ -1,5 +1,6 @@
 -- Bytes that are read in pieces, after the first of them.
-use Rattle.std.specs.Prelude.{◌≡◌, ◌≤◌, ◌++◌, ℕ, Option, IfSome, length, take}
+use Rattle.std.specs.Prelude.{◌≡◌, ◌≤◌, ◌++◌, ℕ, List, Option, Some, IfSome, length, take}
+use Rattle.base_devices.specs.Content.{Reads}
 use Rattle.base_model.specs.Text.{Text}
 use Rattle.repo_names.specs.Header.{BeginsWith}
 
@@ -12,3 +13,7 @@ pub record IsReadFrom (model : Option Text) (first : Text) (count : ℕ) (bytes 
 pub record IsReadTo (model : Option Text) (first bytes : Text) : Type 0 where
   pub known : IfSome model (λ b. (length bytes ≤ length b) × (bytes ≡ take (length bytes) b))
   pub prefix : (rest : Text) × (bytes ≡ first ++ rest)
+
+-- what a read into a buffer gives of the bytes, where they are known
+abbrev pub ReadsPiece : Option Text → ℕ → List ℕ → List ℕ → ℕ → Type 0
+ReadsPiece model at old_buf new_buf n = IfSome model (λ b. Reads (Some b) at (length old_buf) new_buf (Some n))

@@ -3,3 +3,4 @@ pub mod Still
 pub mod ByteSource
 pub mod Pushes
 pub mod Pushing
+pub mod Getting

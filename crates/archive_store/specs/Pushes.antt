@@ -4,7 +4,8 @@ use Rattle.sha1.specs.Sha1.{sha1}
 use Rattle.base_text.specs.Sum.{IsSum}
 use Rattle.base_devices.specs.Content.{Content}
 use Rattle.base_devices.specs.Moments.{View}
-use Rattle.base_devices.specs.Crash.{Write, Crash, Ends, NowChanges, FirstOf, IsAlikeAt}
+use Rattle.base_devices.specs.Crash.{Write, Crash, Ends, NowChanges, FirstOf, AllOf, IsAlikeAt}
+use Rattle.base_devices.specs.States.{DiskState}
 use Rattle.base_model.specs.declared.wal.ArchiveId.{ArchiveId}
 use Rattle.base_model.specs.declared.wal.ArchiveName.{ArchiveName}
 use Rattle.base_model.specs.Text.{Text}
@@ -12,7 +13,9 @@ use Rattle.base_model.specs.Repository.{Stanza}
 use Rattle.base_model.specs.Represents.{Represents, HasStanza}
 use Rattle.base_model.specs.Steps.{Step, One, IsPartOf, after, after_all, push_of}
 use Rattle.base_model.specs.Walks.{IsSynced, Walks}
-use Rattle.archive_lookup.specs.Stored.{archived_file, archive_path, ChangesArchive}
+use Rattle.archive_lookup.specs.Stored.{archived_file, archive_path, ChangesArchive, StoresNone, StoresOnly}
+use Rattle.archive_store.specs.declared.pushing.Pushed.{Pushed}
+use Rattle.archive_store.specs.declared.pushing.Pushed.TheVariants.{New, Same}
 
 -- the name is the file's, with some sum
 abbrev pub IsPathOf : Text → ArchiveId → ArchiveName → Text → Type 0
@@ -65,3 +68,27 @@ pub record LeavesFile (stanza : Text) (id : ArchiveId) (name : ArchiveName) (mod
     (old new : View) : Type 0 where
   pub all : IfSome model (λ bytes. LeavesAll stanza id name bytes old new)
   pub alike : IsSynced stanza old → IsSome old.now → IsAlikeAt (IsPathOf stanza id name) new
+
+-- ---- on a disk
+
+-- what a push leaves of it after every answer
+abbrev pub Pushes : Text → ArchiveId → ArchiveName → Option Text → DiskState → DiskState → Type 0
+Pushes stanza id name model old new = Leaves stanza id name model old.view new.view
+
+-- what it leaves of it at Ok
+abbrev pub HasPushed : Text → ArchiveId → ArchiveName → Option Text → DiskState → DiskState → Type 0
+HasPushed stanza id name model old new = LeavesFile stanza id name model old.view new.view
+
+-- it doesn't store the file, where what it holds is known
+abbrev pub LacksFile : Text → ArchiveId → ArchiveName → DiskState → Type 0
+LacksFile stanza id name disk = IfSome disk.view.now (StoresNone stanza id name)
+
+-- where the answer is that the file is new, exactly these bytes are put at its path
+abbrev pub WritesIfNew : Text → ArchiveId → ArchiveName → Text → DiskState → DiskState → Pushed → Type 0
+WritesIfNew stanza id name bytes old new pushed = pushed ≡ New
+    → NowChanges (AllOf (writes_of stanza id name bytes)) old.view.now new.view.now
+
+-- where the answer is that it was stored already, it was so with the sum of these bytes, and the disk holds the same
+abbrev pub KeepsIfSame : Text → ArchiveId → ArchiveName → Text → DiskState → DiskState → Pushed → Type 0
+KeepsIfSame stanza id name bytes old new pushed = pushed ≡ Same
+    → IfSome old.view.now (λ f. StoresOnly stanza id name f (sha1 bytes)) × (new.view.now ≡ old.view.now)

@@ -1,22 +1,15 @@
 // Stored files are read and looked for.
-ghost use Rattle.std.specs.Prelude.{◌≡◌, ◌≤◌, ◌^◌, true, false, Some, IfOk, IfErr, IfSome, IsSome, IsErrOf, OnOk, length, string_bytes};
-ghost use Rattle.sha1.specs.Sha1.{sha1};
-ghost use Rattle.base_devices.specs.States.{OnlyReads};
-ghost use Rattle.base_devices.specs.Moments.{LeavesNoMore, SyncsFolders};
+ghost use Rattle.std.specs.Prelude.{◌≤◌, ◌^◌, true, false, Some, IfOk, IfErr, IsErrOf, OnOk, length};
+ghost use Rattle.base_devices.specs.States.{OnlyReads, MakesDurable};
 ghost use Rattle.base_devices.specs.Cause.{Rises};
-ghost use Rattle.base_devices.specs.Crash.{IsAlikeAt};
 ghost use Rattle.base_model.specs.declared.wal.ArchiveId.{ArchiveId};
 ghost use Rattle.base_model.specs.declared.wal.ArchiveName.{ArchiveName};
-ghost use Rattle.base_model.specs.Repository.{Stanza};
-ghost use Rattle.base_model.specs.Now.{NowRepresents};
-ghost use Rattle.base_model.specs.Text.{Text, In};
-ghost use Rattle.base_model.specs.Walks.{IsSynced};
-ghost use Rattle.archive_lookup.specs.Stored.{archived_file, Finds};
 ghost use Rattle.archive_lookup.specs.Paths.{has_sum};
 ghost use Rattle.archive_store.specs.Pushes.{IsPathOf};
 ghost use Rattle.archive_store.specs.Pushing.{HasPlaces};
+ghost use Rattle.archive_store.specs.Getting.{FindsFile, GetFailsOf, HasBytesOf, StoresFile, HasStored, HasArchived, HasNoneOf, MakesAlike};
 ghost use Rattle.archive_lookup.specs.OnlyReads.{AreNamesOf, IsStoredAs, IsDeviceFault};
-ghost use Rattle.archive_lookup.specs.Causes.{StoresBytes, GetCause, ReadCause, IsUnarchived, PresentCause, OnAnswer, limit_of};
+ghost use Rattle.archive_lookup.specs.Causes.{OnAnswer, limit_of, GetFails, PresentFails, ReadFails};
 
 use archive_lookup::{
     ArchiveFault, FileNames, HISTORY_LIMIT, Look, Stored, StoredFile, file_names, has_sum,
@@ -34,11 +27,9 @@ const SEGMENT_LIMIT: u64 = 1 << 30;
 // The bytes at a path, which have the sum that it states. A file that was listed and isn't there any more is reported
 // as out of memory: that it isn't archived would end a recovery.
 fn read_kept<D: Disk>(alloc: Global, d: &mut D, kept: &StoredFile) -> Result<Vec<u8>, ArchiveFault>
-    ensures whole { IfOk result (λ bytes. (sha1 bytes.items ≡ kept.now.sum.0) × IfSome (D.state d.old).view.now
-        (λ f. f (string_bytes kept.now.path) ≡ Some bytes.items)) }
+    ensures whole { IfOk result (λ bytes. HasBytesOf kept.now (D.state d.old) bytes.items) }
     ensures within { IfOk result (λ bytes. length bytes.items ≤ 2 ^ 30) }
-    ensures cause { IfErr result (ReadCause kept.now (D.state d.old).view.now (Rises (D.state d.old).faults
-        (D.state d.new).faults)) }
+    ensures cause { IfErr result (ReadFails kept.now (D.state d.old) (D.state d.new)) }
     ensures looks { OnlyReads (D.state d.old) (D.state d.new) }
 {
     let Some(bytes) = read_whole(alloc, d, kept.path.as_str(), SEGMENT_LIMIT)? else {
@@ -60,13 +51,9 @@ fn get_segment<D: Disk>(
     d: &mut D,
     names: &FileNames,
 ) -> Result<Vec<u8>, ArchiveFault>
-    ensures got { IfOk result (λ bytes. IfSome (D.state d.old).view.now
-        (λ f. (stanza : Text) (id : ArchiveId) (name : ArchiveName) → AreNamesOf stanza id name names.now
-        → has_sum name ≡ true → StoresBytes stanza id name f (sha1 bytes.items) bytes.items)) }
+    ensures got { IfOk result (λ bytes. HasStored names.now true (D.state d.old) bytes.items) }
     ensures within { IfOk result (λ bytes. length bytes.items ≤ 2 ^ 30) }
-    ensures cause { IfErr result (λ e. (stanza : Text) (id : ArchiveId) (name : ArchiveName)
-        → AreNamesOf stanza id name names.now → has_sum name ≡ true
-        → GetCause stanza id name (D.state d.old).view.now (Rises (D.state d.old).faults (D.state d.new).faults) e) }
+    ensures cause { IfErr result (GetFailsOf names.now true (D.state d.old) (D.state d.new)) }
     ensures looks { OnlyReads (D.state d.old) (D.state d.new) }
 {
     match look_in_folder(alloc, d, names)? {
@@ -78,13 +65,9 @@ fn get_segment<D: Disk>(
 
 // A file whose path has no sum.
 fn get_other<D: Disk>(alloc: Global, d: &mut D, names: &FileNames) -> Result<Vec<u8>, ArchiveFault>
-    ensures got { IfOk result (λ bytes. IfSome (D.state d.old).view.now
-        (λ f. (stanza : Text) (id : ArchiveId) (name : ArchiveName) → AreNamesOf stanza id name names.now
-        → has_sum name ≡ false → StoresBytes stanza id name f (sha1 bytes.items) bytes.items)) }
+    ensures got { IfOk result (λ bytes. HasStored names.now false (D.state d.old) bytes.items) }
     ensures within { IfOk result (λ bytes. length bytes.items ≤ 2 ^ 20) }
-    ensures cause { IfErr result (λ e. (stanza : Text) (id : ArchiveId) (name : ArchiveName)
-        → AreNamesOf stanza id name names.now → has_sum name ≡ false
-        → GetCause stanza id name (D.state d.old).view.now (Rises (D.state d.old).faults (D.state d.new).faults) e) }
+    ensures cause { IfErr result (GetFailsOf names.now false (D.state d.old) (D.state d.new)) }
     ensures looks { OnlyReads (D.state d.old) (D.state d.new) }
 {
     match read_whole(alloc, d, names.prefix.as_str(), HISTORY_LIMIT)? {
@@ -103,8 +86,7 @@ fn names_synced<D: Disk>(
 ) -> Result<FileNames, ArchiveFault>
     ensures names { IfOk result (AreNamesOf stanza.now id name.now) }
     ensures places { OnOk result (HasPlaces id name.now) }
-    ensures settled { OnOk result (SyncsFolders (IsPathOf stanza.now id name.now) (D.state d.old).view
-        (D.state d.new).view) }
+    ensures settled { OnOk result (MakesDurable (IsPathOf stanza.now id name.now) (D.state d.old) (D.state d.new)) }
     ensures cause { IsErrOf result ArchiveFault.Disk → Rises (D.state d.old).faults (D.state d.new).faults }
     ensures stops { IfErr result IsDeviceFault }
     ensures looks { OnlyReads (D.state d.old) (D.state d.new) }
@@ -124,20 +106,14 @@ pub fn get<D: Disk>(
     name: &ArchiveName,
 ) -> Result<Vec<u8>, ArchiveFault>
     // They are stored with no other sum, and as a file of the repository.
-    ensures got { IfOk result (λ bytes. IfSome (D.state d.old).view.now
-        (λ f. StoresBytes stanza.now id.now name.now f (sha1 bytes.items) bytes.items)) }
+    ensures got { IfOk result (λ bytes. StoresFile stanza.now id.now name.now (D.state d.old) bytes.items) }
     ensures within { IfOk result (λ bytes. length bytes.items ≤ limit_of name.now) }
-    ensures archived { IfOk result (λ bytes. (s : Stanza) → IsSome (D.state d.old).view.now
-        → NowRepresents stanza.now (Some s) (D.state d.old).view.now
-        → In (archived_file id.now name.now bytes.items) s.archived) }
-    ensures unarchived { IsErrOf result ArchiveFault.NotFound → (s : Stanza) → IsSome (D.state d.old).view.now
-        → NowRepresents stanza.now (Some s) (D.state d.old).view.now
-        → IsUnarchived id.now name.now s.archived }
+    ensures archived { IfOk result (λ bytes. HasArchived stanza.now id.now name.now (D.state d.old) bytes.items) }
+    ensures unarchived { IsErrOf result ArchiveFault.NotFound
+        → HasNoneOf stanza.now id.now name.now (D.state d.old) }
     // All that a crash leaves is alike at the file's paths, so none removes the answer.
-    ensures alike { OnAnswer result (IsSynced stanza.now (D.state d.old).view → IsSome (D.state d.old).view.now
-        → IsAlikeAt (IsPathOf stanza.now id.now name.now) (D.state d.new).view) }
-    ensures cause { IfErr result (GetCause stanza.now id.now name.now (D.state d.old).view.now (Rises
-        (D.state d.old).faults (D.state d.new).faults)) }
+    ensures alike { OnAnswer result (MakesAlike stanza.now id.now name.now (D.state d.old) (D.state d.new)) }
+    ensures cause { IfErr result (GetFails stanza.now id.now name.now (D.state d.old) (D.state d.new)) }
     ensures looks { OnlyReads (D.state d.old) (D.state d.new) }
 {
     let names = names_synced(alloc, d, stanza, *id, name)?;
@@ -171,13 +147,10 @@ pub fn present<D: Disk>(
     id: &ArchiveId,
     name: &ArchiveName,
 ) -> Result<Option<Stored>, ArchiveFault>
-    ensures finds { IfOk result (λ file. IfSome (D.state d.old).view.now
-        (λ f. Finds stanza.now id.now name.now f file)) }
+    ensures finds { IfOk result (λ file. FindsFile stanza.now id.now name.now (D.state d.old) file) }
     // All that a crash leaves is alike at the file's paths, so none removes the answer.
-    ensures alike { OnOk result (IsSynced stanza.now (D.state d.old).view → IsSome (D.state d.old).view.now
-        → IsAlikeAt (IsPathOf stanza.now id.now name.now) (D.state d.new).view) }
-    ensures cause { IfErr result (PresentCause stanza.now id.now name.now (D.state d.old).view.now (Rises
-        (D.state d.old).faults (D.state d.new).faults)) }
+    ensures alike { OnOk result (MakesAlike stanza.now id.now name.now (D.state d.old) (D.state d.new)) }
+    ensures cause { IfErr result (PresentFails stanza.now id.now name.now (D.state d.old) (D.state d.new)) }
     ensures looks { OnlyReads (D.state d.old) (D.state d.new) }
 {
     let names = file_names(alloc, stanza, *id, *name)?;

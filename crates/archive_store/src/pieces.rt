@@ -1,8 +1,8 @@
 // Bytes that are read in pieces.
-ghost use Rattle.std.specs.Prelude.{◌≡◌, ◌≤◌, ℕ, List, Option, Some, IfOk, IfSome, length};
+ghost use Rattle.std.specs.Prelude.{◌≡◌, ◌≤◌, ℕ, List, Option, Some, IfOk, length};
 ghost use Rattle.std.proofs.Common.{refl};
 ghost use Rattle.base_devices.specs.Cause.{HasCause};
-ghost use Rattle.base_devices.specs.Content.{Reads};
+ghost use Rattle.archive_store.specs.ByteSource.{ReadsPiece};
 
 use base_devices::DeviceError;
 
@@ -19,8 +19,7 @@ pub trait ByteSource<H> {
 
     /// Bytes from a place on: 0 at their end.
     fn read(&self, device: &mut H, at: u64, buf: &mut [u8]) -> Result<usize, DeviceError>
-        ensures bytes { IfOk result
-            (λ n. IfSome (bytes self.now device.old) (λ b. Reads (Some b) at (length buf.old) buf.new (Some n))) }
+        ensures bytes { IfOk result (λ n. ReadsPiece (bytes self.now device.old) at buf.old buf.new n) }
         ensures room { IfOk result (λ n. n ≤ length buf.old) }
         ensures same { same device.old device.new }
         ensures cause { HasCause (faults device.old) (faults device.new) result };

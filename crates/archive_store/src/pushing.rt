@@ -1,18 +1,12 @@
 // Stores a file of the log in the archive.
 ghost use Rattle.std.specs.Prelude.{◌≡◌, ◌⊎◌, ◌≤◌, Some, IfOk, IfErr, IfSome, OnOk, length};
-ghost use Rattle.sha1.specs.Sha1.{sha1};
-ghost use Rattle.base_devices.specs.States.{CallsProperly, OnlyReads};
-ghost use Rattle.base_devices.specs.Moments.{SyncsFolders};
-ghost use Rattle.base_devices.specs.Cause.{Rises};
-ghost use Rattle.base_devices.specs.Crash.{NowChanges, AllOf};
-ghost use Rattle.base_model.specs.Text.{Text};
+ghost use Rattle.base_devices.specs.States.{CallsProperly, OnlyReads, MakesDurable};
 ghost use Rattle.repo_names.specs.Header.{BeginsWith};
-ghost use Rattle.archive_lookup.specs.Causes.{IsFileOf, HeaderCause, PushCause, OnFinding};
+ghost use Rattle.archive_lookup.specs.Causes.{IsFileOf, OnFinding, Rejects};
 ghost use Rattle.archive_lookup.specs.OnlyReads.{AreNamesOf, Shows};
-ghost use Rattle.archive_store.specs.Pushes.{IsPathOf, writes_of, Leaves, LeavesFile};
-ghost use Rattle.archive_store.specs.Pushing.{IsPushedAs, PushFromCause, OnPushFinding, AreOfSystem, HasPlaces, ReadsSum, OtherCause};
+ghost use Rattle.archive_store.specs.Pushes.{IsPathOf, HasPushed, KeepsIfSame, LacksFile, Pushes, WritesIfNew};
+ghost use Rattle.archive_store.specs.Pushing.{OnPushFinding, AreOfSystem, HasPlaces, AreNotOfSystem, ReadsToSum, Declines, AnswersPush, OtherFails, PushFromFails};
 ghost use Rattle.archive_store.specs.Still.{IsStill};
-ghost use Rattle.archive_lookup.specs.Stored.{StoresNone, StoresOnly};
 
 use crate::fault::{PushFault, source_fault};
 use crate::pieces::{ByteSource, Held, Prefix};
@@ -38,10 +32,8 @@ pub enum Pushed {
 fn check_bytes(name: &ArchiveName, system: u64, prefix: Prefix<'_>) -> Result<(), ArchiveFault>
     requires long { (40 ≤ length prefix.bytes.now) ⊎ (length prefix.bytes.now ≡ prefix.length) }
     requires within { length prefix.bytes.now ≤ prefix.length }
-    ensures right { OnOk result ((bytes : Text) → BeginsWith prefix.entry.bytes.now prefix.entry.length bytes
-        → IsFileOf name.now bytes system) }
-    ensures wrong { IfErr result (λ e. (bytes : Text) → BeginsWith prefix.entry.bytes.now prefix.entry.length bytes
-        → HeaderCause name.now bytes system e) }
+    ensures right { OnOk result (AreOfSystem name.now system prefix.entry.bytes.now prefix.entry.length) }
+    ensures wrong { IfErr result (AreNotOfSystem name.now system prefix.entry) }
 {
     if !has_sum(name) {
         return Ok(());
@@ -64,13 +56,11 @@ fn look_checked<D: Disk>(
     requires within { length prefix.bytes.now ≤ prefix.length }
     ensures names { IfOk result (λ x. AreNamesOf stanza.now id name.now x.0) }
     ensures shows { IfOk result (λ x. IfSome (D.state d.old).view.now (λ f. Shows stanza.now id name.now f x.1)) }
-    ensures settled { OnOk result (SyncsFolders (IsPathOf stanza.now id name.now) (D.state d.old).view
-        (D.state d.new).view) }
+    ensures settled { OnOk result (MakesDurable (IsPathOf stanza.now id name.now) (D.state d.old) (D.state d.new)) }
     ensures places { OnOk result (HasPlaces id name.now) }
     ensures right { OnOk result (AreOfSystem name.now system prefix.entry.bytes.now prefix.entry.length) }
-    ensures cause { IfErr result (λ e. (bytes : Text) → BeginsWith prefix.entry.bytes.now prefix.entry.length bytes
-        → PushCause stanza.now id name.now system bytes (D.state d.old).view.now
-        (Rises (D.state d.old).faults (D.state d.new).faults) e) }
+    ensures cause { IfErr result
+        (Declines stanza.now id name.now system prefix.entry (D.state d.old) (D.state d.new)) }
     ensures looks { OnlyReads (D.state d.old) (D.state d.new) }
 {
     check_bytes(name, system, prefix)?;
@@ -88,10 +78,9 @@ fn compare<H, P: ByteSource<H>>(
 ) -> Result<(), PushFault>
     requires known { IfSome (P.bytes pieces.now device.old) (BeginsWith prefix.bytes.now prefix.length) }
     requires within { length prefix.bytes.now ≤ prefix.length }
-    ensures same_sum { OnOk result (ReadsSum (P.bytes pieces.now device.old)
-        prefix.entry.bytes.now prefix.entry.length kept.now.sum.0) }
-    ensures cause { IfErr result (OtherCause (P.bytes pieces.now device.old) prefix.entry.bytes.now prefix.entry.length
-        kept.now.sum.0 (Rises (P.faults device.old) (P.faults device.new))) }
+    ensures same_sum { OnOk result (ReadsToSum (P.bytes pieces.now device.old) prefix.entry kept.now.sum.0) }
+    ensures cause { IfErr result (OtherFails (P.bytes pieces.now device.old) prefix.entry kept.now
+        (P.faults device.old) (P.faults device.new)) }
     ensures same { P.same device.old device.new }
     ensures holder_later { P.faults device.old ≤ P.faults device.new }
 {
@@ -130,19 +119,18 @@ pub fn push_from<D: Disk, H, P: ByteSource<H>>(
     requires within { length prefix.bytes.now ≤ prefix.length }
 
     // After every answer the disk, and all that a crash leaves of it at each moment, is as before or has the file more.
-    ensures leaves { Leaves stanza.now id.now name.now (P.bytes pieces.now device.old)
-        (D.state d.old).view (D.state d.new).view }
+    ensures leaves { Pushes stanza.now id.now name.now (P.bytes pieces.now device.old)
+        (D.state d.old) (D.state d.new) }
     // At Ok it has the file, and all that a crash leaves is alike at the file's paths.
-    ensures file { OnOk result (LeavesFile stanza.now id.now name.now (P.bytes pieces.now device.old)
-        (D.state d.old).view (D.state d.new).view) }
+    ensures file { OnOk result (HasPushed stanza.now id.now name.now (P.bytes pieces.now device.old)
+        (D.state d.old) (D.state d.new)) }
 
     // Each answer has its cause, and what was found changes nothing.
-    ensures answered { IfOk result (λ x. IsPushedAs stanza.now id.now name.now system (P.bytes pieces.now device.old)
-        prefix.entry.bytes.now prefix.entry.length (D.state d.old).view.now (D.state d.new).view.now x.0 x.1) }
+    ensures answered { IfOk result (λ x. AnswersPush stanza.now id.now name.now system
+        (P.bytes pieces.now device.old) prefix.entry (D.state d.old) (D.state d.new) x.0 x.1) }
     ensures refused { IfErr result (λ e. OnPushFinding e (IsStill (D.state d.old).view (D.state d.new).view)) }
-    ensures cause { IfErr result (PushFromCause stanza.now id.now name.now system (P.bytes pieces.now device.old)
-        prefix.entry.bytes.now prefix.entry.length (D.state d.old).view.now
-        (Rises (D.state d.old).faults (D.state d.new).faults) (Rises (P.faults device.old) (P.faults device.new))) }
+    ensures cause { IfErr result (PushFromFails stanza.now id.now name.now system (P.bytes pieces.now device.old)
+        prefix.entry (D.state d.old) (D.state d.new) (P.faults device.old) (P.faults device.new)) }
     ensures frame { CallsProperly (D.state d.old) (D.state d.new) }
     ensures same { P.same device.old device.new }
     ensures holder_later { P.faults device.old ≤ P.faults device.new }
@@ -188,24 +176,21 @@ pub fn push<D: Disk>(
     bytes: &[u8],
 ) -> Result<Pushed, ArchiveFault>
     // After every answer the disk, and all that a crash leaves of it at each moment, is as before or has the file more.
-    ensures leaves { Leaves stanza.now id.now name.now (Some bytes.now) (D.state d.old).view (D.state d.new).view }
+    ensures leaves { Pushes stanza.now id.now name.now (Some bytes.now) (D.state d.old) (D.state d.new) }
     // At Ok it has the file, and all that a crash leaves is alike at the file's paths.
-    ensures file { OnOk result (LeavesFile stanza.now id.now name.now (Some bytes.now)
-        (D.state d.old).view (D.state d.new).view) }
+    ensures file { OnOk result
+        (HasPushed stanza.now id.now name.now (Some bytes.now) (D.state d.old) (D.state d.new)) }
     ensures written { IfOk result
-        (λ p. p ≡ Pushed.New → NowChanges (AllOf (writes_of stanza.now id.now name.now bytes.now))
-        (D.state d.old).view.now (D.state d.new).view.now) }
+        (WritesIfNew stanza.now id.now name.now bytes.now (D.state d.old) (D.state d.new)) }
 
     // Each answer has its cause, and what was found changes nothing.
     ensures of_system { OnOk result (IsFileOf name.now bytes.now system) }
-    ensures new { IfOk result
-        (λ p. p ≡ Pushed.New → IfSome (D.state d.old).view.now (StoresNone stanza.now id.now name.now)) }
-    ensures same { IfOk result (λ p. p ≡ Pushed.Same
-        → IfSome (D.state d.old).view.now (λ f. StoresOnly stanza.now id.now name.now f (sha1 bytes.now))
-        × ((D.state d.new).view.now ≡ (D.state d.old).view.now)) }
+    ensures new { IfOk result (λ p. p ≡ Pushed.New → LacksFile stanza.now id.now name.now (D.state d.old)) }
+    ensures same { IfOk result
+        (KeepsIfSame stanza.now id.now name.now bytes.now (D.state d.old) (D.state d.new)) }
     ensures refused { IfErr result (λ e. OnFinding e (IsStill (D.state d.old).view (D.state d.new).view)) }
-    ensures cause { IfErr result (PushCause stanza.now id.now name.now system bytes.now (D.state d.old).view.now
-        (Rises (D.state d.old).faults (D.state d.new).faults)) }
+    ensures cause { IfErr result
+        (Rejects stanza.now id.now name.now system bytes.now (D.state d.old) (D.state d.new)) }
     ensures frame { CallsProperly (D.state d.old) (D.state d.new) }
 {
     let prefix = prefix_of(bytes);

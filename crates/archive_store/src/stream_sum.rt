@@ -1,11 +1,9 @@
 // The sum of bytes that are read in pieces.
-ghost use Rattle.std.specs.Prelude.{◌≡◌, ◌≤◌, ◌+◌, ◌<◌, ◌^◌, Some, IfOk, IfSome, length};
-ghost use Rattle.sha1.specs.Sha1.{sha1};
+ghost use Rattle.std.specs.Prelude.{◌≤◌, ◌+◌, ◌<◌, ◌^◌, Some, IfOk, IfSome, length};
 ghost use Rattle.base_devices.specs.Cause.{HasCause};
-ghost use Rattle.base_devices.specs.Content.{Reads};
-ghost use Rattle.base_model.specs.Text.{Text};
 ghost use Rattle.repo_names.specs.Header.{BeginsWith};
-ghost use Rattle.archive_store.specs.ByteSource.{IsReadFrom};
+ghost use Rattle.archive_store.specs.ByteSource.{ReadsPiece};
+ghost use Rattle.archive_store.specs.Pushing.{ReadsToSum};
 
 use crate::pieces::{ByteSource, Prefix};
 use base_devices::DeviceError;
@@ -22,8 +20,7 @@ pub(crate) fn next_piece<H, P: ByteSource<H>>(
     count: u64,
     room: &mut [u8],
 ) -> Result<usize, DeviceError>
-    ensures bytes { IfOk result (λ n. IfSome (P.bytes pieces.now device.old)
-        (λ b. Reads (Some b) count (length room.old) room.new (Some n))) }
+    ensures bytes { IfOk result (λ n. ReadsPiece (P.bytes pieces.now device.old) count room.old room.new n) }
     ensures room { IfOk result (λ n. n ≤ length room.old) }
     ensures fits { IfOk result (λ n. count + n < 2 ^ 64) }
     ensures same { P.same device.old device.new }
@@ -45,8 +42,7 @@ pub fn sum_of<H, P: ByteSource<H>>(
 ) -> Result<Sum, DeviceError>
     requires known { IfSome (P.bytes pieces.now device.old) (BeginsWith prefix.bytes.now prefix.length) }
     requires within { length prefix.bytes.now ≤ prefix.length }
-    ensures sum { IfOk result (λ sum. (bytes : Text) × IsReadFrom (P.bytes pieces.now device.old)
-        prefix.entry.bytes.now prefix.entry.length bytes × (sum.0 ≡ sha1 bytes)) }
+    ensures sum { IfOk result (λ sum. ReadsToSum (P.bytes pieces.now device.old) prefix.entry sum.0) }
     ensures same { P.same device.old device.new }
     ensures cause { HasCause (P.faults device.old) (P.faults device.new) result }
 {

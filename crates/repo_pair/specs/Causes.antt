@@ -1,6 +1,7 @@
 -- Why a pair has no value.
-use Rattle.std.specs.Prelude.{◌≡◌, ◌<◌, ◌≤◌, ℕ, List, Option, None, Some, IfSome, length}
+use Rattle.std.specs.Prelude.{◌<◌, ◌≤◌, ℕ, List, Option, None, Some, IfSome, length}
 use Rattle.base_devices.specs.Content.{Content}
+use Rattle.base_devices.specs.States.{DiskState, DiskFailed}
 use Rattle.base_model.specs.Text.{Text}
 use Rattle.base_model.specs.Names.{copy_of}
 use Rattle.base_model.specs.Pair.{MemberIs, PairAbsent}
@@ -38,6 +39,10 @@ module _ {V : Type 0} (IsTextOf : V → Text → Type 0) (IsForm : List Section 
   PairCause name now rose (Damaged main copy) = IfSome now (λ f. AreDamaged f name main copy)
   PairCause name now rose Disk = rose
   PairCause name now rose NoMemory = Unit {0}
+
+  -- it is that of the pair on this disk
+  abbrev pub PairFails : Text → DiskState → DiskState → InfoFault → Type 0
+  PairFails name old new fault = PairCause name old.view.now (DiskFailed old new) fault
 
 -- what holds where the pair has no value
 abbrev pub IfRefused : InfoFault → Type 0 → Type 0

@@ -1,7 +1,8 @@
 -- What is read of a member.
-use Rattle.std.specs.Prelude.{◌≡◌, ◌≤◌, ◌<◌, ℕ, List, Option, None, Some, length, Result, Ok, Err, Vec}
+use Rattle.std.specs.Prelude.{◌≡◌, ◌≤◌, ◌<◌, ℕ, List, Option, None, Some, length, Result, Ok, Err, Vec, IfSome}
 use Rattle.std.specs.declared.alloc.Global.{Global}
 use Rattle.base_devices.specs.Content.{Content}
+use Rattle.base_devices.specs.States.{DiskState}
 use Rattle.base_model.specs.Text.{Text}
 use Rattle.base_model.specs.InfoText.{Section}
 use Rattle.base_model.specs.Pair.{MemberIs}
@@ -25,6 +26,10 @@ module _ {X V : Type 0} (IsTextOf : V → Text → Type 0) (IsForm : List Sectio
   abbrev pub MemberGives : ℕ → Content → Text → Result X MemberFault → Type 0
   MemberGives limit f name (Ok x) = MemberIs IsTextOf f name (value x)
   MemberGives limit f name (Err fault) = HasFault IsTextOf IsForm limit f name fault
+
+  -- the same of a member on this disk, where what it holds is known
+  abbrev pub GivesOn : ℕ → DiskState → Text → Result X MemberFault → Type 0
+  GivesOn limit disk name answer = IfSome disk.view.now (λ f. MemberGives limit f name answer)
 
 -- the fault of a pair whose members have these
 abbrev pub of_both : MemberFault → MemberFault → InfoFault

@@ -1,16 +1,16 @@
 // Reads a pair, and mends its members.
-ghost use Rattle.std.specs.Prelude.{◌≡◌, ◌⊎◌, ◌≤◌, [], ◌∷◌, ℕ, List, Some, None, true, false, IfOk, IfErr, IfSome, IsSome, OnOk, IsErrOf, length};
+ghost use Rattle.std.specs.Prelude.{◌≡◌, ◌≤◌, Some, None, true, false, IfOk, IfErr, IfSome, IsSome, OnOk, IsErrOf, length};
 ghost use Rattle.base_devices.specs.States.{CallsProperly, OnlyReads};
 ghost use Rattle.base_devices.specs.Content.{Name};
-ghost use Rattle.base_devices.specs.Moments.{is_unsynced};
-ghost use Rattle.base_devices.specs.Crash.{IsTemporary, Crash, NowChanges, SomeOf};
+ghost use Rattle.base_devices.specs.Crash.{IsTemporary};
 ghost use Rattle.base_devices.specs.Cause.{Rises};
 ghost use Rattle.base_disk.specs.Store.{LiesIn, ChangesOnly};
+ghost use Rattle.base_disk.specs.Replacements.{ChangesTwo};
 ghost use Rattle.base_model.specs.InfoText.{info_text};
 ghost use Rattle.base_model.specs.Pair.{PairIs};
-ghost use Rattle.repo_pair.specs.Causes.{PairCause, IfRefused};
+ghost use Rattle.repo_pair.specs.Causes.{IfRefused, PairFails};
 ghost use Rattle.repo_pair.specs.Member.{IsMemberName, IsOfPair, KeepsMember, KeepsMembers};
-ghost use Rattle.repo_pair.specs.Writes.{AreBoth, HealsBoth, HealsNow, OnlyRead};
+ghost use Rattle.repo_pair.specs.Writes.{HealsBoth, HealsNow, OnlyRead, HealsMember, HealsMemberNow, HoldsBoth, HealsToText, HealsToTextNow, OnlyReadsWithout};
 
 use crate::fault::{InfoFault, SaveFault};
 use crate::members::{copy_name, temporary_name};
@@ -45,16 +45,13 @@ fn heal_member<D: Disk>(
     requires folder { (folder : Name) × LiesIn folder temporary.now × LiesIn folder name.now }
     requires temporary { IsTemporary temporary.now }
     requires lasting { ¬ IsTemporary name.now }
-    ensures crash { is_unsynced (D.state d.old).view name.now ≡ false
-        → Crash (SomeOf ((name.now, text.now) ∷ [])) (D.state d.old).view (D.state d.new).view }
-    ensures now_part { NowChanges (SomeOf ((name.now, text.now) ∷ []))
-        (D.state d.old).view.now (D.state d.new).view.now }
+    ensures crash { HealsMember name.now text.now (D.state d.old) (D.state d.new) }
+    ensures now_part { HealsMemberNow name.now text.now (D.state d.old) (D.state d.new) }
     ensures healed_pair { OnOk result (IfSome (D.state d.new).view.now (λ f. f name.now ≡ Some text.now)) }
     // No crash removes it.
     ensures lasts { OnOk result (KeepsMember name.now (D.state d.old).view (D.state d.new).view) }
     ensures unknown { (D.state d.old).view.now ≡ None → (D.state d.new).view.now ≡ None }
-    ensures only { ChangesOnly (λ n. (n ≡ temporary.now) ⊎ (n ≡ name.now))
-        (D.state d.old).view (D.state d.new).view }
+    ensures only { ChangesTwo temporary.now name.now (D.state d.old) (D.state d.new) }
     ensures frame { CallsProperly (D.state d.old) (D.state d.new) }
     ensures cause { IsErrOf result SaveFault.Disk → Rises (D.state d.old).faults (D.state d.new).faults }
 {
@@ -70,7 +67,7 @@ fn heal_both<D: Disk>(alloc: Global, d: &mut D, name: &str, text: &[u8]) -> Resu
     requires { IsMemberName name.now }
     ensures crash { HealsBoth name.now text.now (D.state d.old).view (D.state d.new).view }
     ensures now_part { HealsNow name.now text.now (D.state d.old).view (D.state d.new).view }
-    ensures healed_pair { OnOk result (IfSome (D.state d.new).view.now (AreBoth name.now text.now)) }
+    ensures healed_pair { OnOk result (HoldsBoth name.now text.now (D.state d.new)) }
     ensures lasts { OnOk result (KeepsMembers name.now (D.state d.old).view (D.state d.new).view) }
     ensures only { ChangesOnly (IsOfPair name.now) (D.state d.old).view (D.state d.new).view }
     ensures frame { CallsProperly (D.state d.old) (D.state d.new) }
@@ -93,8 +90,7 @@ pub fn heal_members<D: Disk, I: Info>(
     requires valid { I.is_valid value.now }
     ensures crash { HealsBoth name.now (info_text (I.sections value.now)) (D.state d.old).view (D.state d.new).view }
     ensures now_part { HealsNow name.now (info_text (I.sections value.now)) (D.state d.old).view (D.state d.new).view }
-    ensures healed_pair { OnOk result
-        (IfSome (D.state d.new).view.now (AreBoth name.now (info_text (I.sections value.now)))) }
+    ensures healed_pair { OnOk result (HoldsBoth name.now (info_text (I.sections value.now)) (D.state d.new)) }
     ensures lasts { OnOk result (KeepsMembers name.now (D.state d.old).view (D.state d.new).view) }
     ensures only { ChangesOnly (IsOfPair name.now) (D.state d.old).view (D.state d.new).view }
     ensures frame { CallsProperly (D.state d.old) (D.state d.new) }
@@ -110,23 +106,18 @@ pub fn heal_pair<D: Disk, I: ReadInfo>(alloc: Global, d: &mut D, name: &str) -> 
     ensures found { IfOk result (λ v. IfSome (D.state d.old).view.now (λ f. PairIs I.IsText f name.now (I.value v))) }
     ensures valid { IfOk result (λ v. I.is_valid v) }
     ensures within { IfOk result (λ v. length (I.text (I.value v)) ≤ I.limit) }
-    ensures healed { IfOk result (λ v. IfSome (D.state d.new).view.now (AreBoth name.now (I.text (I.value v)))) }
+    ensures healed { IfOk result (λ v. HoldsBoth name.now (I.text (I.value v)) (D.state d.new)) }
     // No crash removes them.
     ensures lasts { OnOk result (KeepsMembers name.now (D.state d.old).view (D.state d.new).view) }
-    ensures now_part { (v : I.Value) → IfSome (D.state d.old).view.now (λ f. PairIs I.IsText f name.now v)
-        → HealsNow name.now (I.text v) (D.state d.old).view (D.state d.new).view }
-    ensures crash { (v : I.Value) → IfSome (D.state d.old).view.now (λ f. PairIs I.IsText f name.now v)
-        → HealsBoth name.now (I.text v) (D.state d.old).view (D.state d.new).view }
+    ensures now_part { HealsToTextNow I.IsText I.text name.now (D.state d.old) (D.state d.new) }
+    ensures crash { HealsToText I.IsText I.text name.now (D.state d.old) (D.state d.new) }
     ensures refused { IfErr result (λ e. IfRefused e (OnlyRead (D.state d.old).view (D.state d.new).view)) }
     // Where the pair has no value, only was read.
-    ensures idle { ((v : I.Value) → IfSome (D.state d.old).view.now (λ f. ¬ PairIs I.IsText f name.now v))
-        → IsSome (D.state d.old).view.now → OnlyRead (D.state d.old).view (D.state d.new).view }
+    ensures idle { OnlyReadsWithout I.IsText name.now (D.state d.old) (D.state d.new) }
     ensures known { IsSome (D.state d.old).view.now → IsSome (D.state d.new).view.now }
     ensures only { ChangesOnly (IsOfPair name.now) (D.state d.old).view (D.state d.new).view }
     ensures frame { CallsProperly (D.state d.old) (D.state d.new) }
-    ensures cause { IfErr result
-        (PairCause I.IsText I.IsForm I.limit name.now (D.state d.old).view.now
-        (Rises (D.state d.old).faults (D.state d.new).faults)) }
+    ensures cause { IfErr result (PairFails I.IsText I.IsForm I.limit name.now (D.state d.old) (D.state d.new)) }
 {
     let value = load_pair::<D, I>(alloc, d, name)?;
     heal_members(alloc, d, name, &value)?;

@@ -1,12 +1,11 @@
 // Reads a pair.
 ghost use Rattle.std.specs.Prelude.{◌≡◌, ◌≤◌, IfOk, IfErr, IfSome, IsErrOf, length};
 ghost use Rattle.base_devices.specs.States.{OnlyReads};
-ghost use Rattle.base_devices.specs.Moments.{LeavesNoMore};
 ghost use Rattle.base_devices.specs.Cause.{Rises};
 ghost use Rattle.base_model.specs.Names.{copy_of};
 ghost use Rattle.base_model.specs.Pair.{PairIs};
-ghost use Rattle.repo_pair.specs.Causes.{PairCause};
-ghost use Rattle.repo_pair.specs.Reading.{BytesAre, MemberGives, of_both};
+ghost use Rattle.repo_pair.specs.Reading.{BytesAre, of_both, GivesOn};
+ghost use Rattle.repo_pair.specs.Causes.{PairFails};
 
 use crate::fault::{InfoFault, SaveFault};
 use crate::members::copy_name;
@@ -43,7 +42,7 @@ fn read_member<D: Disk, I: ReadInfo>(
     name: &str,
 ) -> Result<Result<I, MemberFault>, SaveFault>
     ensures gives { IfOk result
-        (λ r. IfSome (D.state d.old).view.now (λ f. MemberGives I.IsText I.IsForm I.value I.limit f name.now r)) }
+        (λ r. GivesOn I.IsText I.IsForm I.value I.limit (D.state d.old) name.now r) }
     ensures valid { IfOk result (λ r. IfOk r I.is_valid) }
     ensures within { IfOk result (λ r. IfOk r (λ v. length (I.text (I.value v)) ≤ I.limit)) }
     ensures looks { OnlyReads (D.state d.old) (D.state d.new) }
@@ -62,8 +61,7 @@ fn read_copy<D: Disk, I: ReadInfo>(
     name: &str,
 ) -> Result<Result<I, MemberFault>, SaveFault>
     ensures gives { IfOk result
-        (λ r. IfSome (D.state d.old).view.now
-        (λ f. MemberGives I.IsText I.IsForm I.value I.limit f (copy_of name.now) r)) }
+        (λ r. GivesOn I.IsText I.IsForm I.value I.limit (D.state d.old) (copy_of name.now) r) }
     ensures valid { IfOk result (λ r. IfOk r I.is_valid) }
     ensures within { IfOk result (λ r. IfOk r (λ v. length (I.text (I.value v)) ≤ I.limit)) }
     ensures looks { OnlyReads (D.state d.old) (D.state d.new) }
@@ -89,9 +87,7 @@ pub fn load_pair<D: Disk, I: ReadInfo>(alloc: Global, d: &mut D, name: &str) -> 
     ensures valid { IfOk result (λ v. I.is_valid v) }
     ensures within { IfOk result (λ v. length (I.text (I.value v)) ≤ I.limit) }
     ensures looks { OnlyReads (D.state d.old) (D.state d.new) }
-    ensures cause { IfErr result
-        (PairCause I.IsText I.IsForm I.limit name.now (D.state d.old).view.now
-        (Rises (D.state d.old).faults (D.state d.new).faults)) }
+    ensures cause { IfErr result (PairFails I.IsText I.IsForm I.limit name.now (D.state d.old) (D.state d.new)) }
 {
     let main = match read_member(alloc, d, name)? {
         Ok(value) => return Ok(value),

@@ -1,11 +1,11 @@
 // Saves an info file.
-ghost use Rattle.std.specs.Prelude.{◌≡◌, ◌≤◌, false, IfOk, OnOk, IsErrOf, length};
+ghost use Rattle.std.specs.Prelude.{◌≡◌, ◌≤◌, IfOk, OnOk, IsErrOf, length};
 ghost use Rattle.base_devices.specs.States.{CallsProperly};
 ghost use Rattle.base_devices.specs.Cause.{Rises};
 ghost use Rattle.base_disk.specs.Store.{ChangesOnly};
 ghost use Rattle.base_model.specs.InfoText.{info_text};
 ghost use Rattle.repo_pair.specs.Member.{IsMemberName, IsOfPair};
-ghost use Rattle.repo_pair.specs.Writes.{SavesBoth, EndsBoth, SavesNow, EndsNow};
+ghost use Rattle.repo_pair.specs.Writes.{SavesBoth, SavesNow, WritesValue, WritesValueNow};
 
 use crate::fault::SaveFault;
 use crate::members::save_text;
@@ -35,11 +35,9 @@ pub fn save_pair<D: Disk, I: Info>(
     requires valid { I.is_valid value.now }
     requires within { length (info_text (I.sections value.now)) ≤ I.limit }
     ensures crash { SavesBoth name.now (info_text (I.sections value.now)) (D.state d.old).view (D.state d.new).view }
-    ensures whole { OnOk result
-        (EndsBoth name.now (info_text (I.sections value.now)) (D.state d.old).view (D.state d.new).view) }
+    ensures whole { OnOk result (WritesValue I.sections name.now value.now (D.state d.old) (D.state d.new)) }
     ensures now_part { SavesNow name.now (info_text (I.sections value.now)) (D.state d.old).view (D.state d.new).view }
-    ensures now_whole { OnOk result (EndsNow name.now (info_text (I.sections value.now)) (D.state d.old).view
-        (D.state d.new).view) }
+    ensures now_whole { OnOk result (WritesValueNow I.sections name.now value.now (D.state d.old) (D.state d.new)) }
     ensures only { ChangesOnly (IsOfPair name.now) (D.state d.old).view (D.state d.new).view }
     ensures frame { CallsProperly (D.state d.old) (D.state d.new) }
     ensures cause { IsErrOf result SaveFault.Disk → Rises (D.state d.old).faults (D.state d.new).faults }

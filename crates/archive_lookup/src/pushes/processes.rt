@@ -1,10 +1,8 @@
 // What other processes do to the repository and the spool while this one waits.
-ghost use Rattle.std.specs.Prelude.{◌≡◌, ◌≤◌, ◌+◌, ◌-◌, ◌^◌, ◌∷◌, ◌++◌, [], ℕ, List, Option, None, Err, IsErrOf, IsSome, OnOk, OnErr, is_ok, min, map, option_map, string_bytes};
+ghost use Rattle.std.specs.Prelude.{◌≡◌, ◌≤◌, ◌+◌, ◌-◌, ◌^◌, None, Err, IsErrOf, IsSome, OnOk, OnErr, is_ok, min, map, string_bytes};
 ghost use Rattle.base_devices.specs.States.{CallsProperly};
 ghost use Rattle.base_devices.specs.Cause.{HasCause, Rises};
-ghost use Rattle.base_model.specs.Text.{Text};
-ghost use Rattle.archive_lookup.specs.Stored.{ChangesArchive};
-ghost use Rattle.archive_lookup.specs.Turns.{ProcessesState, GoesOn, OnTurn, GoesByTurn, GivesReceipts, LeavesMarks};
+ghost use Rattle.archive_lookup.specs.Turns.{ProcessesState, GoesOn, IsStarted, TurnChanges, TurnGoes, TurnMarks, TurnReceipts};
 
 use base_devices::{DeviceError, Disk, NotThere};
 
@@ -26,22 +24,16 @@ pub trait OtherProcesses<D: Disk, S: Disk> {
         ensures account { GoesOn (is_ok result) (state self.old).account (state self.new).account }
 
         // Its pushes are all that it does to the repository.
-        ensures repository { OnTurn (state self.old).account (state self.new).account
-            (λ stanza t. GoesByTurn stanza t.turn (D.state repo.old).view (D.state repo.new).view) }
+        ensures repository { TurnGoes (state self.old) (state self.new) (D.state repo.old) (D.state repo.new) }
 
         // A receipt that it gives is of a file that it stored before.
-        ensures receipts { OnTurn (state self.old).account (state self.new).account
-            (λ stanza t. GivesReceipts stanza t.turn (D.state repo.old).view (D.state repo.new).view
-            (S.state spool.old).view (S.state spool.new).view) }
-        ensures marks { OnOk result
-            (OnTurn (state self.old).account (state self.new).account (λ stanza t.
-            LeavesMarks stanza t.marks (S.state spool.old).view.now (S.state spool.new).view.now)) }
+        ensures receipts { TurnReceipts (state self.old) (state self.new)
+            (D.state repo.old) (D.state repo.new) (S.state spool.old) (S.state spool.new) }
+        ensures marks { TurnMarks result (state self.old) (state self.new) (S.state spool.old) (S.state spool.new) }
 
         // It changes nothing else.
-        ensures repo_only { OnTurn (state self.old).account (state self.new).account
-            (λ stanza t. ChangesArchive stanza (D.state repo.old).view (D.state repo.new).view) }
-        ensures spool_only { OnTurn (state self.old).account (state self.new).account
-            (λ stanza t. ChangesArchive stanza (S.state spool.old).view (S.state spool.new).view) }
+        ensures repo_only { TurnChanges (state self.old) (state self.new) (D.state repo.old) (D.state repo.new) }
+        ensures spool_only { TurnChanges (state self.old) (state self.new) (S.state spool.old) (S.state spool.new) }
         ensures spool_known { IsSome (S.state spool.old).view.now → IsSome (S.state spool.new).view.now }
         ensures repo_frame { CallsProperly (D.state repo.old) (D.state repo.new) }
         ensures spool_frame { CallsProperly (S.state spool.old) (S.state spool.new) }
@@ -57,8 +49,7 @@ pub trait OtherProcesses<D: Disk, S: Disk> {
     /// Starts this program with these arguments.
     fn start(&mut self, arguments: &[String]) -> Result<(), DeviceError>
         ensures started { OnOk result
-            ((state self.new).started ≡ option_map (λ past. past ++ map string_bytes arguments.now ∷ [])
-            (state self.old).started) }
+            (IsStarted (map string_bytes arguments.now) (state self.old) (state self.new)) }
         ensures refused { OnErr result ((state self.new).started ≡ (state self.old).started) }
         ensures account { (state self.new).account ≡ (state self.old).account }
         ensures turns { (state self.new).turns ≡ (state self.old).turns }

@@ -1,15 +1,12 @@
 // Finds the stored whole segments that bound all others by two folders of the log.
-ghost use Rattle.std.specs.Prelude.{◌≡◌, ◌≤◌, ◌↔◌, IfOk, IfErr, IfSome, IfNone, IsTrue, EachIndex, length, map, slice_index, string_bytes};
+ghost use Rattle.std.specs.Prelude.{◌≡◌, ◌↔◌, IfOk, IfErr, IfSome, IfNone, IsTrue, string_bytes};
 ghost use Rattle.std.specs.List.Sorted.{IsSorted};
 ghost use Rattle.std.specs.String.{string_cmp};
-ghost use Rattle.base_devices.specs.States.{OnlyReads};
-ghost use Rattle.base_devices.specs.Content.{AreFolders};
-ghost use Rattle.base_devices.specs.Moments.{LeavesNoMore};
+ghost use Rattle.base_devices.specs.States.{OnlyReads, ListsFolders};
 ghost use Rattle.base_devices.specs.Cause.{Rises};
 ghost use Rattle.base_model.specs.declared.wal.Segment.{Segment};
 ghost use Rattle.base_model.specs.Text.{◌⫽◌};
-ghost use Rattle.archive_lookup.specs.Listing.{Picks};
-ghost use Rattle.archive_lookup.specs.Ends.{AreEnds, AreOfFirst, AreWholeIn, IsPathOf, IsUpperDigit, ShowsWhole, PassesWhole, id_place};
+ghost use Rattle.archive_lookup.specs.Ends.{IsPathOf, id_place, FindsEnds, FindsOfFirst, FindsWholeIn, IsLogFolder, PicksWhole};
 ghost use Rattle.archive_lookup.specs.Causes.{EndsCause};
 
 use crate::stored::fault::ArchiveFault;
@@ -21,8 +18,7 @@ use std::alloc::Global;
 
 // Whether a folder may be one of the log: 16 digits.
 fn is_log_folder(name: &[u8]) -> bool
-    ensures { IsTrue result ↔
-        ((length name.now ≡ 16) × EachIndex name.now (λ k. IsUpperDigit (slice_index name.now k))) }
+    ensures { IsTrue result ↔ IsLogFolder name.now }
 {
     name.len() == 16
         && name
@@ -52,8 +48,7 @@ fn whole_among(
     prefix: &str,
     id: ArchiveId,
 ) -> Result<Vec<Segment>, NoMemory>
-    ensures { IfOk result (λ segments. Picks (ShowsWhole prefix.now id)
-        (PassesWhole prefix.now id) found.now segments.items) }
+    ensures { IfOk result (λ segments. PicksWhole prefix.now id found.now segments.items) }
 {
     let mut segments = Vec::new(alloc);
     for Found { name, .. } in found {
@@ -86,8 +81,7 @@ fn whole_in<D: Disk>(
     id: ArchiveId,
     folder: &str,
 ) -> Result<Vec<Segment>, ArchiveFault>
-    ensures whole { IfOk result
-        (λ found. IfSome (D.state d.old).view.now (λ f. AreWholeIn stanza.now id f folder.now found.items)) }
+    ensures whole { IfOk result (λ found. FindsWholeIn stanza.now id folder.now (D.state d.old) found.items) }
     ensures cause { IfErr result (EndsCause (Rises (D.state d.old).faults (D.state d.new).faults)) }
     ensures looks { OnlyReads (D.state d.old) (D.state d.new) }
 {
@@ -108,8 +102,7 @@ fn of_first<D: Disk>(
     id: ArchiveId,
     folders: &[String],
 ) -> Result<Vec<Segment>, ArchiveFault>
-    ensures first { IfOk result
-        (λ found. IfSome (D.state d.old).view.now (λ f. AreOfFirst stanza.now id f folders.now found.items)) }
+    ensures first { IfOk result (λ found. FindsOfFirst stanza.now id folders.now (D.state d.old) found.items) }
     ensures cause { IfErr result (EndsCause (Rises (D.state d.old).faults (D.state d.new).faults)) }
     ensures looks { OnlyReads (D.state d.old) (D.state d.new) }
 {
@@ -130,8 +123,7 @@ fn sorted_folders<D: Disk>(
     id: ArchiveId,
 ) -> Result<Vec<String>, ArchiveFault>
     ensures folders { IfOk result
-        (λ sorted. IfSome (D.state d.old).view.now
-        (λ f. AreFolders (id_place stanza.now id) f (map string_bytes sorted.items))) }
+        (λ sorted. ListsFolders (id_place stanza.now id) (D.state d.old) sorted.items) }
     ensures sorted { IfOk result (λ sorted. IsSorted string_cmp sorted.items) }
     ensures cause { IfErr result (EndsCause (Rises (D.state d.old).faults (D.state d.new).faults)) }
     ensures looks { OnlyReads (D.state d.old) (D.state d.new) }
@@ -151,8 +143,7 @@ pub fn ends<D: Disk>(
     stanza: &str,
     id: &ArchiveId,
 ) -> Result<Vec<Segment>, ArchiveFault>
-    ensures ends { IfOk result
-        (λ found. IfSome (D.state d.old).view.now (λ f. AreEnds stanza.now id.now f found.items)) }
+    ensures ends { IfOk result (λ found. FindsEnds stanza.now id.now (D.state d.old) found.items) }
     ensures cause { IfErr result (EndsCause (Rises (D.state d.old).faults (D.state d.new).faults)) }
     ensures looks { OnlyReads (D.state d.old) (D.state d.new) }
 {

@@ -1,11 +1,9 @@
 // Lists all stored files.
-ghost use Rattle.std.specs.Prelude.{◌≡◌, ◌≤◌, IfOk, IfErr, IfSome, length};
+ghost use Rattle.std.specs.Prelude.{◌≤◌, IfOk, IfErr, IfSome, length};
 ghost use Rattle.base_devices.specs.States.{OnlyReads};
-ghost use Rattle.base_devices.specs.Moments.{LeavesNoMore};
-ghost use Rattle.base_devices.specs.Cause.{Rises};
 ghost use Rattle.archive_lookup.specs.Stored.{AreStored};
 ghost use Rattle.archive_lookup.specs.Listing.{Picks, ShowsFile, PassesFile};
-ghost use Rattle.archive_lookup.specs.Causes.{AllCause, most_files};
+ghost use Rattle.archive_lookup.specs.Causes.{most_files, ListingFails};
 
 use crate::stored::fault::ArchiveFault;
 use crate::stored::files::Stored;
@@ -41,8 +39,7 @@ fn files_among(alloc: Global, found: &[Found], folder: &str) -> Result<Vec<Store
 pub fn all<D: Disk>(alloc: Global, d: &mut D, stanza: &str) -> Result<Vec<Stored>, ArchiveFault>
     ensures all { IfOk result (λ files. IfSome (D.state d.old).view.now (λ f. AreStored stanza.now f files.items)) }
     ensures within { IfOk result (λ files. length files.items ≤ most_files) }
-    ensures cause { IfErr result (AllCause stanza.now (D.state d.old).view.now (Rises (D.state d.old).faults
-        (D.state d.new).faults)) }
+    ensures cause { IfErr result (ListingFails stanza.now (D.state d.old) (D.state d.new)) }
     ensures looks { OnlyReads (D.state d.old) (D.state d.new) }
 {
     let folder = format!(in alloc; "archive/{stanza}")?;

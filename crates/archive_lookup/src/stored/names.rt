@@ -59,8 +59,7 @@ fn folder_of(
 }
 
 fn prefix_in(alloc: Global, folder: &str, name: &ArchiveName) -> Result<String, NoMemory>
-    ensures { IfOk result (λ prefix. string_bytes prefix
-        ≡ folder.now ⫽ (wal_text name.now ++ dash (has_sum name.now))) }
+    ensures { IfOk result (λ path. string_bytes path ≡ folder.now ⫽ (wal_text name.now ++ dash (has_sum name.now))) }
 {
     let text = archive_name_text(alloc, name)?;
     if has_sum(name) {

@@ -4,9 +4,9 @@ ghost use Rattle.base_text.specs.Sum.{IsSum};
 ghost use Rattle.base_model.specs.declared.wal.ArchiveId.{ArchiveId};
 ghost use Rattle.base_model.specs.declared.wal.ArchiveName.{ArchiveName};
 ghost use Rattle.base_model.specs.Names.{id_text};
-ghost use Rattle.base_model.specs.Represents.{IsWalName, IsArchivePlace};
+ghost use Rattle.base_model.specs.Represents.{IsArchivePlace};
 ghost use Rattle.base_model.specs.Text.{Text};
-ghost use Rattle.archive_lookup.specs.Paths.{Lacks, has_sum, file_text, folder_text, below_id, below_folder, IsReadAs, IsCut};
+ghost use Rattle.archive_lookup.specs.Paths.{Lacks, has_sum, file_text, folder_text, below_id, IsReadAs, IsCut, IsPathOfNone, IsPathRead, IsTextOfNone};
 
 use base_model::{ArchiveId, ArchiveName};
 use base_text::{Sum, read_decimal};
@@ -66,8 +66,7 @@ fn read_id(text: &[u8]) -> Option<ArchiveId>
 // The file by the last element of its path.
 fn read_file(file: &[u8]) -> Option<(ArchiveName, Option<Sum>)>
     ensures value { IfSome result (λ p. IsReadAs file_text file.now p.0 (option_map (λ s. s.0) p.1)) }
-    ensures none { IfNone result ((name : ArchiveName) (sum : Text) → IsWalName name → IsSum sum
-        → file.now ≢ file_text name sum) }
+    ensures none { IfNone result (IsTextOfNone file_text file.now) }
 {
     match split_at(file, b'-') {
         Some((name, digits)) => {
@@ -116,8 +115,7 @@ fn split_folder(text: &[u8]) -> (Option<&[u8]>, &[u8])
 // The file by its path below the id.
 fn read_below(text: &[u8]) -> Option<(ArchiveName, Option<Sum>)>
     ensures value { IfSome result (λ p. IsReadAs below_id text.now p.0 (option_map (λ s. s.0) p.1)) }
-    ensures none { IfNone result ((name : ArchiveName) (sum : Text) → IsWalName name → IsSum sum
-        → text.now ≢ below_id name sum) }
+    ensures none { IfNone result (IsTextOfNone below_id text.now) }
 {
     let (folder, file) = split_folder(text);
     let (name, sum) = read_file(file)?;
@@ -130,11 +128,9 @@ fn read_below(text: &[u8]) -> Option<(ArchiveName, Option<Sum>)>
 
 /// The archive file of which this is the path, after the stanza's folder with its slash.
 pub fn read_path(path: &[u8], folder: &[u8]) -> Option<StoredName>
-    ensures value { IfSome result
-        (λ known. IsReadAs (below_folder folder.now known.id) path.now known.name (option_map (λ s. s.0) known.sum)) }
+    ensures value { IfSome result (λ known. IsPathRead folder.now path.now known) }
     ensures fits { IfSome result (λ known. (sum : Text) → IsSum sum → IsArchivePlace known.id known.name sum) }
-    ensures none { IfNone result ((id : ArchiveId) (name : ArchiveName) (sum : Text) → IsArchivePlace id name sum
-        → path.now ≢ below_folder folder.now id name sum) }
+    ensures none { IfNone result (IsPathOfNone folder.now path.now) }
 {
     let below = path.strip_prefix(folder)?;
     let (id, rest) = split_at(below, b'/')?;

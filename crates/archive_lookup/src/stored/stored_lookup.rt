@@ -1,15 +1,9 @@
 // Under which paths a file is stored already.
-ghost use Rattle.std.specs.Prelude.{◌≡◌, ◌≤◌, true, false, IfOk, IfErr, IfSome, IsErrOf, OnOk, option_map, string_bytes};
-ghost use Rattle.base_devices.specs.Content.{LiesDirectlyIn};
-ghost use Rattle.base_devices.specs.States.{OnlyReads};
-ghost use Rattle.base_devices.specs.Moments.{LeavesNoMore, SyncsFolders};
+ghost use Rattle.std.specs.Prelude.{◌≡◌, false, IfOk, IfErr, IsErrOf, OnOk, option_map};
+ghost use Rattle.base_devices.specs.States.{OnlyReads, MakesDurable};
 ghost use Rattle.base_devices.specs.Cause.{Rises};
-ghost use Rattle.base_model.specs.declared.wal.ArchiveId.{ArchiveId};
-ghost use Rattle.base_model.specs.declared.wal.ArchiveName.{ArchiveName};
-ghost use Rattle.base_model.specs.Text.{Text};
-ghost use Rattle.archive_lookup.specs.Paths.{has_sum};
 ghost use Rattle.archive_lookup.specs.Listing.{Picks, ShowsSum, PassesSum, sum_after};
-ghost use Rattle.archive_lookup.specs.OnlyReads.{AreNamesOf, LooksLike, Shows, LookCause, IsDeviceFault};
+ghost use Rattle.archive_lookup.specs.OnlyReads.{LooksLike, IsDeviceFault, LiesBeside, LookFails, LookShows, LookShowsSegment};
 
 use crate::stored::fault::ArchiveFault;
 use crate::stored::names::FileNames;
@@ -90,9 +84,7 @@ pub fn look_in_folder<D: Disk>(
     d: &mut D,
     names: &FileNames,
 ) -> Result<Look, ArchiveFault>
-    ensures shows { IfOk result (λ look. IfSome (D.state d.old).view.now
-        (λ f. (stanza : Text) (id : ArchiveId) (name : ArchiveName) → AreNamesOf stanza id name names.now
-        → has_sum name ≡ true → Shows stanza id name f look)) }
+    ensures shows { IfOk result (λ look. LookShowsSegment names.now (D.state d.old) look) }
     ensures looks { OnlyReads (D.state d.old) (D.state d.new) }
     ensures cause { IsErrOf result ArchiveFault.Disk → Rises (D.state d.old).faults (D.state d.new).faults }
     ensures stops { IfErr result IsDeviceFault }
@@ -105,11 +97,8 @@ pub fn look_in_folder<D: Disk>(
 // Looks at the one path of a file whose path has no sum, and reads it.
 fn look_at<D: Disk>(alloc: Global, d: &mut D, names: &FileNames) -> Result<Look, ArchiveFault>
     requires { names.now.has_sum ≡ false }
-    ensures shows { IfOk result (λ look. IfSome (D.state d.old).view.now
-        (λ f. (stanza : Text) (id : ArchiveId) (name : ArchiveName) → AreNamesOf stanza id name names.now
-        → Shows stanza id name f look)) }
-    ensures cause { IfErr result (LookCause names.now (D.state d.old).view.now (Rises (D.state d.old).faults
-        (D.state d.new).faults)) }
+    ensures shows { IfOk result (λ look. LookShows names.now (D.state d.old) look) }
+    ensures cause { IfErr result (LookFails names.now (D.state d.old) (D.state d.new)) }
     ensures looks { OnlyReads (D.state d.old) (D.state d.new) }
 {
     match read_whole(alloc, d, names.prefix.as_str(), HISTORY_LIMIT)? {
@@ -124,11 +113,8 @@ fn look_at<D: Disk>(alloc: Global, d: &mut D, names: &FileNames) -> Result<Look,
 
 /// Looks for a file.
 pub fn look_for<D: Disk>(alloc: Global, d: &mut D, names: &FileNames) -> Result<Look, ArchiveFault>
-    ensures shows { IfOk result (λ look. IfSome (D.state d.old).view.now
-        (λ f. (stanza : Text) (id : ArchiveId) (name : ArchiveName) → AreNamesOf stanza id name names.now
-        → Shows stanza id name f look)) }
-    ensures cause { IfErr result (LookCause names.now (D.state d.old).view.now (Rises (D.state d.old).faults
-        (D.state d.new).faults)) }
+    ensures shows { IfOk result (λ look. LookShows names.now (D.state d.old) look) }
+    ensures cause { IfErr result (LookFails names.now (D.state d.old) (D.state d.new)) }
     ensures looks { OnlyReads (D.state d.old) (D.state d.new) }
 {
     if names.has_sum {
@@ -144,13 +130,9 @@ pub fn look_synced<D: Disk>(
     d: &mut D,
     names: &FileNames,
 ) -> Result<Look, ArchiveFault>
-    ensures settled { OnOk result (SyncsFolders (LiesDirectlyIn (string_bytes names.now.folder))
-        (D.state d.old).view (D.state d.new).view) }
-    ensures shows { IfOk result (λ look. IfSome (D.state d.old).view.now
-        (λ f. (stanza : Text) (id : ArchiveId) (name : ArchiveName) → AreNamesOf stanza id name names.now
-        → Shows stanza id name f look)) }
-    ensures cause { IfErr result (LookCause names.now (D.state d.old).view.now (Rises (D.state d.old).faults
-        (D.state d.new).faults)) }
+    ensures settled { OnOk result (MakesDurable (LiesBeside names.now) (D.state d.old) (D.state d.new)) }
+    ensures shows { IfOk result (λ look. LookShows names.now (D.state d.old) look) }
+    ensures cause { IfErr result (LookFails names.now (D.state d.old) (D.state d.new)) }
     ensures looks { OnlyReads (D.state d.old) (D.state d.new) }
 {
     d.sync_directory(names.folder.as_str())?;
