@@ -18,6 +18,10 @@ abbrev pub value_from : ℕ → Text → ℕ
 value_from n [] = n
 value_from n (d ∷ ds) = value_from (n * 10 + (d - 48)) ds
 
+-- the number, where it isn't above this one
+abbrev pub no_more_than : ℕ → ℕ → Option ℕ
+no_more_than most n = if nat_le n most then Some n else None
+
 -- a letter in either case
 abbrev pub is_letter : ℕ → ℕ → ℕ → Bool
 is_letter upper lower b = (b == upper) || (b == lower)

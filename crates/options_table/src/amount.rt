@@ -1,7 +1,7 @@
 //! Whole numbers, sizes and times.
 
-ghost use Rattle.std.specs.Prelude.{◌≡◌, ◌≤◌, ◌<◌, ◌^◌, not, unwrap_or, position, length, take, drop, IfSome, Some, None, nat_le, if◌then◌else◌};
-ghost use Rattle.options_table.specs.Amounts.{is_digit, digits_end, value_from, is_letter, is_byte_end, power, size_unit, time_unit, unit, within, scaled, amount};
+ghost use Rattle.std.specs.Prelude.{◌≡◌, ◌≤◌, ◌<◌, ◌^◌, not, unwrap_or, position, length, take, drop, IfSome};
+ghost use Rattle.options_table.specs.Amounts.{is_digit, digits_end, value_from, no_more_than, is_letter, is_byte_end, power, size_unit, time_unit, unit, within, scaled, amount};
 
 #[derive(Clone, Copy)]
 pub(crate) enum Units {
@@ -35,8 +35,7 @@ fn digits_end(text: &[u8]) -> usize
 
 // The number, where it isn't above 2^64 - 1.
 fn value_of(digits: &[u8]) -> Option<u64>
-    ensures { result ≡ (if nat_le (value_from 0 digits.now) 18446744073709551615 then Some
-        (value_from 0 digits.now) else None) }
+    ensures { result ≡ no_more_than 18446744073709551615 (value_from 0 digits.now) }
 {
     let mut n: u64 = 0;
     for d in digits {

@@ -8,3 +8,4 @@ pub mod Walked
 pub mod Halves
 pub mod Read
 pub mod Forms
+pub mod Foreign

@@ -1,10 +1,12 @@
 -- When sections have the same at a key.
-use Rattle.std.specs.Prelude.{◌≡◌, ◌≢◌, ◌⊎◌, List, [], map, true, codes}
+use Rattle.std.specs.Prelude.{◌≡◌, ◌≢◌, ◌⊎◌, List, [], map, true, codes, string_bytes}
 use Rattle.serde_json.specs.Data.{Data}
 use Rattle.base_devices.specs.Order.{is_before, are_after}
 use Rattle.base_model.specs.Text.{Text, In}
 use Rattle.base_model.specs.InfoText.{Section}
 use Rattle.base_model.specs.Fields.{Field}
+use Rattle.repo_ini.specs.declared.part.Part.{Part}
+use Rattle.repo_ini.specs.Parts.{section_of, sections_of}
 
 -- the section of that name has this value at the key
 pub record HasKey (ss : List Section) (section key : Text) (d : Data) : Type 0 where
@@ -40,6 +42,14 @@ pub record IsFirstDifference (xs ys : List Field) (key : Text) : Type 0 where
 abbrev pub IsKeysOf : List Section → Text → List Field → Type 0
 IsKeysOf ss name ks = In (record { name = name; keys = ks }) ss
     ⊎ (((s : Section) → In s ss → s.name ≢ name) × (ks ≡ []))
+
+-- the part is one of these, and its section has this name
+abbrev pub IsPartNamed : List Part → Text → Part → Type 0
+IsPartNamed parts name part = In (section_of part) (sections_of parts) × (string_bytes part.name ≡ name)
+
+-- the part states the section of this name with these keys
+abbrev pub StatesSection : Text → List Field → Part → Type 0
+StatesSection name ks part = section_of part ≡ record { name = name; keys = ks }
 
 -- ---- the sections of both kinds
 

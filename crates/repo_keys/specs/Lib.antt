@@ -1,2 +1,3 @@
 pub mod Fault
 pub mod Agree
+pub mod Foreign

@@ -1,7 +1,6 @@
 // Keys in byte order.
 ghost use Rattle.std.specs.Prelude.{◌≡◌, map, OnOk, string_bytes};
 ghost use Rattle.std.specs.List.{position_or_len};
-ghost use Rattle.serde_json.specs.View.{view};
 ghost use Rattle.base_devices.specs.Order.{is_before};
 ghost use Rattle.base_model.specs.Fields.{with_field};
 ghost use Rattle.repo_ini.specs.Parts.{key_of};
@@ -24,8 +23,7 @@ fn place_of(keys: &[(String, Value)], key: &str) -> usize
 
 /// Adds the key at its place in byte order.
 pub fn place(keys: &mut Vec<(String, Value)>, key: String, value: Value) -> Result<(), NoMemory>
-    ensures { OnOk result (map key_of keys.new.items ≡ with_field (map key_of keys.old.items)
-        (string_bytes key, view value)) }
+    ensures { OnOk result (map key_of keys.new.items ≡ with_field (map key_of keys.old.items) (key_of (key, value))) }
 {
     let at = place_of(keys, key.as_str());
     keys.insert(at, (key, value))?;

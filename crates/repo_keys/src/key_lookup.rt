@@ -1,12 +1,12 @@
 // Sections by their names, and values by their keys.
-ghost use Rattle.std.specs.Prelude.{◌≡◌, ◌≢◌, map, IfOk, IfSome, IfNone, string_bytes};
+ghost use Rattle.std.specs.Prelude.{◌≡◌, ◌≢◌, map, IfOk, IfSome, IfNone};
 ghost use Rattle.std.specs.List.{AllByRecursion};
 ghost use Rattle.serde_json.specs.Data.{Data};
 ghost use Rattle.serde_json.specs.View.{view};
 ghost use Rattle.base_model.specs.Text.{In};
 ghost use Rattle.base_model.specs.InfoText.{Section, IsKey, IsInfo};
-ghost use Rattle.repo_ini.specs.Parts.{key_of, section_of, sections_of};
-ghost use Rattle.repo_keys.specs.Agree.{IsKeysOf, IsOrdered};
+ghost use Rattle.repo_ini.specs.Parts.{key_of, sections_of};
+ghost use Rattle.repo_keys.specs.Agree.{IsKeysOf, IsOrdered, IsPartNamed};
 ghost use Rattle.repo_keys.specs.Fault.{IfForm};
 
 use crate::fault::PartsFault;
@@ -30,8 +30,7 @@ pub fn find<'a>(keys: &'a [(String, Value)], key: &str) -> Option<&'a Value>
 
 /// The section of a name.
 pub fn part_of<'a>(parts: &'a [Part], name: &str) -> Option<&'a Part>
-    ensures found { IfSome result (λ p. In (section_of p.now) (sections_of parts.now)
-        × (string_bytes p.now.name ≡ name.now)) }
+    ensures found { IfSome result (λ p. IsPartNamed parts.now name.now p.now) }
     ensures none { IfNone result ((s : Section) → In s (sections_of parts.now) → s.name ≢ name.now) }
 {
     for part in parts {
