@@ -12,13 +12,10 @@ use Rattle.base_model.specs.InfoFiles.{IsClusterId, cluster_id_fields, cluster_i
 use Rattle.base_model.specs.Values.{ArchiveInfo}
 use Rattle.repo_keys.specs.Agree.{HasKey, AgreeAt, db as db_name, db_history}
 use Rattle.repo_info.specs.History.{IsHistory, IsWrongHistory}
-use Rattle.repo_info.specs.ArchiveForm.{Matches, ShowsCluster, IsArchiveForm, IsWrongCurrent, section_names}
+use Rattle.repo_info.specs.ArchiveForm.{own_id, Matches, ShowsCluster, IsArchiveForm, IsWrongCurrent, section_names}
 use Rattle.repo_info.proofs.ArchiveRules.{db, history, archive_sections_are}
 use Rattle.repo_keys.proofs.Numbers.{all_in, in_map, entry_at, read_at, same_digits}
 use Rattle.repo_keys.proofs.Sorted.{unique, fits, same_list, by_key_in, length_by_key}
-
-abbrev id_of : ClusterId → ℕ
-id_of c = c.id
 
 -- the two sections of a value, and its current cluster
 pub record Shape (v : ArchiveInfo) : Type 0 where
@@ -30,7 +27,7 @@ pub record Shape (v : ArchiveInfo) : Type 0 where
 
 pub shape : (v : ArchiveInfo) → IsArchiveInfo v → Shape v
 shape v h =
-    let (c, at, i, same) = read_at id_of v.history 1 v.current h.numbers h.current.0 (omega (arith, h.current.1)) in
+    let (c, at, i, same) = read_at own_id v.history 1 v.current h.numbers h.current.0 (omega (arith, h.current.1)) in
     let kept : 0 < length v.history = omega (arith, h.current.0, h.current.1) in
     record { current = c; at = at; rules = all_in IsClusterId v.history c h.clusters i; numbered = same; are = archive_sections_are v c kept at }
 
@@ -204,14 +201,14 @@ module _ (ss : List Section) (info : IsInfo ss) where
         here : WrongAt ss db_history (codes "1")
         here v rules match agree =
             let s = shape v rules in
-            let (e, i, same) = entry_at id_of v.history 1 1 rules.numbers (omega arith) (omega (arith, rules.current.0, rules.current.1)) in
+            let (e, i, same) = entry_at own_id v.history 1 1 rules.numbers (omega arith) (omega (arith, rules.current.0, rules.current.1)) in
             let one : decimal e.id ≡ codes "1" = ap decimal same ∙ decimal_digit 1 (omega arith) in
             let there = by_key_in (map cluster_id_field v.history) (cluster_id_field e) (in_map cluster_id_field v.history e i) in
             let h = agree.there (cluster_id_field e).1 (history_in v s (codes "1") (cluster_id_field e).1 (subst (λ (k : Text). In (k, (cluster_id_field e).1) (by_key (map cluster_id_field v.history))) one there)) in
             none h.at h.found h.named
 
     -- a wrong key of the history
-    pub history_form : (p : Section) (section key : Text) → In p ss → p.name ≡ db_history → section ≡ db_history → IsWrongHistory IsClusterId id_of cluster_id_field c c.id p.keys key → IsArchiveForm ss section key
+    pub history_form : (p : Section) (section key : Text) → In p ss → p.name ≡ db_history → section ≡ db_history → IsWrongHistory IsClusterId own_id cluster_id_field c c.id p.keys key → IsArchiveForm ss section key
     history_form p section key i named at wrong = subst (λ (n : Text). IsArchiveForm ss n key) (sym at) (record { none = none_from ss db_history key here; wrong = here; known = λ e. shows })
       where
         here : WrongAt ss db_history key
@@ -220,7 +217,7 @@ module _ (ss : List Section) (info : IsInfo ss) where
             let m = match refl in
             let same : c ≡ s.current = same_cluster c s.current rules_of s.rules (m.current (db c) found refl ∙ ap (fields_of cluster_id_fields) s.at) in
             let number : c.id ≡ v.current = ap (λ (e : ClusterId). e.id) same ∙ s.numbered in
-            let is : IsHistory IsClusterId id_of cluster_id_field c c.id (length p.keys) v.history = record {
+            let is : IsHistory IsClusterId own_id cluster_id_field c c.id (length p.keys) v.history = record {
               clusters = rules.clusters;
               numbers = rules.numbers;
               at = ap (λ (n : ℕ). at_number n v.history) number ∙ s.at ∙ ap (λ (e : ClusterId). Some e) (sym same);
@@ -234,7 +231,7 @@ module _ (ss : List Section) (info : IsInfo ss) where
 
     -- ---- the value
 
-    module _ (past : Section) (h : List ClusterId) (i : In past ss) (named : past.name ≡ db_history) (is : IsHistory IsClusterId id_of cluster_id_field c c.id (length past.keys) h) (keys : past.keys ≡ by_key (map cluster_id_field h)) (low : 1 ≤ c.id) (only : (s : Section) → In s ss → In s.name section_names) where
+    module _ (past : Section) (h : List ClusterId) (i : In past ss) (named : past.name ≡ db_history) (is : IsHistory IsClusterId own_id cluster_id_field c c.id (length past.keys) h) (keys : past.keys ≡ by_key (map cluster_id_field h)) (low : 1 ≤ c.id) (only : (s : Section) → In s ss → In s.name section_names) where
       abbrev value : ArchiveInfo
       value = record { current = c.id; history = h }
 

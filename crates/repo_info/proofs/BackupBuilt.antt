@@ -5,11 +5,8 @@ use Rattle.std.specs.List.{AllByRecursion}
 use Rattle.base_model.specs.declared.clusters.Cluster.{Cluster}
 use Rattle.base_model.specs.InfoFiles.{IsCluster, IsListedEntry, AreListed, AreFrom, IsBackupInfo}
 use Rattle.base_model.specs.Values.{Entry, BackupInfo}
-use Rattle.repo_info.specs.BackupForm.{highest, IsList}
+use Rattle.repo_info.specs.BackupForm.{own_id, highest, IsList}
 use Rattle.repo_info.proofs.ListedKeys.{many}
-
-abbrev pub id_of : Cluster → ℕ
-id_of c = c.id
 
 -- this many clusters from a number on, with this one at its number
 pub copies_from : ℕ → ℕ → Cluster → List Cluster
@@ -26,7 +23,7 @@ unfolding copies_from
 copies_rules m zero c h top = tt
 copies_rules m (suc n) c h top = (record { id = omega arith; system = h.system; version = h.version; control = h.control; catalog = h.catalog }, copies_rules (m + 1) n c h (omega arith))
 
-copies_numbers : (m n : ℕ) (c : Cluster) → AreFrom m (map id_of (copies_from m n c))
+copies_numbers : (m n : ℕ) (c : Cluster) → AreFrom m (map own_id (copies_from m n c))
 unfolding copies_from
 copies_numbers m zero c = tt
 copies_numbers m (suc n) c = (refl, copies_numbers (m + 1) n c)

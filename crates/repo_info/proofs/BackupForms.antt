@@ -12,7 +12,7 @@ use Rattle.base_model.specs.Fields.{Field, by_key, at_number, whole}
 use Rattle.base_model.specs.InfoFiles.{IsCluster, cluster_fields, cluster_field, entry_field, backup_sections, IsBackupInfo}
 use Rattle.base_model.specs.Values.{Entry, BackupInfo}
 use Rattle.repo_keys.specs.Agree.{HasKey, AgreeAt, KeysAgree, IsOrdered, db as db_name, db_history, IsKeysOf}
-use Rattle.repo_info.specs.BackupForm.{backup_current, backup_names, highest, AgreeIn, AgreeBefore, HasClusters, HasBefore, IsBackupForm, IsList, IsWrongBackup, IsWrongCluster}
+use Rattle.repo_info.specs.BackupForm.{backup_current, own_id, backup_names, highest, AgreeIn, AgreeBefore, HasClusters, HasBefore, IsBackupForm, IsList, IsWrongBackup, IsWrongCluster}
 use Rattle.repo_info.specs.History.{IsHistory, IsWrongHistory}
 use Rattle.repo_info.proofs.BackupRules.{listed, db, history, backup_sections_are, backup_is_info}
 use Rattle.repo_info.proofs.ClusterFields.{same_cluster}
@@ -20,7 +20,7 @@ use Rattle.repo_keys.proofs.Scalars.{same_number}
 use Rattle.repo_info.proofs.ListedKeys.{many, list_sorted}
 use Rattle.repo_keys.proofs.Numbers.{all_in, in_map, entry_at, read_at}
 use Rattle.repo_keys.proofs.Sorted.{Sorted, unique, fits, same_list, by_key_in, length_by_key}
-use Rattle.repo_info.proofs.BackupBuilt.{id_of, copies_length, copies_at, built, listed_as, listed_wide, highest_within, highest_small, built_rules}
+use Rattle.repo_info.proofs.BackupBuilt.{copies_length, copies_at, built, listed_as, listed_wide, highest_within, highest_small, built_rules}
 
 -- ---- the sections of a value
 
@@ -34,7 +34,7 @@ pub record Shape (v : BackupInfo) : Type 0 where
 
 pub shape : (v : BackupInfo) → IsBackupInfo v → Shape v
 shape v h =
-    let (c, at, i, same) = read_at id_of v.history 1 v.current h.numbers h.current.0 (omega (arith, h.current.1)) in
+    let (c, at, i, same) = read_at own_id v.history 1 v.current h.numbers h.current.0 (omega (arith, h.current.1)) in
     let kept : 0 < length v.history = omega (arith, h.current.0, h.current.1) in
     let low = h.current.0 in
     record { current = c; at = at; rules = all_in IsCluster v.history c h.clusters i; low = omega (arith, low, same); numbered = same; are = backup_sections_are v c kept at }
@@ -334,7 +334,7 @@ module _ (ss : List Section) (info : IsInfo ss) where
           here : WrongAt ss db_history (codes "1")
           here w r before agree =
               let s = shape w r in
-              let (e, i, same) = entry_at id_of w.history 1 1 r.numbers (omega arith) (omega (arith, r.current.0, r.current.1)) in
+              let (e, i, same) = entry_at own_id w.history 1 1 r.numbers (omega arith) (omega (arith, r.current.0, r.current.1)) in
               let one : decimal e.id ≡ codes "1" = ap decimal same ∙ decimal_digit 1 (omega arith) in
               let there = by_key_in (map cluster_field w.history) (cluster_field e) (in_map cluster_field w.history e i) in
               let h = agree.there (cluster_field e).1 ((shows_history w s).keys_in (codes "1") (cluster_field e).1 (subst (λ (k : Text). In (k, (cluster_field e).1) (by_key (map cluster_field w.history))) one there)) in
@@ -357,7 +357,7 @@ module _ (ss : List Section) (info : IsInfo ss) where
             omega (arith, same, long)
 
         -- a wrong key of the history
-        pub history_form : (key : Text) → IsWrongHistory IsCluster id_of cluster_field c least past.keys key → IsBackupForm ss db_history key
+        pub history_form : (key : Text) → IsWrongHistory IsCluster own_id cluster_field c least past.keys key → IsBackupForm ss db_history key
         history_form key wrong = form_of ss db_history key (built es c all, known_rules all (omega arith) (omega arith) all_small, known_history all (omega arith) (omega arith) all_small key all_clusters) here
           where
             here : WrongAt ss db_history key
@@ -367,8 +367,8 @@ module _ (ss : List Section) (info : IsInfo ss) where
                 let current = same_current w r m.1 in
                 let backups = highest_of_fields w.backups es (same_backups w r m.0) in
                 let top = highest_within (length w.history) [] w.backups r.backups in
-                let number : c.id ≡ w.current = ap id_of (sym current) ∙ s.numbered in
-                let is_history : IsHistory IsCluster id_of cluster_field c least (length past.keys) w.history = record {
+                let number : c.id ≡ w.current = ap own_id (sym current) ∙ s.numbered in
+                let is_history : IsHistory IsCluster own_id cluster_field c least (length past.keys) w.history = record {
                   clusters = r.clusters;
                   numbers = r.numbers;
                   at = ap (λ (n : ℕ). at_number n w.history) number ∙ s.at ∙ ap (λ (x : Cluster). Some x) current;
@@ -379,7 +379,7 @@ module _ (ss : List Section) (info : IsInfo ss) where
 
         -- ---- the value
 
-        module _ (h : List Cluster) (has_history : IsHistory IsCluster id_of cluster_field c least (length past.keys) h) (keys : past.keys ≡ by_key (map cluster_field h)) (only : (s : Section) → In s ss → In s.name backup_names) where
+        module _ (h : List Cluster) (has_history : IsHistory IsCluster own_id cluster_field c least (length past.keys) h) (keys : past.keys ≡ by_key (map cluster_field h)) (only : (s : Section) → In s ss → In s.name backup_names) where
           abbrev value : BackupInfo
           value = record { current = c.id; history = h; backups = es }
 

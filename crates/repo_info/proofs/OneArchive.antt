@@ -12,17 +12,15 @@ use Rattle.base_model.specs.Fields.{Field, by_key}
 use Rattle.base_model.specs.InfoFiles.{IsClusterId, cluster_id_field, AreFrom, archive_sections, IsArchiveInfo, IsArchiveText}
 use Rattle.base_model.specs.Values.{ArchiveInfo}
 use Rattle.repo_ini.proofs.OneText.{one_sections}
+use Rattle.repo_info.specs.ArchiveForm.{own_id}
 use Rattle.repo_info.proofs.ArchiveForms.{shape, same_cluster}
 use Rattle.repo_info.proofs.ArchiveRules.{archive_is_info}
 use Rattle.repo_info.proofs.IdentityFields.{same_field}
 use Rattle.repo_keys.proofs.Numbers.{all_in, map_in, id_low}
 use Rattle.repo_keys.proofs.Sorted.{by_key_in, in_by_key, length_by_key}
 
-abbrev id_of : ClusterId → ℕ
-id_of c = c.id
-
 -- histories with the same fields are the same
-alike : (xs ys : List ClusterId) (m : ℕ) → AllByRecursion IsClusterId xs → AllByRecursion IsClusterId ys → AreFrom m (map id_of xs) → AreFrom m (map id_of ys) → length xs ≡ length ys → ((z : Field) → In z (map cluster_id_field xs) → In z (map cluster_id_field ys)) → xs ≡ ys
+alike : (xs ys : List ClusterId) (m : ℕ) → AllByRecursion IsClusterId xs → AllByRecursion IsClusterId ys → AreFrom m (map own_id xs) → AreFrom m (map own_id ys) → length xs ≡ length ys → ((z : Field) → In z (map cluster_id_field xs) → In z (map cluster_id_field ys)) → xs ≡ ys
 alike [] [] m h g p q long all = refl
 alike [] (y ∷ ys) m h g p q long all = absurd (omega (arith, long))
 alike (x ∷ xs) [] m h g p q long all = absurd (omega (arith, long))
@@ -34,8 +32,8 @@ alike (x ∷ xs) (y ∷ ys) m h g p q long all = ap (λ (c : ClusterId). c ∷ x
         (λ (i : In (cluster_id_field x) (map cluster_id_field ys)).
         let (c, j, e) = map_in cluster_id_field ys (cluster_id_field x) i in
         let same : x ≡ c = same_field x c h.0 (all_in IsClusterId ys c g.1 j) e in
-        let low = id_low id_of ys (m + 1) c q.1 j in
-        let id : c.id ≡ m = ap id_of (sym same) ∙ p.0 in
+        let low = id_low own_id ys (m + 1) c q.1 j in
+        let id : c.id ≡ m = ap own_id (sym same) ∙ p.0 in
         absurd (omega (arith, low, id)))
         (all (cluster_id_field x) (inl refl))
 
@@ -44,8 +42,8 @@ alike (x ∷ xs) (y ∷ ys) m h g p q long all = ap (λ (c : ClusterId). c ∷ x
         (λ (e : z ≡ cluster_id_field y).
         let (c, j, f) = map_in cluster_id_field xs z i in
         let same : c ≡ y = same_field c y (all_in IsClusterId xs c h.1 j) g.0 (sym f ∙ e) in
-        let low = id_low id_of xs (m + 1) c p.1 j in
-        let id : c.id ≡ m = ap id_of same ∙ q.0 in
+        let low = id_low own_id xs (m + 1) c p.1 j in
+        let id : c.id ≡ m = ap own_id same ∙ q.0 in
         absurd (omega (arith, low, id)))
         (λ (j : In z (map cluster_id_field ys)). j)
         (all z (inr i))
@@ -58,7 +56,7 @@ abbrev next_keys : List Section → List Field
 next_keys [] = []
 next_keys (s ∷ ss) = head_keys ss
 
-same_history : (xs ys : List ClusterId) → AllByRecursion IsClusterId xs → AllByRecursion IsClusterId ys → AreFrom 1 (map id_of xs) → AreFrom 1 (map id_of ys) → by_key (map cluster_id_field xs) ≡ by_key (map cluster_id_field ys) → xs ≡ ys
+same_history : (xs ys : List ClusterId) → AllByRecursion IsClusterId xs → AllByRecursion IsClusterId ys → AreFrom 1 (map own_id xs) → AreFrom 1 (map own_id ys) → by_key (map cluster_id_field xs) ≡ by_key (map cluster_id_field ys) → xs ≡ ys
 same_history xs ys h g p q same =
     let count = sym (length-map xs cluster_id_field) ∙ sym (length_by_key (map cluster_id_field xs)) ∙ ap length same ∙ length_by_key (map cluster_id_field ys) ∙ length-map ys cluster_id_field in
     alike xs ys 1 h g p q count (λ z i. in_by_key (map cluster_id_field ys) z (subst (λ (ks : List Field). In z ks) same (by_key_in (map cluster_id_field xs) z i)))
@@ -69,7 +67,7 @@ same_sections v w h g same =
     let t = shape w g in
     let both = sym s.are ∙ same ∙ t.are in
     let cluster = same_cluster s.current t.current s.rules t.rules (ap head_keys both) in
-    let current : v.current ≡ w.current = sym s.numbered ∙ ap id_of cluster ∙ t.numbered in
+    let current : v.current ≡ w.current = sym s.numbered ∙ ap own_id cluster ∙ t.numbered in
     let history = same_history v.history w.history h.clusters g.clusters h.numbers g.numbers (ap next_keys both) in
     let r : ◌≡◌ {A = ArchiveInfo} (record { current = v.current; history = v.history }) (record { current = w.current; history = w.history }) = rw (current, history) refl in r
 

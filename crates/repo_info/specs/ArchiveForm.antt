@@ -1,5 +1,5 @@
 -- Which sections are those of no value of `archive.info`, and at which key.
-use Rattle.std.specs.Prelude.{◌≡◌, ◌≢◌, ◌≤◌, List, [], ◌∷◌, length, codes}
+use Rattle.std.specs.Prelude.{◌≡◌, ◌≢◌, ◌≤◌, ℕ, List, [], ◌∷◌, length, codes}
 use Rattle.base_model.specs.declared.clusters.ClusterId.{ClusterId}
 use Rattle.base_model.specs.Text.{Text, In}
 use Rattle.base_model.specs.InfoText.{Section}
@@ -7,6 +7,10 @@ use Rattle.base_model.specs.Fields.{Field, at_number, fields_of}
 use Rattle.base_model.specs.InfoFiles.{IsClusterId, cluster_id_fields, archive_sections, IsArchiveInfo}
 use Rattle.base_model.specs.Values.{ArchiveInfo}
 use Rattle.repo_keys.specs.Agree.{AgreeAt, KeysAgree, db, db_history}
+
+-- its number in the history
+abbrev pub own_id : ClusterId → ℕ
+own_id c = c.id
 
 -- the current cluster is the one that the section `db` states, and the history has a cluster for each of its keys
 pub record Matches (ss : List Section) (v : ArchiveInfo) : Type 0 where

@@ -1,5 +1,5 @@
 -- Which sections are those of no value of `backup.info`, and at which key.
-use Rattle.std.specs.Prelude.{◌≡◌, ◌≢◌, ◌≤◌, ◌⊎◌, ℕ, max, List, [], ◌∷◌, map, length, true, codes, IfSome}
+use Rattle.std.specs.Prelude.{◌≡◌, ◌≢◌, ◌≤◌, ◌<◌, ◌^◌, ◌⊎◌, ℕ, max, List, [], ◌∷◌, map, length, true, codes, IfSome}
 use Rattle.base_devices.specs.Order.{is_before, are_in_order}
 use Rattle.serde_json.specs.Data.{Data}
 use Rattle.base_model.specs.declared.clusters.Cluster.{Cluster}
@@ -16,6 +16,10 @@ use Rattle.repo_keys.specs.Agree.{AgreeAt, KeysAgree, KeysAgreeBefore, db, db_hi
 -- the section of the listed backups
 abbrev pub backup_current : Text
 backup_current = codes "backup:current"
+
+-- its number in the history
+abbrev pub own_id : Cluster → ℕ
+own_id c = c.id
 
 -- the value has at each key of the section what the sections have
 abbrev pub AgreeIn : BackupInfo → List Section → Text → Type 0
@@ -72,6 +76,10 @@ pub record IsWrongBackup (ks : List Field) (key : Text) : Type 0 where
 pub record IsWrongCluster (ks : List Field) (key : Text) : Type 0 where
   pub known : (c : Cluster) × IsCluster c × (1 ≤ c.id) × KeysAgreeBefore (cluster_fields c) ks key
   pub wrong : (c : Cluster) → IsCluster c → 1 ≤ c.id → ¬ KeysAgree (cluster_fields c) ks key
+
+-- the number is the one that the keys state under this name, where they state one of 32 bits in this form
+abbrev pub IsNumberAt : (ℕ → Data) → Text → List Field → ℕ → Type 0
+IsNumberAt form key ks number = (n : ℕ) → n < 2 ^ 32 → In (key, form n) ks → number ≡ n
 
 -- the sections of the text
 abbrev pub backup_names : List Text

@@ -6,7 +6,7 @@ ghost use Rattle.base_model.specs.InfoText.{IsSection};
 ghost use Rattle.base_model.specs.Fields.{Field, whole};
 ghost use Rattle.base_model.specs.InfoFiles.{IsClusterId, cluster_id_fields, version_value};
 ghost use Rattle.repo_ini.specs.Parts.{key_of, keys_of, section_of};
-ghost use Rattle.repo_keys.specs.Fault.{IfForm};
+ghost use Rattle.repo_keys.specs.Fault.{IsFaultIn};
 ghost use Rattle.repo_keys.specs.Agree.{db, IsOrdered};
 ghost use Rattle.repo_info.specs.ArchiveForm.{cluster_keys, IsWrongCurrent};
 
@@ -41,8 +41,7 @@ fn foreign_key<'a>(keys: &'a [(String, Value)]) -> Option<&'a str>
 pub(crate) fn current_of(alloc: Global, part: &Part) -> Result<ClusterId, PartsFault>
     requires { IsSection (section_of part.now) }
     ensures cluster { IfOk result (λ c. IsClusterId c × (1 ≤ c.id) × (keys_of part.now ≡ cluster_id_fields c)) }
-    ensures fault { IfErr result
-        (λ e. IfForm e (λ section key. (section ≡ db) × IsWrongCurrent (keys_of part.now) key)) }
+    ensures fault { IfErr result (IsFaultIn db (IsWrongCurrent (keys_of part.now))) }
 {
     let keys = &part.keys;
     let Some(id) = number_at(keys, "db-id") else {

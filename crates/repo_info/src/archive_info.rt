@@ -5,6 +5,7 @@ ghost use Rattle.base_model.specs.Fields.{by_key};
 ghost use Rattle.base_model.specs.InfoFiles.{cluster_id_field, cluster_id_fields, archive_sections, IsArchiveInfo, info_limit};
 ghost use Rattle.base_model.specs.Values.{archive_info_of};
 ghost use Rattle.repo_ini.specs.Parts.{section_of};
+ghost use Rattle.repo_keys.specs.Agree.{db_history, StatesSection};
 
 use crate::info::Info;
 use base_model::{ArchiveInfo, ClusterId};
@@ -34,10 +35,7 @@ fn current_part(alloc: Global, c: &ClusterId) -> Result<Part, NoMemory>
 }
 
 fn history_part(alloc: Global, history: &[ClusterId]) -> Result<Part, NoMemory>
-    ensures { IfOk result (λ p. section_of p ≡ record {
-      name = codes "db:history";
-      keys = by_key (map cluster_id_field history.now);
-    }) }
+    ensures { IfOk result (StatesSection db_history (by_key (map cluster_id_field history.now))) }
 {
     let mut part = Part::new(alloc, "db:history")?;
     for c in history {

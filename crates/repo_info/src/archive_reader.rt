@@ -1,13 +1,12 @@
 // From a text to the value of `archive.info`.
-ghost use Rattle.std.specs.Prelude.{◌≡◌, List, map, IfOk, IfErr, IfSome, IfNone, refl, true, false};
+ghost use Rattle.std.specs.Prelude.{◌≡◌, IfOk, IfErr, refl};
 ghost use Rattle.std.proofs.Common.{lit<};
-ghost use Rattle.base_model.specs.Text.{In};
-ghost use Rattle.base_model.specs.InfoText.{Section, IsSection, IsInfo, info_text};
+ghost use Rattle.base_model.specs.InfoText.{IsInfo, info_text};
 ghost use Rattle.base_model.specs.InfoFiles.{archive_sections, IsArchiveInfo, IsArchiveText};
 ghost use Rattle.base_model.specs.Values.{archive_info_of, ArchiveInfo as SpecArchiveInfo};
-ghost use Rattle.repo_ini.specs.Parts.{section_of, sections_of};
+ghost use Rattle.repo_ini.specs.Parts.{sections_of};
 ghost use Rattle.repo_keys.specs.Fault.{IfForm};
-ghost use Rattle.repo_info.specs.ArchiveForm.{section_names, IsArchiveForm};
+ghost use Rattle.repo_info.specs.ArchiveForm.{IsArchiveForm};
 
 use crate::archive_current::current_of;
 use crate::fault::MemberFault;
@@ -18,40 +17,10 @@ use crate::texts::sections_in;
 use base_model::ArchiveInfo;
 use base_text::NoMemory;
 use repo_ini::Part;
-use repo_keys::{PartsFault, form, part_of};
+use repo_keys::{PartsFault, check_names, form, part_of};
 use std::alloc::Global;
 
-fn is_section(name: &str) -> bool
-    ensures model { result ≡ true → In name.now section_names }
-    ensures other { result ≡ false → ¬ In name.now section_names }
-{
-    name == "db" || name == "db:history"
-}
-
-// The first section that no value has.
-fn foreign_part<'a>(parts: &'a [Part]) -> Option<&'a Part>
-    ensures some { IfSome result (λ p. In (section_of p.now) (sections_of parts.now)
-        × ¬ In (section_of p.now).name section_names) }
-    ensures none { IfNone result ((s : Section) → In s (sections_of parts.now) → In s.name section_names) }
-{
-    for part in parts {
-        if !is_section(part.name.as_str()) {
-            return Some(part);
-        }
-    }
-    None
-}
-
-// The fault of a section that no value has, at its first key.
-fn foreign(alloc: Global, parts: &[Part], part: &Part) -> PartsFault
-    requires info { IsInfo (sections_of parts.now) }
-    requires found { In (section_of part.now) (sections_of parts.now) }
-    requires other { ¬ In (section_of part.now).name section_names }
-    ensures { IfForm result (IsArchiveForm (sections_of parts.now)) }
-{
-    let k = &part.keys[0];
-    form(alloc, part.name.as_str(), k.0.as_str())
-}
+const NAMES: &[&str] = &["db", "db:history"];
 
 // The value of sections.
 fn archive_of(alloc: Global, parts: &[Part]) -> Result<ArchiveInfo, PartsFault>
@@ -68,9 +37,7 @@ fn archive_of(alloc: Global, parts: &[Part]) -> Result<ArchiveInfo, PartsFault>
         return Err(form(alloc, "db:history", "1"));
     };
     let history = history_of(alloc, past, &current, current.id)?;
-    if let Some(part) = foreign_part(parts) {
-        return Err(foreign(alloc, parts, part));
-    }
+    check_names(alloc, parts, NAMES)?;
     Ok(ArchiveInfo {
         current: current.id,
         history,

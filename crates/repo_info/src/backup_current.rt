@@ -7,9 +7,9 @@ ghost use Rattle.base_model.specs.InfoText.{IsKey};
 ghost use Rattle.base_model.specs.Fields.{whole};
 ghost use Rattle.base_model.specs.InfoFiles.{IsCluster, cluster_fields, version_value};
 ghost use Rattle.repo_ini.specs.Parts.{key_of};
-ghost use Rattle.repo_keys.specs.Fault.{IfForm};
+ghost use Rattle.repo_keys.specs.Fault.{IsFaultIn};
 ghost use Rattle.repo_keys.specs.Agree.{db, IsOrdered};
-ghost use Rattle.repo_info.specs.BackupForm.{IsWrongCluster};
+ghost use Rattle.repo_info.specs.BackupForm.{IsWrongCluster, IsNumberAt};
 
 use crate::backup_info::cluster_part;
 use base_model::Cluster;
@@ -34,15 +34,12 @@ fn id_at(keys: &[(String, Value)], key: &str) -> u32
 fn candidate(keys: &[(String, Value)]) -> Cluster
     requires { IsOrdered (map key_of keys.now) }
     ensures low { 1 ≤ result.id }
-    ensures catalog { (n : ℕ) → n < 2 ^ 32 → In (codes "db-catalog-version", whole n) (map key_of keys.now)
-        → result.catalog ≡ n }
-    ensures control { (n : ℕ) → n < 2 ^ 32 → In (codes "db-control-version", whole n) (map key_of keys.now)
-        → result.control ≡ n }
+    ensures catalog { IsNumberAt whole (codes "db-catalog-version") (map key_of keys.now) result.catalog }
+    ensures control { IsNumberAt whole (codes "db-control-version") (map key_of keys.now) result.control }
     ensures id { (n : ℕ) → n < 2 ^ 32 → 1 ≤ n → In (codes "db-id", whole n) (map key_of keys.now)
         → result.id ≡ n }
     ensures system { (n : ℕ) → In (codes "db-system-id", whole n) (map key_of keys.now) → result.system ≡ n }
-    ensures version { (n : ℕ) → n < 2 ^ 32 → In (codes "db-version", version_value n) (map key_of keys.now)
-        → result.version ≡ n }
+    ensures version { IsNumberAt version_value (codes "db-version") (map key_of keys.now) result.version }
 {
     Cluster {
         id: id_at(keys, "db-id"),
@@ -58,8 +55,7 @@ pub(crate) fn current_of(alloc: Global, keys: &[(String, Value)]) -> Result<Clus
     requires keys { AllByRecursion IsKey (map key_of keys.now) }
     requires order { IsOrdered (map key_of keys.now) }
     ensures cluster { IfOk result (λ c. IsCluster c × (1 ≤ c.id) × (map key_of keys.now ≡ cluster_fields c)) }
-    ensures fault { IfErr result
-        (λ e. IfForm e (λ section key. (section ≡ db) × IsWrongCluster (map key_of keys.now) key)) }
+    ensures fault { IfErr result (IsFaultIn db (IsWrongCluster (map key_of keys.now))) }
 {
     let cluster = candidate(keys);
     let expected = cluster_part(alloc, "db", &cluster)?;

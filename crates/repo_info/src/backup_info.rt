@@ -1,12 +1,14 @@
 // The sections of `backup.info`.
-ghost use Rattle.std.specs.Prelude.{◌≡◌, map, codes, IfOk};
+ghost use Rattle.std.specs.Prelude.{◌≡◌, map, IfOk};
 ghost use Rattle.std.specs.List.{AllByRecursion};
 ghost use Rattle.serde_json.specs.View.{view};
 ghost use Rattle.base_model.specs.Fields.{by_key, section};
-ghost use Rattle.base_model.specs.InfoFiles.{cluster_field, cluster_fields, entry_field, backup_sections, IsBackupInfo, info_limit};
+ghost use Rattle.base_model.specs.InfoFiles.{cluster_field, cluster_fields, backup_sections, IsBackupInfo, info_limit};
 ghost use Rattle.base_model.specs.Values.{entry_of, backup_info_of};
 ghost use Rattle.repo_ini.specs.Parts.{section_of, sections_of};
-ghost use Rattle.repo_info.specs.Entries.{HasLabels};
+ghost use Rattle.repo_keys.specs.Agree.{db_history, StatesSection};
+ghost use Rattle.repo_info.specs.BackupForm.{backup_current};
+ghost use Rattle.repo_info.specs.Entries.{HasLabels, entry_fields};
 
 use crate::entries::entry_value;
 use crate::info::Info;
@@ -20,10 +22,7 @@ use std::alloc::Global;
 
 fn listed_part(alloc: Global, backups: &[Entry]) -> Result<Part, NoMemory>
     requires { AllByRecursion (λ e. HasLabels (entry_of e)) backups.now }
-    ensures { IfOk result (λ p. section_of p ≡ record {
-      name = codes "backup:current";
-      keys = map entry_field (map entry_of backups.now);
-    }) }
+    ensures { IfOk result (StatesSection backup_current (entry_fields backups.now)) }
 {
     let mut part = Part::new(alloc, "backup:current")?;
     for e in backups {
@@ -37,8 +36,7 @@ fn listed_part(alloc: Global, backups: &[Entry]) -> Result<Part, NoMemory>
 // No section, where no backup is listed.
 fn listed_parts(alloc: Global, backups: &[Entry]) -> Result<Vec<Part>, NoMemory>
     requires { AllByRecursion (λ e. HasLabels (entry_of e)) backups.now }
-    ensures { IfOk result (λ ps. sections_of ps.items ≡ section (codes "backup:current")
-        (map entry_field (map entry_of backups.now))) }
+    ensures { IfOk result (λ ps. sections_of ps.items ≡ section backup_current (entry_fields backups.now)) }
 {
     let mut parts = Vec::new(alloc);
     if backups.is_empty() {
@@ -84,10 +82,7 @@ pub fn cluster_part(alloc: Global, name: &str, c: &Cluster) -> Result<Part, NoMe
 }
 
 fn history_part(alloc: Global, history: &[Cluster]) -> Result<Part, NoMemory>
-    ensures { IfOk result (λ p. section_of p ≡ record {
-      name = codes "db:history";
-      keys = by_key (map cluster_field history.now);
-    }) }
+    ensures { IfOk result (StatesSection db_history (by_key (map cluster_field history.now))) }
 {
     let mut part = Part::new(alloc, "db:history")?;
     for c in history {

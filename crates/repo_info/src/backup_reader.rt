@@ -1,15 +1,13 @@
 // From a text to the value of `backup.info`.
-ghost use Rattle.std.specs.Prelude.{◌≡◌, ◌<◌, ◌≤◌, ◌^◌, List, map, max, length, IfOk, IfErr, IfSome, IfNone, refl, true, false};
+ghost use Rattle.std.specs.Prelude.{◌≡◌, ◌<◌, ◌^◌, map, length, IfOk, IfErr, refl};
 ghost use Rattle.std.proofs.Common.{lit<};
 ghost use Rattle.std.specs.List.{AllByRecursion};
-ghost use Rattle.base_model.specs.Text.{In};
-ghost use Rattle.base_model.specs.InfoText.{Section, IsKey, IsSection, IsInfo, info_text};
+ghost use Rattle.base_model.specs.InfoText.{Section, IsInfo, info_text};
 ghost use Rattle.base_model.specs.InfoFiles.{backup_sections, IsBackupInfo, IsBackupText};
 ghost use Rattle.base_model.specs.Values.{backup_info_of, entry_of, BackupInfo as SpecBackupInfo};
-ghost use Rattle.repo_ini.specs.Parts.{key_of, section_of, sections_of};
+ghost use Rattle.repo_ini.specs.Parts.{sections_of};
 ghost use Rattle.repo_keys.specs.Fault.{IfForm};
-ghost use Rattle.repo_keys.specs.Agree.{IsOrdered, IsKeysOf};
-ghost use Rattle.repo_info.specs.BackupForm.{backup_names, highest, IsBackupForm};
+ghost use Rattle.repo_info.specs.BackupForm.{highest, IsBackupForm};
 
 use crate::backup_current::current_of;
 use crate::fault::MemberFault;
@@ -21,8 +19,7 @@ use crate::texts::sections_in;
 use base_model::{BackupInfo, Entry};
 use base_text::NoMemory;
 use repo_ini::Part;
-use repo_keys::{PartsFault, form, keys_at, part_of};
-use serde_json::Value;
+use repo_keys::{PartsFault, check_names, form, keys_at, part_of};
 use std::alloc::Global;
 
 // The highest history number of the backups, or 0.
@@ -38,37 +35,7 @@ fn highest(backups: &[Entry]) -> u32
     number
 }
 
-fn is_section(name: &str) -> bool
-    ensures model { result ≡ true → In name.now backup_names }
-    ensures other { result ≡ false → ¬ In name.now backup_names }
-{
-    name == "backup:current" || name == "db" || name == "db:history"
-}
-
-// The first section that no value has.
-fn foreign_part<'a>(parts: &'a [Part]) -> Option<&'a Part>
-    ensures some { IfSome result (λ p. In (section_of p.now) (sections_of parts.now)
-        × ¬ In (section_of p.now).name backup_names) }
-    ensures none { IfNone result ((s : Section) → In s (sections_of parts.now) → In s.name backup_names) }
-{
-    for part in parts {
-        if !is_section(part.name.as_str()) {
-            return Some(part);
-        }
-    }
-    None
-}
-
-// The fault of a section that no value has, at its first key.
-fn foreign(alloc: Global, parts: &[Part], part: &Part) -> PartsFault
-    requires info { IsInfo (sections_of parts.now) }
-    requires found { In (section_of part.now) (sections_of parts.now) }
-    requires other { ¬ In (section_of part.now).name backup_names }
-    ensures { IfForm result (IsBackupForm (sections_of parts.now)) }
-{
-    let k = &part.keys[0];
-    form(alloc, part.name.as_str(), k.0.as_str())
-}
+const NAMES: &[&str] = &["backup:current", "db", "db:history"];
 
 // The value of sections.
 fn backup_of(alloc: Global, parts: &[Part]) -> Result<BackupInfo, PartsFault>
@@ -85,9 +52,7 @@ fn backup_of(alloc: Global, parts: &[Part]) -> Result<BackupInfo, PartsFault>
     };
     let least = highest(&backups).max(current.id);
     let history = history_of(alloc, past, &current, least)?;
-    if let Some(part) = foreign_part(parts) {
-        return Err(foreign(alloc, parts, part));
-    }
+    check_names(alloc, parts, NAMES)?;
     Ok(BackupInfo {
         current: current.id,
         history,

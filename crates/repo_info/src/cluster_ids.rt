@@ -5,6 +5,8 @@ ghost use Rattle.base_model.specs.declared.clusters.ClusterId.{ClusterId};
 ghost use Rattle.base_model.specs.Json.{IsValue};
 ghost use Rattle.base_model.specs.Fields.{whole};
 ghost use Rattle.base_model.specs.InfoFiles.{IsClusterId, cluster_id_field, version_value};
+ghost use Rattle.repo_info.specs.ArchiveForm.{own_id};
+ghost use Rattle.repo_info.specs.History.{StatesCluster, StatesNone, ClusterIs};
 
 use crate::archive_info::cluster_value;
 use crate::history::Numbered;
@@ -17,8 +19,7 @@ use std::alloc::Global;
 // The cluster that these members state, where the value is that of a cluster.
 fn identity_in(id: u32, value: &Value) -> Option<ClusterId>
     ensures rules { IfSome result (λ c. IsClusterId c × (c.id ≡ id)) }
-    ensures only { (c : ClusterId) → IsClusterId c → c.id ≡ id → view value.now ≡ (cluster_id_field c).1
-        → result ≡ Some c }
+    ensures only { ClusterIs IsClusterId own_id cluster_id_field id (view value.now) result }
 {
     let system = whole_of(value.get("db-id")?)?;
     let version = version_of(value.get("db-version")?)?;
@@ -32,11 +33,8 @@ fn identity_in(id: u32, value: &Value) -> Option<ClusterId>
 // The cluster of a history whose value this is.
 fn cluster_of(alloc: Global, id: u32, value: &Value) -> Result<Option<ClusterId>, NoMemory>
     requires { IsValue (view value.now) }
-    ensures some { IfOk result
-        (λ o. IfSome o (λ c. IsClusterId c × (c.id ≡ id) × (view value.now ≡ (cluster_id_field c).1))) }
-    ensures none { IfOk result
-        (λ o. IfNone o ((c : ClusterId) → IsClusterId c → c.id ≡ id
-        → view value.now ≢ (cluster_id_field c).1)) }
+    ensures some { IfOk result (λ o. IfSome o (StatesCluster IsClusterId own_id cluster_id_field id (view value.now))) }
+    ensures none { IfOk result (λ o. IfNone o (StatesNone IsClusterId own_id cluster_id_field id (view value.now))) }
 {
     let Some(cluster) = identity_in(id, value) else {
         return Ok(None);
@@ -52,7 +50,7 @@ fn cluster_of(alloc: Global, id: u32, value: &Value) -> Result<Option<ClusterId>
 impl Numbered for ClusterId {
     ghost IsOne = { IsClusterId };
 
-    ghost number_of = { λ c. c.id };
+    ghost number_of = { own_id };
 
     ghost field = { cluster_id_field };
 

@@ -5,6 +5,8 @@ ghost use Rattle.base_model.specs.declared.clusters.Cluster.{Cluster};
 ghost use Rattle.base_model.specs.Json.{IsValue};
 ghost use Rattle.base_model.specs.Fields.{whole};
 ghost use Rattle.base_model.specs.InfoFiles.{IsCluster, cluster_field};
+ghost use Rattle.repo_info.specs.BackupForm.{own_id};
+ghost use Rattle.repo_info.specs.History.{StatesCluster, StatesNone, ClusterIs};
 
 use crate::backup_info::cluster_value;
 use crate::history::Numbered;
@@ -17,8 +19,7 @@ use std::alloc::Global;
 // The cluster that these members state, where the value is that of a cluster.
 fn members_in(id: u32, value: &Value) -> Option<Cluster>
     ensures rules { IfSome result (λ c. IsCluster c × (c.id ≡ id)) }
-    ensures only { (c : Cluster) → IsCluster c → c.id ≡ id → view value.now ≡ (cluster_field c).1
-        → result ≡ Some c }
+    ensures only { ClusterIs IsCluster own_id cluster_field id (view value.now) result }
 {
     let catalog = small_of(value.get("db-catalog-version")?)?;
     let control = small_of(value.get("db-control-version")?)?;
@@ -36,10 +37,8 @@ fn members_in(id: u32, value: &Value) -> Option<Cluster>
 // The cluster of a history whose value this is.
 fn cluster_of(alloc: Global, id: u32, value: &Value) -> Result<Option<Cluster>, NoMemory>
     requires { IsValue (view value.now) }
-    ensures some { IfOk result
-        (λ o. IfSome o (λ c. IsCluster c × (c.id ≡ id) × (view value.now ≡ (cluster_field c).1))) }
-    ensures none { IfOk result
-        (λ o. IfNone o ((c : Cluster) → IsCluster c → c.id ≡ id → view value.now ≢ (cluster_field c).1)) }
+    ensures some { IfOk result (λ o. IfSome o (StatesCluster IsCluster own_id cluster_field id (view value.now))) }
+    ensures none { IfOk result (λ o. IfNone o (StatesNone IsCluster own_id cluster_field id (view value.now))) }
 {
     let Some(cluster) = members_in(id, value) else {
         return Ok(None);
@@ -55,7 +54,7 @@ fn cluster_of(alloc: Global, id: u32, value: &Value) -> Result<Option<Cluster>, 
 impl Numbered for Cluster {
     ghost IsOne = { IsCluster };
 
-    ghost number_of = { λ c. c.id };
+    ghost number_of = { own_id };
 
     ghost field = { cluster_field };
 

@@ -1,12 +1,12 @@
 // The values of listed backups.
-ghost use Rattle.std.specs.Prelude.{◌≡◌, codes, map, IfOk, OnOk, IfSome};
+ghost use Rattle.std.specs.Prelude.{◌≡◌, map, IfOk, OnOk, IfSome};
 ghost use Rattle.std.specs.List.{AllByRecursion};
-ghost use Rattle.serde_json.specs.Data.{string, put};
+ghost use Rattle.serde_json.specs.Data.{string};
 ghost use Rattle.serde_json.specs.View.{view, members_view};
-ghost use Rattle.base_model.specs.Fields.{whole, list_of, or_null};
-ghost use Rattle.base_model.specs.InfoFiles.{IsLabel, label_value, segment_value, kind_text, entry_field};
+ghost use Rattle.base_model.specs.Fields.{list_of, or_null};
+ghost use Rattle.base_model.specs.InfoFiles.{IsLabel, label_value, kind_text, entry_field};
 ghost use Rattle.base_model.specs.Values.{entry_of};
-ghost use Rattle.repo_info.specs.Entries.{HasLabels};
+ghost use Rattle.repo_info.specs.Entries.{HasLabels, start_value, stop_value, with_log, with_sizes, with_others, with_times};
 
 use base_model::{BackupKind, Entry, Label, Span};
 use base_text::NoMemory;
@@ -37,7 +37,7 @@ fn prior_value(alloc: Global, prior: Option<Label>) -> Result<Value, NoMemory>
 }
 
 fn start_value(alloc: Global, span: Option<Span>) -> Result<Value, NoMemory>
-    ensures { IfOk result (λ v. view v ≡ or_null (λ s. segment_value s.start) span) }
+    ensures { IfOk result (λ v. view v ≡ start_value span) }
 {
     match span {
         Some(span) => Ok(Value::String(segment_text(alloc, &span.start)?)),
@@ -46,7 +46,7 @@ fn start_value(alloc: Global, span: Option<Span>) -> Result<Value, NoMemory>
 }
 
 fn stop_value(alloc: Global, span: Option<Span>) -> Result<Value, NoMemory>
-    ensures { IfOk result (λ v. view v ≡ or_null (λ s. segment_value s.stop) span) }
+    ensures { IfOk result (λ v. view v ≡ stop_value span) }
 {
     match span {
         Some(span) => Ok(Value::String(segment_text(alloc, &span.stop)?)),
@@ -70,10 +70,7 @@ fn add_log(
     members: &mut Map<String, Value>,
     span: Option<Span>,
 ) -> Result<(), NoMemory>
-    ensures { OnOk result (members_view members.new.entries
-        ≡ put (codes "backup-archive-stop") (or_null (λ s. segment_value s.stop) span)
-        (put (codes "backup-archive-start") (or_null (λ s. segment_value s.start) span)
-        (members_view members.old.entries))) }
+    ensures { OnOk result (members_view members.new.entries ≡ with_log span (members_view members.old.entries)) }
 {
     put(
         members,
@@ -91,9 +88,7 @@ fn add_log(
 }
 
 fn add_sizes(alloc: Global, members: &mut Map<String, Value>, e: &Entry) -> Result<(), NoMemory>
-    ensures { OnOk result (members_view members.new.entries
-        ≡ put (codes "backup-info-size") (whole e.now.size)
-        (put (codes "backup-info-repo-size-delta") (whole e.now.stored) (members_view members.old.entries))) }
+    ensures { OnOk result (members_view members.new.entries ≡ with_sizes e.now (members_view members.old.entries)) }
 {
     put(
         members,
@@ -108,9 +103,7 @@ fn add_sizes(alloc: Global, members: &mut Map<String, Value>, e: &Entry) -> Resu
 // The backups on which this one rests.
 fn add_others(alloc: Global, members: &mut Map<String, Value>, e: &Entry) -> Result<(), NoMemory>
     requires { HasLabels (entry_of e.now) }
-    ensures { OnOk result (members_view members.new.entries
-        ≡ put (codes "backup-reference") (list_of (map label_value e.now.references.items))
-        (put (codes "backup-prior") (or_null label_value e.now.prior) (members_view members.old.entries))) }
+    ensures { OnOk result (members_view members.new.entries ≡ with_others e.now (members_view members.old.entries)) }
 {
     put(members, alloc, "backup-prior", prior_value(alloc, e.prior)?)?;
     put(
@@ -123,9 +116,7 @@ fn add_others(alloc: Global, members: &mut Map<String, Value>, e: &Entry) -> Res
 }
 
 fn add_times(alloc: Global, members: &mut Map<String, Value>, e: &Entry) -> Result<(), NoMemory>
-    ensures { OnOk result (members_view members.new.entries
-        ≡ put (codes "backup-timestamp-stop") (whole e.now.stop)
-        (put (codes "backup-timestamp-start") (whole e.now.start) (members_view members.old.entries))) }
+    ensures { OnOk result (members_view members.new.entries ≡ with_times e.now (members_view members.old.entries)) }
 {
     put(
         members,

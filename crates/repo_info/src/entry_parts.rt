@@ -1,5 +1,5 @@
 // The parts of a listed backup's value.
-ghost use Rattle.std.specs.Prelude.{◌≡◌, ◌≢◌, ◌≤◌, ◌<◌, ◌^◌, ℕ, List, Option, Some, map, true, IfOk, IfSome, IfNone, option_map};
+ghost use Rattle.std.specs.Prelude.{◌≡◌, ◌≢◌, ◌≤◌, ◌<◌, ◌^◌, ℕ, Option, Some, map, true, IfOk, IfSome, IfNone};
 ghost use Rattle.std.specs.List.{AllByRecursion};
 ghost use Rattle.serde_json.specs.View.{view};
 ghost use Rattle.serde_json.specs.Find.{get};
@@ -8,10 +8,10 @@ ghost use Rattle.base_model.specs.declared.labels.Label.{Label};
 ghost use Rattle.base_model.specs.declared.wal.Segment.{Segment};
 ghost use Rattle.base_model.specs.declared.wal.Span.{Span};
 ghost use Rattle.base_devices.specs.States.{last_second};
-ghost use Rattle.base_model.specs.Fields.{whole, list_of, or_null};
+ghost use Rattle.base_model.specs.Fields.{whole, or_null};
 ghost use Rattle.base_model.specs.Names.{label_text};
 ghost use Rattle.base_model.specs.InfoFiles.{IsLabel, IsSegment, label_value, segment_value};
-ghost use Rattle.repo_info.specs.Entries.{between};
+ghost use Rattle.repo_info.specs.Entries.{between, SpanIs, LabelsAre};
 
 use base_model::{Label, Segment, Span};
 use base_text::NoMemory;
@@ -69,9 +69,7 @@ fn between(start: Option<Segment>, stop: Option<Segment>) -> Option<Option<Span>
 
 /// The segments between which the log of a backup lies, or none where both ends are null.
 pub(crate) fn span_in(start: &Value, stop: &Value) -> Option<Option<Span>>
-    ensures { (o : Option Span) → IfSome o (λ s. IsSegment s.start × IsSegment s.stop)
-        → view start.now ≡ or_null (λ s. segment_value s.start) o
-        → view stop.now ≡ or_null (λ s. segment_value s.stop) o → result ≡ Some o }
+    ensures { SpanIs (view start.now) (view stop.now) result }
 {
     let first = end_in(start)?;
     let last = end_in(stop)?;
@@ -81,8 +79,7 @@ pub(crate) fn span_in(start: &Value, stop: &Value) -> Option<Option<Span>>
 /// The labels that this value lists.
 pub(crate) fn labels_in(alloc: Global, value: &Value) -> Result<Option<Vec<Label>>, NoMemory>
     ensures some { IfOk result (λ o. IfSome o (λ v. AllByRecursion IsLabel v.items)) }
-    ensures only { IfOk result (λ o. (ls : List Label) → AllByRecursion IsLabel ls
-        → view value.now ≡ list_of (map label_value ls) → option_map (λ v. v.items) o ≡ Some ls) }
+    ensures only { IfOk result (LabelsAre (view value.now)) }
 {
     let Some(items) = value.as_array() else {
         return Ok(None);

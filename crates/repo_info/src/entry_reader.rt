@@ -1,5 +1,5 @@
 // Reads listed backups.
-ghost use Rattle.std.specs.Prelude.{◌≡◌, ◌≢◌, ◌≤◌, ◌<◌, ◌^◌, Some, map, true, IfOk, IfSome, IfNone, option_map};
+ghost use Rattle.std.specs.Prelude.{◌≡◌, ◌≤◌, ◌<◌, ◌^◌, Some, map, true, IfOk, IfSome, IfNone};
 ghost use Rattle.std.specs.List.{AllByRecursion};
 ghost use Rattle.std.specs.Option.{option_map_or};
 ghost use Rattle.serde_json.specs.View.{view};
@@ -9,7 +9,7 @@ ghost use Rattle.base_devices.specs.States.{last_second};
 ghost use Rattle.base_model.specs.Names.{label_text};
 ghost use Rattle.base_model.specs.InfoFiles.{IsLabel, label_kind, entry_field};
 ghost use Rattle.base_model.specs.Values.{entry_of, Entry as SpecEntry};
-ghost use Rattle.repo_info.specs.Entries.{IsEntry};
+ghost use Rattle.repo_info.specs.Entries.{IsEntry, numbers_of, ReferencesAre, EntryIs, StatesEntry, StatesNoEntry};
 
 use crate::entries::entry_value;
 use crate::entry_parts::{are_in_order, labels_in, prior_in, second_in, span_in};
@@ -34,8 +34,7 @@ fn numbers_in(value: &Value) -> Option<Numbers>
     ensures db { IfSome result (λ n. 1 ≤ n.db) }
     ensures start { IfSome result (λ n. n.start ≤ last_second) }
     ensures stop { IfSome result (λ n. n.stop ≤ last_second) }
-    ensures only { (e : SpecEntry) → IsEntry e → view value.now ≡ (entry_field e).1
-        → result ≡ Some (record { db = e.db; start = e.start; stop = e.stop; size = e.size; stored = e.stored }) }
+    ensures only { (e : SpecEntry) → IsEntry e → view value.now ≡ (entry_field e).1 → result ≡ Some (numbers_of e) }
 {
     let stored = whole_of(value.get("backup-info-repo-size-delta")?)?;
     let size = whole_of(value.get("backup-info-size")?)?;
@@ -71,8 +70,7 @@ fn base_in(value: &Value) -> Option<Option<Label>>
 fn references_in(alloc: Global, value: &Value) -> Result<Option<Vec<Label>>, NoMemory>
     ensures rules { IfOk result (λ o. IfSome o (λ v. AllByRecursion IsLabel v.items)) }
     ensures order { IfOk result (λ o. IfSome o (λ v. are_in_order (map label_text v.items) ≡ true)) }
-    ensures only { IfOk result (λ o. (e : SpecEntry) → IsEntry e → view value.now ≡ (entry_field e).1
-        → option_map (λ v. v.items) o ≡ Some e.references) }
+    ensures only { IfOk result (ReferencesAre (view value.now)) }
 {
     let Some(value) = value.get("backup-reference") else {
         return Ok(None);
@@ -91,8 +89,7 @@ fn references_in(alloc: Global, value: &Value) -> Result<Option<Vec<Label>>, NoM
 fn entry_in(alloc: Global, label: &Label, value: &Value) -> Result<Option<Entry>, NoMemory>
     requires { IsLabel label.now }
     ensures rules { IfOk result (λ o. IfSome o (λ e. IsEntry (entry_of e) × (e.label ≡ label.now))) }
-    ensures only { IfOk result (λ o. (e : SpecEntry) → IsEntry e → e.label ≡ label.now
-        → view value.now ≡ (entry_field e).1 → option_map entry_of o ≡ Some e) }
+    ensures only { IfOk result (EntryIs label.now (view value.now)) }
 {
     let Some(span) = log_in(value) else {
         return Ok(None);
@@ -128,12 +125,8 @@ pub(crate) fn read_entry(
 ) -> Result<Option<Entry>, NoMemory>
     requires label { IsLabel label.now }
     requires value { IsValue (view value.now) }
-    ensures some { IfOk result
-        (λ o. IfSome o (λ e. IsEntry (entry_of e) × (e.label ≡ label.now)
-        × (view value.now ≡ (entry_field (entry_of e)).1))) }
-    ensures none { IfOk result
-        (λ o. IfNone o ((e : SpecEntry) → IsEntry e → e.label ≡ label.now
-        → view value.now ≢ (entry_field e).1)) }
+    ensures some { IfOk result (λ o. IfSome o (λ e. StatesEntry label.now (view value.now) (entry_of e))) }
+    ensures none { IfOk result (λ o. IfNone o (StatesNoEntry label.now (view value.now))) }
 {
     let Some(entry) = entry_in(alloc, label, value)? else {
         return Ok(None);

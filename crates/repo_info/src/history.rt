@@ -2,13 +2,10 @@
 ghost use Rattle.std.specs.Prelude.{◌≡◌, ◌≢◌, ◌⊎◌, ◌<◌, ◌≤◌, ◌^◌, ◌↔◌, ℕ, map, length, IfOk, IfErr, IfSome, IfNone, IsTrue, decimal};
 ghost use Rattle.serde_json.specs.View.{view};
 ghost use Rattle.base_model.specs.Json.{IsValue};
-ghost use Rattle.base_model.specs.Text.{In};
 ghost use Rattle.base_model.specs.InfoText.{IsSection};
 ghost use Rattle.base_model.specs.Fields.{Field, by_key};
 ghost use Rattle.repo_ini.specs.Parts.{keys_of, section_of};
-ghost use Rattle.repo_keys.specs.Fault.{IfForm};
-ghost use Rattle.repo_keys.specs.Agree.{db_history};
-ghost use Rattle.repo_info.specs.History.{AreNumbered, IsHistory, IsWrongHistory};
+ghost use Rattle.repo_info.specs.History.{AreNumbered, IsHistoryOf, IsHistoryFault, IsFieldFault, IsClusterAt, StatesCluster, StatesNone};
 
 use base_text::{NoMemory, decimal, read_decimal};
 use repo_ini::Part;
@@ -35,10 +32,8 @@ pub(crate) trait Numbered: Copy {
     /// The cluster of this number whose value this is.
     fn read(alloc: Global, number: u32, value: &Value) -> Result<Option<Self>, NoMemory>
         requires { IsValue (view value.now) }
-        ensures some { IfOk result
-            (λ o. IfSome o (λ c. IsOne c × (number_of c ≡ number) × (view value.now ≡ (field c).1))) }
-        ensures none { IfOk result
-            (λ o. IfNone o ((c : Self) → IsOne c → number_of c ≡ number → view value.now ≢ (field c).1)) };
+        ensures some { IfOk result (λ o. IfSome o (StatesCluster IsOne number_of field number (view value.now))) }
+        ensures none { IfOk result (λ o. IfNone o (StatesNone IsOne number_of field number (view value.now))) };
 }
 
 // The history number whose digits these are: no number is 0.
@@ -56,8 +51,7 @@ fn number_in(key: &str) -> Option<u32>
 fn check_entry<C: Numbered>(alloc: Global, key: &str, value: &Value) -> Result<(), PartsFault>
     requires laws { AreNumbered C.IsOne C.number_of C.field }
     requires value { IsValue (view value.now) }
-    ensures { IfErr result (λ e. IfForm e (λ section k. (section ≡ db_history) × (k ≡ key.now)
-        × ((c : C) → C.IsOne c → 1 ≤ C.number_of c → (key.now, view value.now) ≢ C.field c))) }
+    ensures { IfErr result (IsFieldFault C.IsOne C.number_of C.field (key.now, view value.now)) }
 {
     let Some(id) = number_in(key) else {
         return Err(form(alloc, "db:history", key));
@@ -77,8 +71,7 @@ fn check_entries<C: Numbered>(
 ) -> Result<(), PartsFault>
     requires laws { AreNumbered C.IsOne C.number_of C.field }
     requires rules { IsSection (section_of part.now) }
-    ensures { IfErr result (λ e. IfForm e (λ section key. (section ≡ db_history)
-        × IsWrongHistory C.IsOne C.number_of C.field current.now least (keys_of part.now) key)) }
+    ensures { IfErr result (IsHistoryFault C.IsOne C.number_of C.field current.now least part.now) }
 {
     for k in &part.keys {
         check_entry::<C>(alloc, k.0.as_str(), &k.1)?;
@@ -98,11 +91,8 @@ fn cluster_at<C: Numbered>(
     requires rules { IsSection (section_of part.now) }
     requires low { 1 ≤ number }
     requires high { (number ≤ length part.now.keys.items) ⊎ (number ≤ least) }
-    ensures cluster { IfOk result (λ c. (C.number_of c ≡ number) × C.IsOne c × In (C.field c) (keys_of part.now)
-        × (number ≡ C.number_of current.now → c ≡ current.now)) }
-    ensures fault { IfErr result
-        (λ e. IfForm e (λ section key. (section ≡ db_history)
-        × IsWrongHistory C.IsOne C.number_of C.field current.now least (keys_of part.now) key)) }
+    ensures cluster { IfOk result (IsClusterAt C.IsOne C.number_of C.field current.now part.now number) }
+    ensures fault { IfErr result (IsHistoryFault C.IsOne C.number_of C.field current.now least part.now) }
 {
     let key = decimal(alloc, number)?;
     let Some(id) = history_number(number) else {
@@ -131,12 +121,9 @@ pub(crate) fn history_of<C: Numbered>(
     requires rules { IsSection (section_of part.now) }
     requires low { 1 ≤ C.number_of current.now }
     requires under { C.number_of current.now ≤ least }
-    ensures history { IfOk result
-        (λ h. IsHistory C.IsOne C.number_of C.field current.now least (length (keys_of part.now)) h.items) }
+    ensures history { IfOk result (λ h. IsHistoryOf C.IsOne C.number_of C.field current.now least part.now h.items) }
     ensures keys { IfOk result (λ h. keys_of part.now ≡ by_key (map C.field h.items)) }
-    ensures fault { IfErr result
-        (λ e. IfForm e (λ section key. (section ≡ db_history)
-        × IsWrongHistory C.IsOne C.number_of C.field current.now least (keys_of part.now) key)) }
+    ensures fault { IfErr result (IsHistoryFault C.IsOne C.number_of C.field current.now least part.now) }
 {
     check_entries(alloc, part, current, least)?;
     clusters_of(alloc, part, current, least)
@@ -153,12 +140,9 @@ fn clusters_of<C: Numbered>(
     requires rules { IsSection (section_of part.now) }
     requires low { 1 ≤ C.number_of current.now }
     requires under { C.number_of current.now ≤ least }
-    ensures history { IfOk result
-        (λ h. IsHistory C.IsOne C.number_of C.field current.now least (length (keys_of part.now)) h.items) }
+    ensures history { IfOk result (λ h. IsHistoryOf C.IsOne C.number_of C.field current.now least part.now h.items) }
     ensures keys { IfOk result (λ h. keys_of part.now ≡ by_key (map C.field h.items)) }
-    ensures fault { IfErr result
-        (λ e. IfForm e (λ section key. (section ≡ db_history)
-        × IsWrongHistory C.IsOne C.number_of C.field current.now least (keys_of part.now) key)) }
+    ensures fault { IfErr result (IsHistoryFault C.IsOne C.number_of C.field current.now least part.now) }
 {
     let mut history = Vec::new(alloc);
     while history.len() < part.keys.len() || history.len() < least as usize {

@@ -8,7 +8,7 @@ ghost use Rattle.base_model.specs.InfoText.{IsKey};
 ghost use Rattle.base_model.specs.InfoFiles.{IsLabel, entry_field};
 ghost use Rattle.base_model.specs.Values.{entry_of, Entry as SpecEntry};
 ghost use Rattle.repo_ini.specs.Parts.{key_of};
-ghost use Rattle.repo_keys.specs.Fault.{IfForm};
+ghost use Rattle.repo_keys.specs.Fault.{IsFaultIn};
 ghost use Rattle.repo_keys.specs.Agree.{IsOrdered};
 ghost use Rattle.repo_info.specs.BackupForm.{backup_current, HasLabel, IsList, IsNext, IsWrongBackup};
 
@@ -69,8 +69,7 @@ pub(crate) fn listed_of(alloc: Global, keys: &[(String, Value)]) -> Result<Vec<E
     requires order { IsOrdered (map key_of keys.now) }
     ensures list { IfOk result (λ v. IsList (map entry_of v.items)) }
     ensures keys { IfOk result (λ v. map key_of keys.now ≡ map entry_field (map entry_of v.items)) }
-    ensures fault { IfErr result
-        (λ e. IfForm e (λ section key. (section ≡ backup_current) × IsWrongBackup (map key_of keys.now) key)) }
+    ensures fault { IfErr result (IsFaultIn backup_current (IsWrongBackup (map key_of keys.now))) }
 {
     let mut backups = Vec::new(alloc);
     for (i, k) in keys.iter().enumerate() {

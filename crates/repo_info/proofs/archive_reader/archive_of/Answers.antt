@@ -4,10 +4,12 @@ use Rattle.base_model.specs.declared.clusters.ClusterId.{ClusterId}
 use Rattle.base_model.specs.InfoText.{IsSection}
 use Rattle.base_model.specs.InfoFiles.{IsClusterId, cluster_id_field}
 use Rattle.repo_ini.specs.Parts.{section_of, sections_of}
-use Rattle.repo_info.specs.ArchiveForm.{IsArchiveForm, IsWrongCurrent}
+use Rattle.repo_info.specs.ArchiveForm.{section_names, IsArchiveForm, IsWrongCurrent}
 use Rattle.repo_keys.specs.Agree.{db as db_name, db_history}
 use Rattle.repo_info.specs.History.{IsWrongHistory}
-use Rattle.repo_info.proofs.ArchiveForms.{no_db, db_form, db_found, no_history, history_form, value_sections}
+use Rattle.repo_info.proofs.ArchiveForms.{foreign_form, no_db, db_form, db_found, no_history, history_form, value_sections}
+use Rattle.repo_keys.specs.Foreign.{IsForeignKey}
+use Rattle.repo_keys.proofs.Foreign.{foreign_as}
 use Rattle.repo_keys.proofs.Forms.{form_as, form_wide}
 use Rattle.repo_info.proofs.IdentityFields.{identities_are_numbered}
 use Rattle.repo_keys.proofs.Numbers.{all_in}
@@ -56,6 +58,13 @@ returns-in_err-history-clause-fault c =
     rw (p.1, p.2)
     (form_wide c.in_err-history.field-0.0 (λ s k. (s ≡ db_history) × IsWrongHistory IsClusterId (λ (c : ClusterId). c.id) cluster_id_field current current.id past.keys k) (IsArchiveForm ss) c.in_err-history.ensures.fault (λ s k h. history_form ss c.requires current is.0 there past s k at.0 at.1 h.0 h.1))
 
+pub returns-in_err-check_names-clause-fault : goal.returns-in_err-check_names-clause-fault
+returns-in_err-check_names-clause-fault c =
+    let ss = sections_of c.args.parts.now in
+    let p = err_from_is_err_and c.from_residual-in_err-check_names.result c.from_residual-in_err-check_names.ensures.1 in
+    rw (p.1, p.2)
+    (form_wide c.in_err-check_names.field-0.0 (IsForeignKey section_names ss) (IsArchiveForm ss) c.in_err-check_names.ensures.fault (foreign_as section_names ss (IsArchiveForm ss) (foreign_form ss c.requires)))
+
 pub returns-clause-sections : goal.returns-clause-sections
 returns-clause-sections c =
     let ss = sections_of c.args.parts.now in
@@ -64,4 +73,4 @@ returns-clause-sections c =
     let current = c.in_ok-current.current in
     let there = db_found ss (section_of c.in-Some.db.now) current found.0 found.1 is.2 in
     let at = c.in-Some-part_of.ensures.found in
-    value_sections ss c.requires current is.0 there (section_of c.in-Some-part_of.past.now) c.in_ok-history.history.items at.0 at.1 c.in_ok-history.ensures.history c.in_ok-history.ensures.keys is.1 c.in_default-foreign_part.ensures.none
+    value_sections ss c.requires current is.0 there (section_of c.in-Some-part_of.past.now) c.in_ok-history.history.items at.0 at.1 c.in_ok-history.ensures.history c.in_ok-history.ensures.keys is.1 c.in_ok-check_names.ensures.names

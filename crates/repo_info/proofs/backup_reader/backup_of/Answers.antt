@@ -9,10 +9,12 @@ use Rattle.base_model.specs.InfoFiles.{IsCluster, cluster_field}
 use Rattle.base_model.specs.Values.{entry_of}
 use Rattle.repo_ini.specs.Parts.{key_of, section_of, sections_of}
 use Rattle.repo_keys.specs.Agree.{db as db_name, db_history, IsKeysOf}
-use Rattle.repo_info.specs.BackupForm.{backup_current, highest, IsBackupForm, IsWrongBackup, IsWrongCluster}
+use Rattle.repo_info.specs.BackupForm.{backup_current, backup_names, highest, IsBackupForm, IsWrongBackup, IsWrongCluster}
 use Rattle.repo_info.specs.History.{IsWrongHistory}
-use Rattle.repo_info.proofs.BackupForms.{listed_form, db_form, no_history, history_form, value_rules, value_sections}
+use Rattle.repo_info.proofs.BackupForms.{foreign_form, listed_form, db_form, no_history, history_form, value_rules, value_sections}
 use Rattle.repo_info.proofs.ClusterFields.{clusters_are_numbered}
+use Rattle.repo_keys.specs.Foreign.{IsForeignKey}
+use Rattle.repo_keys.proofs.Foreign.{foreign_as}
 use Rattle.repo_keys.proofs.Forms.{form_as, form_wide}
 use Rattle.repo_keys.proofs.Numbers.{all_in}
 use Rattle.repo_info.proofs.backup_reader.backup_of.Goals as goal
@@ -78,6 +80,13 @@ returns-in_err-history-clause-fault c =
     (form_wide c.in_err-history.field-0.0 (λ s k. (s ≡ db_history) × IsWrongHistory IsCluster (λ (x : Cluster). x.id) cluster_field current c.max-least.result past.keys k) (IsBackupForm ss) c.in_err-history.ensures.fault
     (λ s k h. named_as ss s db_history k h.0 (history_form ss info es list of current cluster.0 cluster.1 has past at.0 at.1 few c.max-least.result number k h.1)))
 
+pub returns-in_err-check_names-clause-fault : goal.returns-in_err-check_names-clause-fault
+returns-in_err-check_names-clause-fault c =
+    let ss = sections_of c.args.parts.now in
+    let p = err_from_is_err_and c.from_residual-in_err-check_names.result c.from_residual-in_err-check_names.ensures.1 in
+    rw (p.1, p.2)
+    (form_wide c.in_err-check_names.field-0.0 (IsForeignKey backup_names ss) (IsBackupForm ss) c.in_err-check_names.ensures.fault (foreign_as backup_names ss (IsBackupForm ss) (foreign_form ss c.requires.info)))
+
 pub returns-clause-sections : goal.returns-clause-sections
 returns-clause-sections c =
     let ss = sections_of c.args.parts.now in
@@ -92,7 +101,7 @@ returns-clause-sections c =
     let at = c.in-Some.ensures.found in
     let few = all_in (λ (s : Section). length s.keys < 2 ^ 32) ss past c.requires.few at.0 in
     let number = c.max-least.ensures ∙ ap (λ (n : ℕ). max n current.id) (c.highest.ensures ∙ ap (λ (bs : List rust.Entry). highest (map entry_of bs)) c.deref.ensures.value) in
-    value_sections ss info es list of current cluster.0 cluster.1 has past at.0 at.1 few c.max-least.result number c.in_ok-history.history.items c.in_ok-history.ensures.history c.in_ok-history.ensures.keys c.in_default-foreign_part.ensures.none
+    value_sections ss info es list of current cluster.0 cluster.1 has past at.0 at.1 few c.max-least.result number c.in_ok-history.history.items c.in_ok-history.ensures.history c.in_ok-history.ensures.keys c.in_ok-check_names.ensures.names
 
 pub returns-clause-valid : goal.returns-clause-valid
 returns-clause-valid c =
@@ -108,4 +117,4 @@ returns-clause-valid c =
     let at = c.in-Some.ensures.found in
     let few = all_in (λ (s : Section). length s.keys < 2 ^ 32) ss past c.requires.few at.0 in
     let number = c.max-least.ensures ∙ ap (λ (n : ℕ). max n current.id) (c.highest.ensures ∙ ap (λ (bs : List rust.Entry). highest (map entry_of bs)) c.deref.ensures.value) in
-    value_rules ss info es list of current cluster.0 cluster.1 has past at.0 at.1 few c.max-least.result number c.in_ok-history.history.items c.in_ok-history.ensures.history c.in_ok-history.ensures.keys c.in_default-foreign_part.ensures.none
+    value_rules ss info es list of current cluster.0 cluster.1 has past at.0 at.1 few c.max-least.result number c.in_ok-history.history.items c.in_ok-history.ensures.history c.in_ok-history.ensures.keys c.in_ok-check_names.ensures.names

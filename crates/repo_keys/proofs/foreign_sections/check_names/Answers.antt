@@ -1,4 +1,3 @@
-use Rattle.std.proofs.Common.{sym}
 use Rattle.base_model.specs.InfoText.{IsSection}
 use Rattle.repo_ini.specs.Parts.{section_of, sections_of}
 use Rattle.repo_keys.specs.Foreign.{names_of, IsForeignKey}
