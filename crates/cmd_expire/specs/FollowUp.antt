@@ -1,8 +1,9 @@
 -- The expiry that follows a backup (option `expire-auto`), which is one command of the log with it.
-use Rattle.std.specs.Prelude.{◌≡◌, ◌≤◌, ◌++◌, ℕ, List, Option, Some, None, Result, IsSome, OnOk, OnErr}
+use Rattle.std.specs.Prelude.{◌≡◌, ◌≤◌, ◌++◌, ℕ, List, Option, Some, None, Result, IsSome, OnOk, OnErr, String, string_bytes}
+use Rattle.std.specs.declared.alloc.Global.{Global}
 use Rattle.base_devices.specs.Content.{Content}
 use Rattle.base_devices.specs.Moments.{View}
-use Rattle.base_devices.specs.States.{ClockState, last_second}
+use Rattle.base_devices.specs.States.{ClockState, DiskState, DiskFailed, last_second}
 use Rattle.base_model.specs.Now.{NowRepresents}
 use Rattle.base_model.specs.Repository.{Backup, Repository, IsSound}
 use Rattle.base_model.specs.Steps.{Turn, Command, MakeBackup, Expire, after, all_of, steps_of}
@@ -11,6 +12,7 @@ use Rattle.repo_pair.specs.declared.fault.InfoFault.{InfoFault}
 use Rattle.expire_rules.specs.declared.rules.FullRule.{FullRule}
 use Rattle.expire_rules.specs.declared.rules.FullRule.TheVariants.{Unset, Count, Days}
 use Rattle.expire_rules.specs.declared.rules.Rules.{Rules}
+use Rattle.expire_make.specs.declared.expiry_run.Expired.{Expired}
 use Rattle.expire_make.specs.declared.fault.ExpireFault.{ExpireFault}
 use Rattle.expire_make.specs.declared.fault.ExpireFault.TheVariants as expiries
 use Rattle.expire_make.specs.Expiry.{retention}
@@ -20,6 +22,7 @@ use Rattle.cmd_types.specs.DisksEffect.{DoesPart, DoesWhole}
 use Rattle.cmd_expire.specs.declared.fault.FollowUpFault.{FollowUpFault}
 use Rattle.cmd_expire.specs.declared.fault.FollowUpFault.TheVariants.{PairLost, HistoryDiffers, Repo, Clock, NoMemory}
 use Rattle.cmd_expire.specs.Pruning.{IsMoment, ShowsMoment, IsExpired}
+use Rattle.cmd_expire.specs.Texts.{lines_of}
 
 -- ---- which command it is
 
@@ -42,6 +45,15 @@ StaysSound stanza command now = (r : Repository) → IsSome now → NowRepresent
 abbrev pub AddsLines : Text → Rules → ℕ → Option Content → Option Content → Text → Text → Type 0
 AddsLines stanza rules moment old new lines new_lines = (rest : Text) × (new_lines ≡ lines ++ rest)
     × IsExpired stanza rules moment old new rest
+
+-- the lines that say what was removed are added
+abbrev pub AddsReport : Expired → String Global → String Global → Type 0
+AddsReport gone old new = string_bytes new ≡ string_bytes old ++ lines_of gone.labels.items gone.removed
+
+-- the same of an expiry at a moment
+abbrev pub AddsExpiry : Text → Rules → ℕ → DiskState → DiskState → String Global → String Global → Type 0
+AddsExpiry stanza rules moment old new lines new_lines =
+    AddsLines stanza rules moment old.view.now new.view.now (string_bytes lines) (string_bytes new_lines)
 
 -- by which moment the rules are read after a backup: where they count days, by a second that the clock showed; else it
 -- is 0
@@ -74,6 +86,11 @@ FollowUpCause stanza repo repo_rose clock_rose (HistoryDiffers at) =
 FollowUpCause stanza repo repo_rose clock_rose Repo = repo_rose
 FollowUpCause stanza repo repo_rose clock_rose Clock = clock_rose
 FollowUpCause stanza repo repo_rose clock_rose NoMemory = Unit {0}
+
+-- of the repository's two states
+abbrev pub FollowUpFails : Text → DiskState → DiskState → Type 0 → FollowUpFault → Type 0
+FollowUpFails stanza old new clock_rose fault =
+    FollowUpCause stanza old.view.now (DiskFailed old new) clock_rose fault
 
 -- the clock failed, or memory ran out
 abbrev pub ClockCause : Type 0 → FollowUpFault → Type 0

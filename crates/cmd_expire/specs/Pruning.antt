@@ -1,17 +1,22 @@
 -- What expire does (pgBackRest command reference, "Expire Command").
-use Rattle.std.specs.Prelude.{◌≡◌, ◌≤◌, ℕ, Bool, true, false, List, Option, Some, Result, IfOk, IfSome, IsSome, OnOk}
+use Rattle.std.specs.Prelude.{◌≡◌, ◌≤◌, ℕ, Bool, true, false, List, Option, Some, Result, IfOk, IfSome, IsSome, OnOk, length}
 use Rattle.base_devices.specs.Content.{Content}
 use Rattle.base_devices.specs.Moments.{View}
-use Rattle.base_devices.specs.States.{ClockState, ShowsSecond}
+use Rattle.base_devices.specs.States.{ClockState, DiskState, ShowsSecond}
 use Rattle.base_disk.specs.Store.{ChangesOnly}
 use Rattle.base_model.specs.declared.labels.Label.{Label}
+use Rattle.base_model.specs.declared.clusters.ArchiveInfo as rust_archive_info
+use Rattle.base_model.specs.declared.clusters.BackupInfo as rust_backup_info
 use Rattle.base_model.specs.Names.{backup_info}
 use Rattle.base_model.specs.Now.{NowRepresents}
 use Rattle.base_model.specs.Repository.{Stanza, IsSoundStanza}
 use Rattle.base_model.specs.Steady.{IsSteady, LeavesOnly}
 use Rattle.base_model.specs.Steps.{Command, Expire}
 use Rattle.base_model.specs.Text.{Text}
-use Rattle.base_model.specs.Values.{ArchiveInfo, BackupInfo}
+use Rattle.base_model.specs.Values.{ArchiveInfo, BackupInfo, archive_info_of, backup_info_of}
+use Rattle.repo_stanza.specs.HealingPair.{backup_text}
+use Rattle.repo_stanza.specs.Judging.{Validates}
+use Rattle.archive_store.specs.Still.{IsStill}
 use Rattle.repo_stanza.specs.Pairs.{AgreeAt, DifferFirst, HasPending, identities}
 use Rattle.expire_rules.specs.declared.rules.FullRule.{FullRule}
 use Rattle.expire_rules.specs.declared.rules.FullRule.TheVariants.{Unset, Count, Days}
@@ -23,7 +28,7 @@ use Rattle.cmd_types.specs.declared.stages.halt.Halt.{Halt}
 use Rattle.cmd_types.specs.declared.stages.outcome.Outcome.{Outcome}
 use Rattle.cmd_types.specs.declared.stages.plan.SyncScope.TheVariants.{Whole}
 use Rattle.cmd_types.specs.Reached.{OnFinished, reached_by}
-use Rattle.cmd_types.specs.DisksEffect.{RepoEffect}
+use Rattle.cmd_types.specs.DisksEffect.{OnNone, RepoEffect}
 use Rattle.cmd_expire.specs.declared.fault.ExpireCommandFault.{ExpireCommandFault}
 use Rattle.cmd_expire.specs.declared.fault.ExpireCommandFault.TheVariants.{HistoryDiffers}
 use Rattle.cmd_expire.specs.Faults.{expire_early}
@@ -94,3 +99,28 @@ pub record Prunes (stanza : Text) (rules : Rules) (clock new_clock : ClockState)
 abbrev pub Differs : ArchiveInfo → BackupInfo → ExpireCommandFault → Type 0
 Differs archive backup (HistoryDiffers at) = DifferFirst at archive.history (identities backup)
     × ¬ HasPending archive backup
+
+-- the list to which these values of the two pairs validate
+abbrev pub ValidatesTo : rust_archive_info.ArchiveInfo → rust_backup_info.BackupInfo → rust_backup_info.BackupInfo
+    → Type 0
+ValidatesTo archive backup list = Validates (archive_info_of archive) (backup_info_of backup) (backup_info_of list)
+
+-- the first one's text isn't longer than the second one's
+abbrev pub IsNoLonger : rust_backup_info.BackupInfo → rust_backup_info.BackupInfo → Type 0
+IsNoLonger list backup = length (backup_text (backup_info_of list)) ≤ length (backup_text (backup_info_of backup))
+
+-- ---- of a disk's two states
+
+-- an expiry at a moment goes through its steps, or a part of them
+abbrev pub DoesExpiry : Text → Rules → ℕ → DiskState → DiskState → Result Outcome (Halt ExpireCommandFault) → Type 0
+DoesExpiry stanza rules moment old new result = RepoEffect Whole stanza (Expire (retention rules moment))
+    (reached_by expire_early result) old.view new.view
+
+-- its lines say what was removed
+abbrev pub FinishesExpired : Text → Rules → ℕ → DiskState → DiskState → Outcome → Type 0
+FinishesExpired stanza rules moment old new outcome = OnFinished outcome
+    (IsExpired stanza rules moment old.view.now new.view.now)
+
+-- where it is refused, the disk stays as it was
+abbrev pub StaysIfRefused : DiskState → DiskState → Result Outcome (Halt ExpireCommandFault) → Type 0
+StaysIfRefused old new result = OnNone (reached_by expire_early result) (IsStill old.view new.view)

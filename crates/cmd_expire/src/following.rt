@@ -1,21 +1,17 @@
 // The expiry that follows a backup.
-ghost use Rattle.std.specs.Prelude.{◌≡◌, ◌∷◌, ◌++◌, [], ◌≤◌, false, IfOk, IfErr, OnOk, OnErr, string_bytes};
+ghost use Rattle.std.specs.Prelude.{◌≡◌, ◌∷◌, [], ◌≤◌, false, IfOk, IfErr, OnOk, OnErr, string_bytes};
 ghost use Rattle.std.specs.List.{AllByRecursion};
 ghost use Rattle.base_devices.specs.Cause.{Rises};
-ghost use Rattle.base_devices.specs.States.{CallsProperly};
+ghost use Rattle.base_devices.specs.States.{ClockFailed, CallsProperly};
 ghost use Rattle.base_disk.specs.Store.{ChangesOnly};
 ghost use Rattle.base_model.specs.InfoFiles.{IsLabel};
-ghost use Rattle.base_model.specs.Steps.{Expire};
 ghost use Rattle.base_crash_lists.specs.Beside.{StaysBeside};
-ghost use Rattle.expire_make.specs.Expiry.{retention};
+ghost use Rattle.expire_make.specs.Expiry.{ExpiresPart, ExpiresAll};
 ghost use Rattle.expire_make.specs.Losing.{MayExpire};
-ghost use Rattle.cmd_types.specs.declared.stages.plan.SyncScope.TheVariants.{Whole};
 ghost use Rattle.cmd_types.specs.Plans.{backup_lock};
-ghost use Rattle.cmd_types.specs.DisksEffect.{DoesPart, DoesWhole};
 ghost use Rattle.cmd_expire.specs.declared.fault.FollowUpFault.TheVariants.{NoMemory as WithoutMemory};
-ghost use Rattle.cmd_expire.specs.FollowUp.{AddsLines, FollowUpCause, ClockCause, Follows};
+ghost use Rattle.cmd_expire.specs.FollowUp.{AddsReport, AddsExpiry, FollowUpFails, ClockCause, Follows};
 ghost use Rattle.cmd_expire.specs.Pruning.{counts_days, ShowsMoment};
-ghost use Rattle.cmd_expire.specs.Texts.{lines_of};
 
 use crate::fault::{FollowUpFault, of_after};
 use crate::lines::lines_of;
@@ -43,8 +39,7 @@ fn moment_after<C: Clock>(clock: &mut C, rules: &Rules) -> Result<u64, FollowUpF
 // Adds the lines that say what was removed.
 fn add_lines(alloc: Global, gone: &Expired, lines: &mut String) -> Result<(), FollowUpFault>
     requires { AllByRecursion IsLabel gone.now.labels.items }
-    ensures adds { OnOk result (string_bytes lines.new
-        ≡ string_bytes lines.old ++ lines_of gone.now.labels.items gone.now.removed) }
+    ensures adds { OnOk result (AddsReport gone.now lines.old lines.new) }
     ensures stays { OnErr result (string_bytes lines.new ≡ string_bytes lines.old) }
     ensures starved { IfErr result (λ fault. fault ≡ WithoutMemory) }
 {
@@ -67,18 +62,15 @@ fn after_at<D: Disk>(
     moment: u64,
     lines: &mut String,
 ) -> Result<(), FollowUpFault>
-    ensures part { DoesPart Whole stanza.now (Expire (retention rules.now moment)) (D.state repo.old).view
-        (D.state repo.new).view }
-    ensures whole { OnOk result (DoesWhole Whole stanza.now (Expire (retention rules.now moment))
-        (D.state repo.old).view (D.state repo.new).view) }
-    ensures pruned { OnOk result (AddsLines stanza.now rules.now moment (D.state repo.old).view.now
-        (D.state repo.new).view.now (string_bytes lines.old) (string_bytes lines.new)) }
+    ensures part { ExpiresPart stanza.now rules.now moment (D.state repo.old) (D.state repo.new) }
+    ensures whole { OnOk result (ExpiresAll stanza.now rules.now moment (D.state repo.old) (D.state repo.new)) }
+    ensures pruned { OnOk result
+        (AddsExpiry stanza.now rules.now moment (D.state repo.old) (D.state repo.new) lines.old lines.new) }
     ensures stays { OnErr result (string_bytes lines.new ≡ string_bytes lines.old) }
     ensures only { ChangesOnly (MayExpire stanza.now) (D.state repo.old).view (D.state repo.new).view }
     ensures beside { StaysBeside stanza.now (D.state repo.old).view (D.state repo.new).view }
     ensures frame { CallsProperly (D.state repo.old) (D.state repo.new) }
-    ensures cause { IfErr result (FollowUpCause stanza.now (D.state repo.old).view.now
-        (Rises (D.state repo.old).faults (D.state repo.new).faults) ⊥) }
+    ensures cause { IfErr result (FollowUpFails stanza.now (D.state repo.old) (D.state repo.new) ⊥) }
 {
     match expire(alloc, repo, stanza, rules, moment) {
         Ok(gone) => add_lines(alloc, &gone, lines),
@@ -109,9 +101,8 @@ pub fn expire_after<D: Disk, C: Clock, K: Locks>(
     ensures frame { CallsProperly (D.state repo.old) (D.state repo.new) }
     ensures unread { counts_days rules.now.full ≡ false → clock.new ≡ clock.old }
     ensures later { (C.state clock.old).faults ≤ (C.state clock.new).faults }
-    ensures cause { IfErr result (FollowUpCause stanza.now (D.state repo.old).view.now
-        (Rises (D.state repo.old).faults (D.state repo.new).faults)
-        (Rises (C.state clock.old).faults (C.state clock.new).faults)) }
+    ensures cause { IfErr result (FollowUpFails stanza.now (D.state repo.old) (D.state repo.new)
+        (ClockFailed (C.state clock.old) (C.state clock.new))) }
 {
     let moment = moment_after(clock, rules)?;
     after_at(alloc, repo, stanza, rules, moment, lines)

@@ -29,7 +29,7 @@ mod moment;
 mod rules;
 mod texts;
 
-pub use expire_command::expire_stanza;
+pub use expire_command::{InfoValues, expire_stanza};
 pub use fault::{ExpireCommandFault, FollowUpFault};
 pub use following::expire_after;
 pub use rules::{kind_by, rules_of};

@@ -1,8 +1,6 @@
 // The moment by which the rules are read.
 ghost use Rattle.std.specs.Prelude.{◌≡◌, ◌≤◌, false, IfOk, IfErr};
-ghost use Rattle.base_devices.specs.Cause.{Rises};
-ghost use Rattle.cmd_types.specs.declared.stages.object.Object.TheVariants.{Clock as TheClock};
-ghost use Rattle.cmd_types.specs.Halts.{HaltCause, Never, Only};
+ghost use Rattle.cmd_expire.specs.Faults.{ClockHalts};
 ghost use Rattle.cmd_expire.specs.Pruning.{counts_days, ShowsMoment};
 
 use crate::fault::ExpireCommandFault;
@@ -18,8 +16,7 @@ pub(crate) fn moment_for<C: Clock>(
     ensures known { IfOk result (ShowsMoment rules.now.full (C.state clock.old) (C.state clock.new)) }
     ensures unread { counts_days rules.now.full ≡ false → clock.new ≡ clock.old }
     ensures later { (C.state clock.old).faults ≤ (C.state clock.new).faults }
-    ensures cause { IfErr result (HaltCause Never
-        (Only TheClock (Rises (C.state clock.old).faults (C.state clock.new).faults))) }
+    ensures cause { IfErr result (ClockHalts (C.state clock.old) (C.state clock.new)) }
 {
     match rules.full {
         FullRule::Unset | FullRule::Count(_) => Ok(0),

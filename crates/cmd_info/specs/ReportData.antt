@@ -8,8 +8,9 @@ use Rattle.base_model.specs.Fields.{whole, fields, list_of, or_null}
 use Rattle.base_model.specs.InfoFiles.{cluster_field, entry_field, label_value}
 use Rattle.base_model.specs.Names.{id_text}
 use Rattle.base_model.specs.Text.{Text}
-use Rattle.base_model.specs.Values.{ArchiveInfo, BackupInfo, Entry}
+use Rattle.base_model.specs.Values.{ArchiveInfo, BackupInfo, Entry, archive_info_of, backup_info_of}
 use Rattle.cmd_info.specs.declared.report.report.ArchivedName.{ArchivedName}
+use Rattle.cmd_info.specs.declared.report.report.Report.{Report}
 use Rattle.cmd_info.specs.Archived.{id_of, segments_under, least, greatest}
 
 -- an object with one key more
@@ -62,3 +63,11 @@ report_data stanza archive info archived = list_of (stanza_data stanza archive i
 -- one line, with its newline
 unfoldable pub report_json_of : Text → ArchiveInfo → BackupInfo → List ArchivedName → Text
 report_json_of stanza archive info archived = compact_text (report_data stanza archive info archived) ++ 10 ∷ []
+
+-- of what the code reports
+abbrev pub data_of_report : Report → Data
+data_of_report r = report_data r.stanza.now (archive_info_of r.archive.now) (backup_info_of r.info.now) r.archived.now
+
+abbrev pub json_of_report : Report → Text
+json_of_report r = report_json_of r.stanza.now (archive_info_of r.archive.now) (backup_info_of r.info.now)
+    r.archived.now

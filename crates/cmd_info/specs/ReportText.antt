@@ -7,8 +7,9 @@ use Rattle.base_model.specs.declared.wal.Span.{Span}
 use Rattle.base_model.specs.Names.{label_text, segment_text}
 use Rattle.base_model.specs.InfoFiles.{kind_text}
 use Rattle.base_model.specs.Text.{Text}
-use Rattle.base_model.specs.Values.{ArchiveInfo, BackupInfo, Entry}
+use Rattle.base_model.specs.Values.{ArchiveInfo, BackupInfo, Entry, archive_info_of, backup_info_of}
 use Rattle.cmd_info.specs.declared.report.report.ArchivedName.{ArchivedName}
+use Rattle.cmd_info.specs.declared.report.report.Report.{Report}
 use Rattle.cmd_info.specs.Archived.{id_of, segments_under, least, greatest}
 use Rattle.cmd_info.specs.Lines.{text_of_lines}
 use Rattle.cmd_info.specs.Moments.{moment}
@@ -55,6 +56,10 @@ cluster_lines current archived c =
     []
     ∷ (codes "    db (" ++ (cluster_word (is_current current c) ++ codes ")"))
     ∷ bounds_line archived c ∷ []
+
+-- of each cluster of a history, the current one last
+abbrev pub history_lines : ℕ → List ArchivedName → List ClusterId → List Text
+history_lines current archived history = flat_map (cluster_lines current archived) (shown_clusters current history)
 
 -- ---- its backups
 
@@ -104,3 +109,8 @@ report_lines stanza archive info archived =
 
 unfoldable pub report_text_of : Text → ArchiveInfo → BackupInfo → List ArchivedName → Text
 report_text_of stanza archive info archived = text_of_lines (report_lines stanza archive info archived)
+
+-- of what the code reports
+abbrev pub text_of_report : Report → Text
+text_of_report r = report_text_of r.stanza.now (archive_info_of r.archive.now) (backup_info_of r.info.now)
+    r.archived.now

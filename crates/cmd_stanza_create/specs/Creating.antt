@@ -1,11 +1,13 @@
 -- What stanza-create makes, and why it is refused.
-use Rattle.std.specs.Prelude.{◌≡◌, ◌⊎◌, ℕ, Bool, true, List, [], Option, IfSome, IsSome, String, string_bytes}
+use Rattle.std.specs.Prelude.{◌≡◌, ◌⊎◌, ℕ, Bool, true, List, [], Option, Some, option_map, IfSome, IsSome, Result, String, string_bytes}
 use Rattle.std.specs.declared.alloc.Global.{Global}
 use Rattle.base_devices.specs.Content.{Content}
+use Rattle.base_devices.specs.States.{DiskState, DiskFailed, ConnectionState, ServerFailed}
 use Rattle.base_model.specs.declared.labels.Label.{Label}
 use Rattle.base_model.specs.Text.{Text}
 use Rattle.base_model.specs.Names.{label_text}
 use Rattle.base_model.specs.Now.{HasNewPairs}
+use Rattle.base_model.specs.Steps.{StanzaCreate}
 use Rattle.repo_info.specs.declared.fault.MemberFault.{MemberFault}
 use Rattle.server_talk.specs.Reads.{IsOutside}
 use Rattle.repo_stanza.specs.declared.control.Control.{Control}
@@ -16,14 +18,20 @@ use Rattle.repo_stanza.specs.Causes.{CreateCause as StanzaCause}
 use Rattle.repo_stanza.specs.ControlFile.{first_cluster}
 use Rattle.repo_stanza.specs.Pairs.{LacksStanza, HasStanzaOf, PairsAgree}
 use Rattle.repo_stanza.specs.Unused.{IsUnused}
+use Rattle.archive_store.specs.Still.{IsStill}
 use Rattle.cmd_types.specs.declared.stages.object.Object.TheVariants.{Repo as TheRepo}
 use Rattle.cmd_types.specs.declared.stages.halt.Halt.{Halt}
 use Rattle.cmd_types.specs.declared.stages.halt.Halt.TheVariants.{Refused, Failed, NoMemory}
 use Rattle.cmd_types.specs.declared.stages.outcome.Outcome.{Outcome}
-use Rattle.cmd_types.specs.Reached.{OnFinished}
+use Rattle.cmd_types.specs.declared.stages.plan.SyncScope.TheVariants.{Whole}
+use Rattle.cmd_types.specs.Halts.{HaltCause, Only}
+use Rattle.cmd_types.specs.Reached.{OnFinished, reached_by}
+use Rattle.cmd_types.specs.Risen.{none, rose_in}
+use Rattle.cmd_types.specs.DisksEffect.{OnNone, RepoEffect}
+use Rattle.cmd_stanza_create.specs.declared.server.Server as code
 use Rattle.cmd_stanza_create.specs.declared.fault.CreateFault.{CreateFault}
 use Rattle.cmd_stanza_create.specs.declared.fault.CreateFault.TheVariants.{Server as Talked, InfoDamaged, HistoryDiffers, StanzaMismatch, ArchiveLost, FilesFound}
-use Rattle.cmd_stanza_create.specs.Server.{Server}
+use Rattle.cmd_stanza_create.specs.Server.{Server, server_view}
 use Rattle.cmd_stanza_create.specs.Talking.{ShowsFault}
 
 -- ---- at its end
@@ -69,3 +77,32 @@ abbrev pub CreateCause : Text → Control → Option Server → Option Content �
 CreateCause stanza known server repo pending (Talked fault) =
     IsSome server × ¬ IsOutside fault × ShowsFault known.system pending fault
 CreateCause stanza known server repo pending other = MakeCause stanza known repo other
+
+-- ---- what a call does to a disk
+
+-- the repository goes through the command's step, or a part of it
+abbrev pub CreatesStanza : Text → Control → DiskState → DiskState → Result Outcome (Halt CreateFault) → Type 0
+CreatesStanza stanza known old new result = RepoEffect Whole stanza (StanzaCreate (Some (first_cluster known)))
+    (reached_by create_early result) old.view new.view
+
+-- there is one
+abbrev pub HasCreated : Text → Control → DiskState → DiskState → Outcome → Type 0
+HasCreated stanza known old new outcome = IsCreated stanza known old.view.now new.view.now outcome
+
+-- where it is refused, the disk stays as it was
+abbrev pub StaysIfRefused : DiskState → DiskState → Result Outcome (Halt CreateFault) → Type 0
+StaysIfRefused old new result = OnNone (reached_by create_early result) (IsStill old.view new.view)
+
+-- why the stanza isn't made or kept
+abbrev pub StanzaFails : Text → Control → DiskState → DiskState → Halt CreateFault → Type 0
+StanzaFails stanza known old new = HaltCause (MakeCause stanza known old.view.now) (Only TheRepo (DiskFailed old new))
+
+-- why the command ends without its result
+abbrev pub CreateFails : Text → Control → Option code.Server → DiskState → DiskState → ConnectionState → ConnectionState
+    → Halt CreateFault → Type 0
+CreateFails stanza known asked repo new_repo connection new_connection = HaltCause
+    (CreateCause stanza known (option_map server_view asked) repo.view.now connection.pending)
+    (rose_in (record none {
+      repo = DiskFailed repo new_repo;
+      server = ServerFailed connection new_connection;
+    }))

@@ -1,5 +1,6 @@
 -- The talk with the server that stanza-create asks for its system (PostgreSQL manual, "Message Flow").
 use Rattle.std.specs.Prelude.{◌≡◌, ◌≤◌, ◌⊎◌, ℕ, List, ◌++◌, Option, Some, None, option_map, IfSome, IsSome, Result, Ok}
+use Rattle.base_devices.specs.States.{ConnectionState, ServerFailed}
 use Rattle.base_model.specs.Text.{Text}
 use Rattle.server_talk.specs.declared.session.fault.ServerFault.{ServerFault}
 use Rattle.server_talk.specs.declared.session.fault.ServerFault.TheVariants as server
@@ -10,9 +11,11 @@ use Rattle.server_talk.specs.System.{Shows, questions}
 use Rattle.cmd_types.specs.declared.stages.object.Object.TheVariants.{Server as TheServer}
 use Rattle.cmd_types.specs.declared.stages.halt.Halt.{Halt}
 use Rattle.cmd_types.specs.declared.stages.halt.Halt.TheVariants.{Refused, Failed, NoMemory}
+use Rattle.cmd_types.specs.Halts.{HaltCause, Only}
+use Rattle.cmd_stanza_create.specs.declared.server.Server as code
 use Rattle.cmd_stanza_create.specs.declared.fault.CreateFault.{CreateFault}
 use Rattle.cmd_stanza_create.specs.declared.fault.CreateFault.TheVariants.{Server as Talked}
-use Rattle.cmd_stanza_create.specs.Server.{Server, socket_path}
+use Rattle.cmd_stanza_create.specs.Server.{Server, server_view, socket_path}
 
 -- ---- what is said
 
@@ -26,6 +29,25 @@ Asks (Some s) place old new = (place ≡ socket_path s)
 abbrev pub Closes : Type 0 → Option (List ℕ) → Halt CreateFault → Type 0
 Closes rose new (Refused (Talked fault)) = Ended new ⊎ rose
 Closes rose new other = Unit {0}
+
+-- ---- the same of a call's two states of the connection
+
+-- the server was asked at this path, and the talk was ended
+abbrev pub AsksAt : Text → code.Server → ConnectionState → ConnectionState → Type 0
+AsksAt path s old new = (new.place ≡ path)
+    × (new.sent ≡ option_map (λ said. said ++ questions s.user.now s.database.now) old.sent)
+
+-- where one is asked
+abbrev pub AsksIfAny : Option code.Server → ConnectionState → ConnectionState → Type 0
+AsksIfAny asked old new = Asks (option_map server_view asked) new.place old.sent new.sent
+
+-- the talk was ended with the last message, or the connection failed
+abbrev pub EndsOrFails : ConnectionState → ConnectionState → Type 0
+EndsOrFails old new = Ended new.sent ⊎ ServerFailed old new
+
+-- where the server's answer ended it
+abbrev pub ClosesOrFails : ConnectionState → ConnectionState → Halt CreateFault → Type 0
+ClosesOrFails old new halt = Closes (ServerFailed old new) new.sent halt
 
 -- the statuses of a server's answer that is refused; 70 is also that of a file that is too long
 abbrev pub IsServerRefusal : ℕ → Type 0
@@ -54,3 +76,8 @@ server_halt fault = Refused (Talked fault)
 abbrev pub AskCause : Option Server → ℕ → Option (List ℕ) → CreateFault → Type 0
 AskCause asked system pending (Talked fault) = IsSome asked × ¬ IsOutside fault × ShowsFault system pending fault
 AskCause asked system pending other = ⊥
+
+-- why a call that asks it ends without its result
+abbrev pub AskFails : Option code.Server → ℕ → ConnectionState → ConnectionState → Halt CreateFault → Type 0
+AskFails asked system old new = HaltCause (AskCause (option_map server_view asked) system old.pending)
+    (Only TheServer (ServerFailed old new))

@@ -1,13 +1,9 @@
 // The server is asked for its system.
-ghost use Rattle.std.specs.Prelude.{◌≡◌, ◌≢◌, ◌≤◌, ◌⊎◌, ◌++◌, None, Some, option_map, OnOk, IfOk, IfErr, IfSome, string_bytes};
-ghost use Rattle.base_devices.specs.Cause.{Rises};
+ghost use Rattle.std.specs.Prelude.{◌≡◌, ◌≢◌, ◌≤◌, ◌⊎◌, None, Some, OnOk, IfOk, IfErr, IfSome, string_bytes};
 ghost use Rattle.server_talk.specs.declared.session.fault.ServerFault.TheVariants.{NoMemory as OutOfMemory};
 ghost use Rattle.server_talk.specs.Reads.{HasCause, IsOutside};
-ghost use Rattle.server_talk.specs.System.{questions};
-ghost use Rattle.cmd_types.specs.declared.stages.object.Object.TheVariants.{Server as TheServer};
-ghost use Rattle.cmd_types.specs.Halts.{HaltCause, Only};
 ghost use Rattle.cmd_stanza_create.specs.Server.{server_view, socket_path};
-ghost use Rattle.cmd_stanza_create.specs.Talking.{Asks, Ended, IsOf, ShowsFault, AskCause, Closes, server_halt};
+ghost use Rattle.cmd_stanza_create.specs.Talking.{IsOf, ShowsFault, AsksAt, AsksIfAny, EndsOrFails, ClosesOrFails, AskFails, server_halt};
 
 use crate::fault::CreateFault;
 use crate::server::Server;
@@ -43,8 +39,7 @@ fn part<V: ServerConnection>(
     fault: ServerFault,
 ) -> ServerFault
     ensures fault { (result ≡ fault) ⊎ (result ≡ OutOfMemory) }
-    ensures ended { result ≢ OutOfMemory → Ended (V.state connection.new).sent
-        ⊎ Rises (V.state connection.old).faults (V.state connection.new).faults }
+    ensures ended { result ≢ OutOfMemory → EndsOrFails (V.state connection.old) (V.state connection.new) }
     ensures later { (V.state connection.old).faults ≤ (V.state connection.new).faults }
 {
     match close(connection, session) {
@@ -63,13 +58,10 @@ fn talk<V: ServerConnection>(
     system: u64,
 ) -> Result<(), ServerFault>
     ensures same { OnOk result (IsOf system (V.state connection.old).pending) }
-    ensures asks { OnOk result (((V.state connection.new).place ≡ path.now)
-        × ((V.state connection.new).sent ≡ option_map
-        (λ said. said ++ questions server.now.user.now server.now.database.now)
-        (V.state connection.old).sent)) }
+    ensures asks { OnOk result (AsksAt path.now server.now (V.state connection.old) (V.state connection.new)) }
     ensures known { IfErr result (λ e. ¬ IsOutside e → ShowsFault system (V.state connection.old).pending e) }
-    ensures ended { IfErr result (λ e. ¬ IsOutside e →
-        Ended (V.state connection.new).sent ⊎ Rises (V.state connection.old).faults (V.state connection.new).faults) }
+    ensures ended { IfErr result
+        (λ e. ¬ IsOutside e → EndsOrFails (V.state connection.old) (V.state connection.new)) }
     ensures cause { HasCause (V.state connection.old).faults (V.state connection.new).faults result }
 {
     let mut session = match open(alloc, connection, path, server.user, server.database) {
@@ -89,14 +81,12 @@ fn ask_system<V: ServerConnection>(
     system: u64,
 ) -> Result<(), Halt<CreateFault>>
     ensures same { OnOk result (IsOf system (V.state connection.old).pending) }
-    ensures asks { OnOk result (Asks (Some (server_view server.now))
-        (V.state connection.new).place (V.state connection.old).sent (V.state connection.new).sent) }
-    ensures closed { IfErr result (Closes (Rises (V.state connection.old).faults (V.state connection.new).faults)
-        (V.state connection.new).sent) }
+    ensures asks { OnOk result
+        (AsksIfAny (Some server.now) (V.state connection.old) (V.state connection.new)) }
+    ensures closed { IfErr result (ClosesOrFails (V.state connection.old) (V.state connection.new)) }
     ensures later { (V.state connection.old).faults ≤ (V.state connection.new).faults }
-    ensures cause { IfErr result (HaltCause (AskCause (Some (server_view server.now)) system (V.state
-        connection.old).pending)
-        (Only TheServer (Rises (V.state connection.old).faults (V.state connection.new).faults))) }
+    ensures cause { IfErr result
+        (AskFails (Some server.now) system (V.state connection.old) (V.state connection.new)) }
 {
     let path = socket_path(alloc, server)?;
     match talk(alloc, connection, server, &path, system) {
@@ -114,14 +104,10 @@ pub(crate) fn check_server<V: ServerConnection>(
 ) -> Result<(), Halt<CreateFault>>
     ensures quiet { server.entry ≡ None → connection.new ≡ connection.old }
     ensures same { OnOk result (IfSome server.entry (λ _. IsOf system (V.state connection.old).pending)) }
-    ensures asks { OnOk result (Asks (option_map server_view server.entry)
-        (V.state connection.new).place (V.state connection.old).sent (V.state connection.new).sent) }
-    ensures closed { IfErr result (Closes (Rises (V.state connection.old).faults (V.state connection.new).faults)
-        (V.state connection.new).sent) }
+    ensures asks { OnOk result (AsksIfAny server.entry (V.state connection.old) (V.state connection.new)) }
+    ensures closed { IfErr result (ClosesOrFails (V.state connection.old) (V.state connection.new)) }
     ensures later { (V.state connection.old).faults ≤ (V.state connection.new).faults }
-    ensures cause { IfErr result (HaltCause (AskCause (option_map server_view server.entry) system
-        (V.state connection.old).pending)
-        (Only TheServer (Rises (V.state connection.old).faults (V.state connection.new).faults))) }
+    ensures cause { IfErr result (AskFails server.entry system (V.state connection.old) (V.state connection.new)) }
 {
     match server {
         Some(server) => ask_system(alloc, connection, &server, system),

@@ -1,6 +1,7 @@
 -- What the faults of the layers below become, and why a repository isn't looked at to its end.
 use Rattle.std.specs.Prelude.{Option}
 use Rattle.base_devices.specs.Content.{Content}
+use Rattle.base_devices.specs.States.{DiskState, DiskFailed}
 use Rattle.base_devices.specs.declared.device_error.DeviceError.{DeviceError}
 use Rattle.base_devices.specs.declared.device_error.DeviceError.TheVariants.{Failed, NoMemory as ErrorNoMemory}
 use Rattle.base_model.specs.Text.{Text}
@@ -32,3 +33,7 @@ abbrev pub VerifyCause : Text → Option Content → Type 0 → VerifyFault → 
 VerifyCause stanza now rose (TooMany limit) = AllCause stanza now rose (ManyFiles limit)
 VerifyCause stanza now rose Disk = rose
 VerifyCause stanza now rose NoMemory = Unit {0}
+
+-- why the calls on a disk ended with it
+abbrev pub VerifyFails : Text → DiskState → DiskState → VerifyFault → Type 0
+VerifyFails stanza old new fault = VerifyCause stanza old.view.now (DiskFailed old new) fault

@@ -1,7 +1,8 @@
 -- The segments that a backup needs, up to a place in the log.
-use Rattle.std.specs.Prelude.{◌≡◌, ℕ, ◌<◌, ◌≤◌, List}
+use Rattle.std.specs.Prelude.{◌≡◌, ◌⊎◌, ◌↔◌, ℕ, ◌<◌, ◌≤◌, List}
 use Rattle.base_model.specs.declared.wal.Segment.{Segment}
 use Rattle.base_model.specs.declared.wal.Span.{Span}
+use Rattle.base_model.specs.declared.wal.WalPart.{WalPart}
 use Rattle.base_model.specs.declared.wal.ArchiveId.{ArchiveId}
 use Rattle.base_model.specs.declared.wal.ArchiveName.TheVariants.{Segment as Whole}
 use Rattle.base_model.specs.Text.{Text, In}
@@ -17,6 +18,10 @@ IsNear span s = (s.timeline ≡ span.start.timeline) × (span.start.log ≤ s.lo
 -- the file is the whole segment under the id, and is near the span
 abbrev pub IsWhole : ArchiveId → Span → Stored → Segment → Type 0
 IsWhole id span file s = (file.id ≡ id) × (file.name ≡ Whole s) × IsNear span s
+
+-- its segment was added, where it is
+abbrev pub AddsWhole : ArchiveId → Span → Stored → List Segment → List Segment → Type 0
+AddsWhole id span file old new = (s : Segment) → In s new ↔ (In s old ⊎ IsWhole id span file s)
 
 -- one of the files is
 abbrev pub HasWhole : ArchiveId → Span → List Stored → Segment → Type 0
@@ -37,3 +42,7 @@ GapsBelow at stored size span k name what = ⊥
 abbrev pub Gaps : Text → List Segment → ℕ → Span → Text → What → Type 0
 Gaps at stored size span name (Gap s) = (name ≡ at) × IsWithinSpan size span s × ¬ In s stored
 Gaps at stored size span name what = ⊥
+
+-- of the log that a manifest states
+abbrev pub GapsOf : Text → List Segment → WalPart → Text → What → Type 0
+GapsOf at stored wal = Gaps at stored wal.size.0 wal.span

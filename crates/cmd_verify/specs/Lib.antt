@@ -13,3 +13,4 @@ pub mod Entries
 pub mod Sharing
 pub mod Verifying
 pub mod Texts
+pub mod Looking

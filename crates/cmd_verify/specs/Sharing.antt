@@ -1,13 +1,14 @@
 -- Which of several backups looks at a file that they share: the one in whose folder it lies.
-use Rattle.std.specs.Prelude.{◌≡◌, ◌↔◌, List, Some, None}
+use Rattle.std.specs.Prelude.{◌≡◌, ◌↔◌, List, map, Some, None}
 use Rattle.base_devices.specs.Content.{Content}
 use Rattle.base_model.specs.declared.labels.Label.{Label}
+use Rattle.base_model.specs.declared.files.FileEntry as rust_file_entry
 use Rattle.base_model.specs.Text.{Text, In}
 use Rattle.base_model.specs.Names.{manifest_name}
 use Rattle.base_model.specs.Log.{Lists}
 use Rattle.base_model.specs.ManifestText.{IsManifestText}
 use Rattle.base_model.specs.Pair.{PairIs}
-use Rattle.base_model.specs.Values.{FileEntry, Manifest}
+use Rattle.base_model.specs.Values.{FileEntry, Manifest, file_entry_of}
 use Rattle.cmd_verify.specs.What.{What}
 use Rattle.cmd_verify.specs.Adding.{OfSome}
 use Rattle.cmd_verify.specs.Findings.{EntryDeviates}
@@ -50,3 +51,7 @@ IsElsewhere stanza f name what = (r : Label) × Lists stanza f r × OwnDeviates 
 abbrev pub AreFilesOf : Text → Content → Label → List FileEntry → Type 0
 AreFilesOf stanza f r files = (e : FileEntry) → In e files → Lists stanza f r
     × ((m : Manifest) × PairIs IsManifestText f (manifest_name stanza r) m × In e m.files)
+
+-- one of these is the file, as the backup of the label has it
+abbrev pub HasAsOwn : Label → rust_file_entry.FileEntry → List rust_file_entry.FileEntry → Type 0
+HasAsOwn r file others = (other : FileEntry) × In other (map file_entry_of others) × IsOwn r (file_entry_of file) other

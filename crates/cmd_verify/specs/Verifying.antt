@@ -2,6 +2,7 @@
 use Rattle.std.specs.Prelude.{◌≡◌, ◌<◌, List, [], ◌∷◌, ◌++◌, length, codes, Bool, true, Option, IfSome, string_bytes}
 use Rattle.std.specs.List.{flat_map}
 use Rattle.base_devices.specs.Content.{Content}
+use Rattle.base_devices.specs.States.{DiskState, DiskFailed}
 use Rattle.base_model.specs.Text.{Text}
 use Rattle.base_model.specs.Repository.{Stanza, IsSoundStanza}
 use Rattle.base_model.specs.Represents.{HasStanza}
@@ -18,6 +19,7 @@ use Rattle.cmd_types.specs.declared.stages.halt.Halt.TheVariants.{Refused, Faile
 use Rattle.cmd_types.specs.declared.stages.object.Object.TheVariants.{Repo}
 use Rattle.cmd_types.specs.declared.stages.outcome.Outcome.{Outcome}
 use Rattle.cmd_types.specs.declared.stages.outcome.Outcome.TheVariants.{Finished, FindingsFound}
+use Rattle.cmd_types.specs.Halts.{HaltCause, Only}
 use Rattle.cmd_types.specs.Reached.{OnFinished}
 use Rattle.cmd_verify.specs.declared.command.fault.VerifyCommandFault.{VerifyCommandFault}
 use Rattle.cmd_verify.specs.declared.command.fault.VerifyCommandFault.TheVariants.{TooMany}
@@ -62,3 +64,7 @@ abbrev pub of_verify : VerifyFault → Halt VerifyCommandFault
 of_verify (verifies.TooMany limit) = Refused (TooMany limit)
 of_verify verifies.Disk = Failed Repo
 of_verify verifies.NoMemory = NoMemory
+
+-- why the command ends without its result
+abbrev pub VerifyCommandFails : Text → DiskState → DiskState → Halt VerifyCommandFault → Type 0
+VerifyCommandFails stanza old new = HaltCause (VerifyCommandCause stanza old.view.now) (Only Repo (DiskFailed old new))

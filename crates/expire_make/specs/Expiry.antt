@@ -1,21 +1,27 @@
 -- What retention rules are to a repository, and what an expiry does (pgBackRest command reference, "Expire").
-use Rattle.std.specs.Prelude.{◌≡◌, ℕ, true, false, List, Option, Some}
+use Rattle.std.specs.Prelude.{◌≡◌, ℕ, true, false, List, Option, Some, IsSome}
 use Rattle.base_devices.specs.Content.{Content}
 use Rattle.base_devices.specs.Moments.{View}
+use Rattle.base_devices.specs.States.{DiskState}
+use Rattle.base_disk.specs.Store.{ChangesOnly}
+use Rattle.base_model.specs.declared.labels.Label.{Label}
 use Rattle.base_model.specs.Text.{Text, In}
-use Rattle.base_model.specs.Values.{Entry}
-use Rattle.base_model.specs.Repository.{Archived, Backup, Stanza, Repository, current_number}
+use Rattle.base_model.specs.Values.{Entry, archive_info_of, backup_info_of}
+use Rattle.base_model.specs.Repository.{Archived, Backup, Stanza, Repository, IsSoundStanza, current_number}
 use Rattle.base_model.specs.Represents.{Represents, HasStanza}
 use Rattle.base_model.specs.Now.{NowRepresents}
-use Rattle.base_model.specs.Steady.{IsSteady, EachImage}
-use Rattle.base_model.specs.Steps.{Step, Condemn, Retention, IsPartOf, after, all_of, changed, expiry_moves}
+use Rattle.base_model.specs.Steady.{IsSteady, EachImage, LeavesOnly}
+use Rattle.base_model.specs.Steps.{Step, Condemn, Expire, Retention, IsPartOf, after, all_of, changed, expiry_moves}
+use Rattle.cmd_types.specs.declared.stages.plan.SyncScope.TheVariants.{Whole}
+use Rattle.cmd_types.specs.DisksEffect.{DoesPart, DoesWhole}
 use Rattle.expire_rules.specs.declared.rules.Rules.{Rules}
-use Rattle.expire_rules.specs.Condemned.{is_condemned}
+use Rattle.expire_rules.specs.Condemned.{is_condemned, condemned_labels}
 use Rattle.expire_rules.specs.Descent.{listed_in}
 use Rattle.expire_rules.specs.Labels.{labels_of}
 use Rattle.expire_rules.specs.Needed.{keeping_of, keeps_file}
+use Rattle.expire_make.specs.declared.expiry_plan.Planned.{Planned}
 use Rattle.expire_make.specs.Losing.{MayTouch}
-use Rattle.expire_make.specs.Planning.{keeps_by}
+use Rattle.expire_make.specs.Planning.{HoldsPlan, keeps_by}
 
 -- the stanza's backups as `backup.info` lists them
 abbrev pub listed : Stanza → List Entry
@@ -71,3 +77,41 @@ abbrev pub IsTouched : Text → Rules → ℕ → Stanza → Text → Type 0
 IsTouched stanza rules moment s name =
     let left = changed (Condemn (is_condemned rules moment (listed s))) s in
     MayTouch stanza (labels_of (listed left)) (keeps_by rules (current_number left) (listed left)) name
+
+-- ---- what a call does to a disk
+
+-- a part of the stanza's expiry, or all of it
+abbrev pub ExpiresPart : Text → Rules → ℕ → DiskState → DiskState → Type 0
+ExpiresPart stanza rules moment old new = DoesPart Whole stanza (Expire (retention rules moment)) old.view new.view
+
+abbrev pub ExpiresAll : Text → Rules → ℕ → DiskState → DiskState → Type 0
+ExpiresAll stanza rules moment old new = DoesWhole Whole stanza (Expire (retention rules moment)) old.view new.view
+
+-- the same from each sound stanza of which this is a plan
+abbrev pub CarriesOutPart : Text → Rules → Planned → DiskState → DiskState → Type 0
+CarriesOutPart stanza rules plan old new = (moment : ℕ) (s : Stanza) → HoldsPlan stanza rules moment plan old
+    → IsSoundStanza s → IsSome old.view.now → PartFrom stanza (retention rules moment) s old.view new.view
+
+abbrev pub CarriesOutAll : Text → Rules → Planned → DiskState → DiskState → Type 0
+CarriesOutAll stanza rules plan old new = (moment : ℕ) (s : Stanza) → HoldsPlan stanza rules moment plan old
+    → IsSoundStanza s → IsSome old.view.now → WholeFrom stanza (retention rules moment) s old.view new.view
+
+-- at each moment the stanza has what is needed
+abbrev pub KeepsNeeded : Text → Rules → ℕ → DiskState → DiskState → Type 0
+KeepsNeeded stanza rules moment old new = (s : Stanza) → IsSoundStanza s → IsSome old.view.now
+    → IsSteady stanza (Some s) old.view → LeavesOnly (HasNeeded stanza (retention rules moment) s) old.view new.view
+
+-- these are the labels of the disk's stanza that expire
+abbrev pub AreCondemned : Text → Rules → ℕ → List Label → DiskState → Type 0
+AreCondemned stanza rules moment labels d = (s : Stanza) → IsSome d.view.now → NowRepresents stanza (Some s) d.view.now
+    → labels ≡ condemned_labels rules moment (listed s)
+
+-- nothing changes but what the expiry of the disk's stanza may change
+abbrev pub ChangesTouched : Text → Rules → ℕ → DiskState → DiskState → Type 0
+ChangesTouched stanza rules moment old new = (s : Stanza) → IsSome old.view.now
+    → NowRepresents stanza (Some s) old.view.now → ChangesOnly (IsTouched stanza rules moment s) old.view new.view
+
+-- nothing changes but what carrying a plan out may change
+abbrev pub ChangesPlanned : Text → Rules → Planned → DiskState → DiskState → Type 0
+ChangesPlanned stanza rules plan old new = ChangesOnly (MayTouch stanza (labels_of (backup_info_of plan.left).backups)
+    (keeps_by rules (archive_info_of plan.archive).current (backup_info_of plan.left).backups)) old.view new.view

@@ -1,6 +1,7 @@
 -- The fault of an expiry that a fault below becomes, and why an expiry is refused.
 use Rattle.std.specs.Prelude.{◌⊎◌, Option, IfSome}
 use Rattle.base_devices.specs.Content.{Content}
+use Rattle.base_devices.specs.States.{DiskState, DiskFailed}
 use Rattle.base_devices.specs.declared.device_error.DeviceError.{DeviceError}
 use Rattle.base_devices.specs.declared.device_error.DeviceError.TheVariants.{Failed, NoMemory as ErrorNoMemory}
 use Rattle.base_disk.specs.declared.fault.StoreFault.{StoreFault}
@@ -66,6 +67,10 @@ ExpireCause stanza old rose (Info fault) = IsFinding fault
 ExpireCause stanza old rose (HistoryDiffers at) = IfSome old (λ f. HistoriesDiffer stanza f at)
 ExpireCause stanza old rose Disk = rose
 ExpireCause stanza old rose NoMemory = Unit {0}
+
+-- why the calls on a disk ended with it
+abbrev pub ExpiryFails : Text → DiskState → DiskState → ExpireFault → Type 0
+ExpiryFails stanza old new fault = ExpireCause stanza old.view.now (DiskFailed old new) fault
 
 -- what holds where it is refused
 abbrev pub IfRefused : ExpireFault → Type 0 → Type 0

@@ -5,17 +5,19 @@ use Rattle.base_devices.specs.Content.{Name, Value, Content, Holds, at, is_below
 use Rattle.base_devices.specs.Moments.{View, SyncsFolders, MayKeep, is_unsynced}
 use Rattle.base_devices.specs.States.{DiskState, Works}
 use Rattle.base_model.specs.declared.labels.Label.{Label}
+use Rattle.base_model.specs.declared.labels.Entry as rust_entry
 use Rattle.base_model.specs.declared.wal.ArchiveId.{ArchiveId}
 use Rattle.base_model.specs.declared.wal.ArchiveName.{ArchiveName}
 use Rattle.base_model.specs.declared.wal.ArchiveName.TheVariants.{Segment, Partial, History, Backup as BackupHistory}
 use Rattle.base_model.specs.Text.{Text}
 use Rattle.base_model.specs.Names.{backup_info, label_folder, label_text, archive_name}
 use Rattle.base_model.specs.InfoFiles.{IsLabel}
+use Rattle.base_model.specs.Values.{entry_of}
 use Rattle.base_model.specs.Represents.{IsArchivePlace}
 use Rattle.base_devices.specs.declared.disk.Found.{Found}
 use Rattle.repo_pair.specs.Member.{IsOfPair}
 pub use Rattle.repo_stanza.specs.Unused.{IsInLabel}
-use Rattle.expire_rules.specs.Labels.{has_label}
+use Rattle.expire_rules.specs.Labels.{has_label, labels_of}
 
 -- each of these names is as before or absent, and each other is as before
 abbrev pub Loses : (Name → Type 0) → Content → Content → Type 0
@@ -40,6 +42,23 @@ pub record TakesAway (these : Name → Type 0) (old new : DiskState) : Type 0 wh
 abbrev pub StaysDurable : (Name → Type 0) → View → View → Type 0
 StaysDurable these old new = SyncsFolders these old old → (n : Name) (v : Value) → these n → is_unsynced old n ≡ false
     → MayKeep new n v → Holds new.now n v
+
+-- a call that removes names below a folder, and does nothing else
+abbrev pub TakesFolder : Text → DiskState → DiskState → Type 0
+TakesFolder folder old new = TakesAway (λ n. IsTrue (is_below folder n)) old new
+
+-- what lies below a folder stays durable
+abbrev pub FolderStaysDurable : Text → DiskState → DiskState → Type 0
+FolderStaysDurable folder old new = StaysDurable (λ n. IsTrue (is_below folder n)) old.view new.view
+
+-- what lies below a folder is durable, but for what was unsynced
+abbrev pub FolderBecomesDurable : Text → DiskState → DiskState → Type 0
+FolderBecomesDurable folder old new = (n : Name) (v : Value) → IsTrue (is_below folder n)
+    → is_unsynced old.view n ≡ false → MayKeep new.view n v → Holds new.view.now n v
+
+-- the labels of the backups that are listed
+abbrev pub labels_listed : List rust_entry.Entry → List Label
+labels_listed entries = labels_of (map entry_of entries)
 
 -- the name lies in the folder of a label that isn't among these
 pub record IsUnlisted (stanza : Text) (labels : List Label) (name : Text) : Type 0 where

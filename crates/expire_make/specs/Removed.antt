@@ -2,6 +2,7 @@
 use Rattle.std.specs.Prelude.{◌≡◌, ◌↔◌, ℕ, ◌-◌, ◌^◌, min, List, [], ◌∷◌, length, Option, Some, None, IsSome, option_map, string_bytes}
 use Rattle.base_devices.specs.declared.disk.Found.{Found}
 use Rattle.base_devices.specs.Content.{Name, Content, IsThere, put}
+use Rattle.base_devices.specs.States.{DiskState}
 use Rattle.base_model.specs.Text.{Text, In}
 use Rattle.base_model.specs.Represents.{IsArchiveFile}
 
@@ -35,3 +36,7 @@ pub record CountsGone (stanza : Text) (k : ℕ) (old new : Option Content) : Typ
   pub counts : (f g : Content) → old ≡ Some f → new ≡ Some g
       → (names : List Name) × AreDistinct names
       × ((n : Name) → In n names ↔ (IsArchiveFile stanza n × IsSome (f n) × (g n ≡ None))) × IsCount k names
+
+-- the same of two states of a disk
+abbrev pub NumberGone : Text → ℕ → DiskState → DiskState → Type 0
+NumberGone stanza k old new = CountsGone stanza k old.view.now new.view.now

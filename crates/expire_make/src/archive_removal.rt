@@ -1,16 +1,9 @@
 // Removes the files of the archive that aren't needed.
-ghost use Rattle.std.specs.Prelude.{◌≡◌, false, map, IfOk, IfErr, IsSome, IsTrue, OnOk};
-ghost use Rattle.base_devices.specs.Content.{Name, Value, Holds, is_below};
-ghost use Rattle.base_devices.specs.Moments.{MayKeep, is_unsynced};
+ghost use Rattle.std.specs.Prelude.{◌≡◌, IfOk, IfErr, OnOk};
 ghost use Rattle.base_devices.specs.Cause.{Rises};
-ghost use Rattle.base_disk.specs.Dropped.{IsAbsent};
-ghost use Rattle.base_model.specs.Text.{Text, In};
 ghost use Rattle.base_model.specs.Names.{archive_folder};
-ghost use Rattle.base_model.specs.Values.{entry_of};
-ghost use Rattle.expire_make.specs.Losing.{TakesAway, IsUnneeded};
-ghost use Rattle.expire_make.specs.Planning.{keeps_by};
-ghost use Rattle.expire_make.specs.Removed.{Counted};
-ghost use Rattle.expire_make.specs.Unneeded.{prefix_of, id_in, ids_in};
+ghost use Rattle.expire_make.specs.Losing.{FolderBecomesDurable};
+ghost use Rattle.expire_make.specs.Unneeded.{id_in, TakesFrom, TakesUnder, GoneFrom, GoneUnder, GoneUnderId, LostFrom, LostUnder};
 ghost use Rattle.expire_make.specs.Fault.{IsDeviceFault};
 
 use crate::fault::ExpireFault;
@@ -41,16 +34,10 @@ fn forget_under<D: Disk>(
     current: u32,
     rules: &Rules,
 ) -> Result<u64, ExpireFault>
-    ensures takes { TakesAway (λ n. (stanza : Text) → prefix.now ≡ prefix_of stanza
-        → IsUnneeded stanza (keeps_by rules.now current (map entry_of entries.now)) n)
-        (D.state d.old) (D.state d.new) }
-    ensures gone { OnOk result ((stanza : Text) → prefix.now ≡ prefix_of stanza → (n : Name)
-        → (u : IsUnneeded stanza (keeps_by rules.now current (map entry_of entries.now)) n) → u.id ≡ id
-        → IsAbsent (D.state d.new).view.now n) }
-    ensures counts { IfOk result (λ k. IsSome (D.state d.old).view.now
-        → Counted (λ n. (stanza : Text) → prefix.now ≡ prefix_of stanza
-        → IsUnneeded stanza (keeps_by rules.now current (map entry_of entries.now)) n) k
-        (D.state d.old).view.now (D.state d.new).view.now) }
+    ensures takes { TakesUnder prefix.now rules.now current entries.now (D.state d.old) (D.state d.new) }
+    ensures gone { OnOk result (GoneUnderId prefix.now rules.now current entries.now id (D.state d.new)) }
+    ensures counts { IfOk result
+        (LostUnder prefix.now rules.now current entries.now (D.state d.old) (D.state d.new)) }
     ensures cause { IfErr result (IsDeviceFault (Rises (D.state d.old).faults (D.state d.new).faults)) }
 {
     let kept = spans(alloc, entries, &id, id.number == current, rules)?;
@@ -73,17 +60,10 @@ fn forget_each<D: Disk>(
     current: u32,
     rules: &Rules,
 ) -> Result<u64, ExpireFault>
-    ensures takes { TakesAway (λ n. (stanza : Text) → prefix.now ≡ prefix_of stanza
-        → IsUnneeded stanza (keeps_by rules.now current (map entry_of entries.now)) n)
-        (D.state d.old) (D.state d.new) }
-    ensures gone { OnOk result ((stanza : Text) → prefix.now ≡ prefix_of stanza → (n : Name)
-        → (u : IsUnneeded stanza (keeps_by rules.now current (map entry_of entries.now)) n)
-        → In u.id (ids_in history.now)
-        → IsAbsent (D.state d.new).view.now n) }
-    ensures counts { IfOk result (λ k. IsSome (D.state d.old).view.now
-        → Counted (λ n. (stanza : Text) → prefix.now ≡ prefix_of stanza
-        → IsUnneeded stanza (keeps_by rules.now current (map entry_of entries.now)) n) k
-        (D.state d.old).view.now (D.state d.new).view.now) }
+    ensures takes { TakesUnder prefix.now rules.now current entries.now (D.state d.old) (D.state d.new) }
+    ensures gone { OnOk result (GoneUnder prefix.now rules.now current entries.now history.now (D.state d.new)) }
+    ensures counts { IfOk result
+        (LostUnder prefix.now rules.now current entries.now (D.state d.old) (D.state d.new)) }
     ensures cause { IfErr result (IsDeviceFault (Rises (D.state d.old).faults (D.state d.new).faults)) }
 {
     let mut removed = 0u64;
@@ -107,17 +87,12 @@ pub(crate) fn forget<D: Disk>(
     current: u32,
     rules: &Rules,
 ) -> Result<u64, ExpireFault>
-    ensures takes { TakesAway (IsUnneeded stanza.now (keeps_by rules.now current (map entry_of entries.now)))
-        (D.state d.old) (D.state d.new) }
-    ensures gone { OnOk result ((n : Name)
-        → (u : IsUnneeded stanza.now (keeps_by rules.now current (map entry_of entries.now)) n)
-        → In u.id (ids_in history.now) → IsAbsent (D.state d.new).view.now n) }
-    ensures settled { OnOk result ((n : Name) (v : Value) → IsTrue (is_below (archive_folder stanza.now) n)
-        → is_unsynced (D.state d.old).view n ≡ false → MayKeep (D.state d.new).view n v
-        → Holds (D.state d.new).view.now n v) }
-    ensures counts { IfOk result (λ k. IsSome (D.state d.old).view.now
-        → Counted (IsUnneeded stanza.now (keeps_by rules.now current (map entry_of entries.now))) k
-        (D.state d.old).view.now (D.state d.new).view.now) }
+    ensures takes { TakesFrom stanza.now rules.now current entries.now (D.state d.old) (D.state d.new) }
+    ensures gone { OnOk result (GoneFrom stanza.now rules.now current entries.now history.now (D.state d.new)) }
+    ensures settled { OnOk result
+        (FolderBecomesDurable (archive_folder stanza.now) (D.state d.old) (D.state d.new)) }
+    ensures counts { IfOk result
+        (LostFrom stanza.now rules.now current entries.now (D.state d.old) (D.state d.new)) }
     ensures cause { IfErr result (IsDeviceFault (Rises (D.state d.old).faults (D.state d.new).faults)) }
 {
     let folder = format!(in alloc; "archive/{stanza}")?;

@@ -1,17 +1,12 @@
 // What an expiry is going to leave in the backup pair.
-ghost use Rattle.std.specs.Prelude.{◌≡◌, ◌≤◌, IfOk, IfErr, IfSome, length};
+ghost use Rattle.std.specs.Prelude.{◌≡◌, ◌≤◌, IfOk, IfErr, length};
 ghost use Rattle.std.specs.List.{AllByRecursion};
-ghost use Rattle.base_devices.specs.Content.{Content};
 ghost use Rattle.base_devices.specs.States.{OnlyReads};
-ghost use Rattle.base_devices.specs.Cause.{Rises};
-ghost use Rattle.base_model.specs.Names.{archive_info, backup_info};
-ghost use Rattle.base_model.specs.Pair.{PairIs};
-ghost use Rattle.base_model.specs.Text.{Text};
 ghost use Rattle.base_model.specs.Values.{archive_info_of, backup_info_of};
-ghost use Rattle.base_model.specs.InfoFiles.{IsArchiveInfo, IsArchiveText, IsBackupInfo, IsBackupText, IsLabel, info_limit};
+ghost use Rattle.base_model.specs.InfoFiles.{IsArchiveInfo, IsBackupInfo, IsLabel, info_limit};
 ghost use Rattle.expire_rules.specs.Condemned.{condemned_labels};
-ghost use Rattle.expire_make.specs.Planning.{HasList, IsPlan, left_of, list_text};
-ghost use Rattle.expire_make.specs.Fault.{ExpireCause};
+ghost use Rattle.expire_make.specs.Planning.{HoldsArchivePair, HoldsBackupPair, HoldsList, PlansFor, left_of, list_text};
+ghost use Rattle.expire_make.specs.Fault.{ExpiryFails};
 
 use crate::fault::ExpireFault;
 use crate::labels::without;
@@ -59,12 +54,10 @@ fn shorten(
 
 // The value of the archive pair.
 fn clusters<D: Disk>(alloc: Global, d: &mut D, stanza: &str) -> Result<ArchiveInfo, ExpireFault>
-    ensures found { IfOk result (λ v. IfSome (D.state d.old).view.now
-        (λ f. PairIs IsArchiveText f (archive_info stanza.now) (archive_info_of v))) }
+    ensures found { IfOk result (λ v. HoldsArchivePair stanza.now (archive_info_of v) (D.state d.old)) }
     ensures valid { IfOk result (λ v. IsArchiveInfo (archive_info_of v)) }
     ensures looks { OnlyReads (D.state d.old) (D.state d.new) }
-    ensures cause { IfErr result (ExpireCause stanza.now (D.state d.old).view.now
-        (Rises (D.state d.old).faults (D.state d.new).faults)) }
+    ensures cause { IfErr result (ExpiryFails stanza.now (D.state d.old) (D.state d.new)) }
 {
     let name = archive_info_name(alloc, stanza)?;
     let value = load_pair::<D, ArchiveInfo>(alloc, d, name.as_str())?;
@@ -73,13 +66,11 @@ fn clusters<D: Disk>(alloc: Global, d: &mut D, stanza: &str) -> Result<ArchiveIn
 
 // The value of the backup pair.
 fn backups<D: Disk>(alloc: Global, d: &mut D, stanza: &str) -> Result<BackupInfo, ExpireFault>
-    ensures found { IfOk result (λ v. IfSome (D.state d.old).view.now
-        (λ f. PairIs IsBackupText f (backup_info stanza.now) (backup_info_of v))) }
+    ensures found { IfOk result (λ v. HoldsBackupPair stanza.now (backup_info_of v) (D.state d.old)) }
     ensures valid { IfOk result (λ v. IsBackupInfo (backup_info_of v)) }
     ensures within { IfOk result (λ v. length (list_text (backup_info_of v)) ≤ info_limit) }
     ensures looks { OnlyReads (D.state d.old) (D.state d.new) }
-    ensures cause { IfErr result (ExpireCause stanza.now (D.state d.old).view.now
-        (Rises (D.state d.old).faults (D.state d.new).faults)) }
+    ensures cause { IfErr result (ExpiryFails stanza.now (D.state d.old) (D.state d.new)) }
 {
     let name = backup_info_name(alloc, stanza)?;
     let value = load_pair::<D, BackupInfo>(alloc, d, name.as_str())?;
@@ -92,13 +83,12 @@ pub(crate) fn read_list<D: Disk>(
     d: &mut D,
     stanza: &str,
 ) -> Result<(ArchiveInfo, BackupInfo), ExpireFault>
-    ensures found { IfOk result (λ v. IfSome (D.state d.old).view.now
-        (λ f. HasList stanza.now f (archive_info_of v.0) (backup_info_of v.1))) }
+    ensures found { IfOk result
+        (λ v. HoldsList stanza.now (archive_info_of v.0) (backup_info_of v.1) (D.state d.old)) }
     ensures valid { IfOk result (λ v. IsBackupInfo (backup_info_of v.1)) }
     ensures within { IfOk result (λ v. length (list_text (backup_info_of v.1)) ≤ info_limit) }
     ensures looks { OnlyReads (D.state d.old) (D.state d.new) }
-    ensures cause { IfErr result (ExpireCause stanza.now (D.state d.old).view.now
-        (Rises (D.state d.old).faults (D.state d.new).faults)) }
+    ensures cause { IfErr result (ExpiryFails stanza.now (D.state d.old) (D.state d.new)) }
 {
     let archive = clusters(alloc, d, stanza)?;
     let backup = backups(alloc, d, stanza)?;
@@ -119,9 +109,8 @@ pub(crate) fn plan(
     ensures labels { IfOk result (λ p. AllByRecursion IsLabel p.labels.items) }
     ensures valid { IfOk result (λ p. IsBackupInfo (backup_info_of p.left)) }
     ensures within { IfOk result (λ p. length (list_text (backup_info_of p.left)) ≤ info_limit) }
-    ensures planned { IfOk result (λ p. (stanza : Text) (f : Content)
-        → HasList stanza f (archive_info_of archive) (backup_info_of list)
-        → IsPlan stanza rules.now moment f p.labels.items (backup_info_of p.left) (archive_info_of p.archive)) }
+    ensures planned { IfOk result
+        (λ p. PlansFor (archive_info_of archive) (backup_info_of list) rules.now moment p) }
 {
     let (labels, left) = shorten(alloc, list, rules, moment)?;
     Ok(Planned {

@@ -1,7 +1,8 @@
 // Labels that are listed, and names of folders that are none of these.
-ghost use Rattle.std.specs.Prelude.{◌≡◌, true, not, map, filter};
+ghost use Rattle.std.specs.Prelude.{◌≡◌, true, map};
 ghost use Rattle.base_model.specs.Values.{entry_of};
 ghost use Rattle.expire_rules.specs.Labels.{is_label, has_label, labels_of};
+ghost use Rattle.expire_rules.specs.Condemned.{without_labels};
 ghost use Rattle.expire_make.specs.Losing.{IsTextUnlisted};
 
 use base_model::{Entry, Label};
@@ -39,8 +40,7 @@ pub(crate) fn is_unlisted(text: &[u8], entries: &[Entry]) -> bool
 
 /// The backups without those of the labels.
 pub(crate) fn without(entries: Vec<Entry>, labels: &[Label]) -> Vec<Entry>
-    ensures { map entry_of result.items
-        ≡ filter (λ e. not (has_label labels.now e.label)) (map entry_of entries.items) }
+    ensures { map entry_of result.items ≡ without_labels labels.now (map entry_of entries.items) }
 {
     let mut entries = entries;
     entries.retain(|e| !has_label(labels, &e.label));

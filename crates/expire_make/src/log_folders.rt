@@ -1,12 +1,9 @@
 // Removes files of the archive that aren't needed, folder by folder of the log.
-ghost use Rattle.std.specs.Prelude.{◌≡◌, Some, IfOk, IfErr, IsSome, OnOk, IsTrue, map, string_bytes};
-ghost use Rattle.base_devices.specs.Content.{Name, Content, IsListing, IsThere, SameBut, is_below};
+ghost use Rattle.std.specs.Prelude.{IfOk, IfErr, OnOk};
+ghost use Rattle.base_devices.specs.Content.{SameBut};
 ghost use Rattle.base_devices.specs.Cause.{Rises};
-ghost use Rattle.base_disk.specs.Dropped.{IsAbsent};
-ghost use Rattle.base_model.specs.Text.{Text, In, ◌⫽◌};
 ghost use Rattle.expire_make.specs.Losing.{TakesAway, names_of};
-ghost use Rattle.expire_make.specs.Removed.{Counted, pair_of};
-ghost use Rattle.expire_make.specs.Unneeded.{IsForgotten, Forgets, prefix_of};
+ghost use Rattle.expire_make.specs.Unneeded.{Forgets, IsGone, AreGone, AreGoneBelow, AreGoneWithin, CountsIfThere, CountsIfListed, CountsIfKnown};
 ghost use Rattle.expire_make.specs.Fault.{IsDeviceFault};
 
 use crate::fault::ExpireFault;
@@ -23,10 +20,9 @@ fn remove_one<D: Disk>(
     kept: &KeptFiles,
 ) -> Result<u64, ExpireFault>
     ensures takes { TakesAway (Forgets prefix.now kept.now) (D.state d.old) (D.state d.new) }
-    ensures gone { OnOk result ((stanza : Text) → prefix.now ≡ prefix_of stanza
-        → IsForgotten stanza kept.now name.now → IsAbsent (D.state d.new).view.now name.now) }
-    ensures counts { IfOk result (λ k. IsThere (D.state d.old).view.now name.now
-        → Counted (Forgets prefix.now kept.now) k (D.state d.old).view.now (D.state d.new).view.now) }
+    ensures gone { OnOk result (IsGone prefix.now kept.now name.now (D.state d.new)) }
+    ensures counts { IfOk result
+        (CountsIfThere prefix.now kept.now name.now (D.state d.old) (D.state d.new)) }
     ensures others { SameBut name.now (D.state d.old).view.now (D.state d.new).view.now }
     ensures cause { IfErr result (IsDeviceFault (Rises (D.state d.old).faults (D.state d.new).faults)) }
 {
@@ -45,12 +41,9 @@ fn remove_each<D: Disk>(
     kept: &KeptFiles,
 ) -> Result<u64, ExpireFault>
     ensures takes { TakesAway (Forgets prefix.now kept.now) (D.state d.old) (D.state d.new) }
-    ensures gone { OnOk result ((stanza : Text) → prefix.now ≡ prefix_of stanza
-        → (n : Name) → In n (names_of found.now) → IsForgotten stanza kept.now n
-        → IsAbsent (D.state d.new).view.now n) }
-    ensures counts { IfOk result (λ k. (place : Name) (f : Content) → (D.state d.old).view.now ≡ Some f
-        → IsListing place f (map pair_of found.now)
-        → Counted (Forgets prefix.now kept.now) k (D.state d.old).view.now (D.state d.new).view.now) }
+    ensures gone { OnOk result (AreGone prefix.now kept.now (names_of found.now) (D.state d.new)) }
+    ensures counts { IfOk result
+        (CountsIfListed prefix.now kept.now found.now (D.state d.old) (D.state d.new)) }
     ensures cause { IfErr result (IsDeviceFault (Rises (D.state d.old).faults (D.state d.new).faults)) }
 {
     let mut removed = 0u64;
@@ -69,10 +62,8 @@ fn remove_in<D: Disk>(
     kept: &KeptFiles,
 ) -> Result<u64, ExpireFault>
     ensures takes { TakesAway (Forgets prefix.now kept.now) (D.state d.old) (D.state d.new) }
-    ensures gone { OnOk result ((stanza : Text) → prefix.now ≡ prefix_of stanza → (n : Name)
-        → IsTrue (is_below place.now n) → IsForgotten stanza kept.now n → IsAbsent (D.state d.new).view.now n) }
-    ensures counts { IfOk result (λ k. IsSome (D.state d.old).view.now
-        → Counted (Forgets prefix.now kept.now) k (D.state d.old).view.now (D.state d.new).view.now) }
+    ensures gone { OnOk result (AreGoneBelow prefix.now kept.now place.now (D.state d.new)) }
+    ensures counts { IfOk result (CountsIfKnown prefix.now kept.now (D.state d.old) (D.state d.new)) }
     ensures cause { IfErr result (IsDeviceFault (Rises (D.state d.old).faults (D.state d.new).faults)) }
 {
     let found = d.names(alloc, place)?;
@@ -89,11 +80,8 @@ pub(crate) fn remove_within<D: Disk>(
     kept: &KeptFiles,
 ) -> Result<u64, ExpireFault>
     ensures takes { TakesAway (Forgets prefix.now kept.now) (D.state d.old) (D.state d.new) }
-    ensures gone { OnOk result ((stanza : Text) → prefix.now ≡ prefix_of stanza → (n x : Name)
-        → In x (map string_bytes folders.now) → IsTrue (is_below (place.now ⫽ x) n)
-        → IsForgotten stanza kept.now n → IsAbsent (D.state d.new).view.now n) }
-    ensures counts { IfOk result (λ k. IsSome (D.state d.old).view.now
-        → Counted (Forgets prefix.now kept.now) k (D.state d.old).view.now (D.state d.new).view.now) }
+    ensures gone { OnOk result (AreGoneWithin prefix.now kept.now place.now folders.now (D.state d.new)) }
+    ensures counts { IfOk result (CountsIfKnown prefix.now kept.now (D.state d.old) (D.state d.new)) }
     ensures cause { IfErr result (IsDeviceFault (Rises (D.state d.old).faults (D.state d.new).faults)) }
 {
     let mut removed = 0u64;

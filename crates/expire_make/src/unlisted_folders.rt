@@ -1,14 +1,11 @@
 // Removes the folders of labels that aren't listed.
-ghost use Rattle.std.specs.Prelude.{◌≡◌, false, map, nat_eq, IfErr, IfOk, IsTrue, OnOk};
+ghost use Rattle.std.specs.Prelude.{◌≡◌, false, nat_eq, IfErr, IfOk, IsTrue, OnOk};
 ghost use Rattle.std.specs.List.{starts_with};
-ghost use Rattle.base_devices.specs.Content.{is_below};
 ghost use Rattle.base_devices.specs.Cause.{Rises};
 ghost use Rattle.base_devices.specs.States.{OnlyReads};
 ghost use Rattle.base_model.specs.Text.{◌⫽◌};
 ghost use Rattle.base_model.specs.Names.{backup_folder};
-ghost use Rattle.base_model.specs.Values.{entry_of};
-ghost use Rattle.expire_rules.specs.Labels.{labels_of};
-ghost use Rattle.expire_make.specs.Losing.{TakesAway, IsUnlisted, StaysDurable};
+ghost use Rattle.expire_make.specs.Losing.{TakesAway, TakesFolder, IsUnlisted, FolderStaysDurable, labels_listed};
 ghost use Rattle.expire_make.specs.Fault.{IsDeviceFault};
 
 use crate::fault::ExpireFault;
@@ -47,8 +44,7 @@ fn drop_below<D: Disk>(
     stanza: &str,
     name: &str,
 ) -> Result<(), ExpireFault>
-    ensures takes { TakesAway (λ n. IsTrue (is_below (backup_folder stanza.now ⫽ name.now) n))
-        (D.state d.old) (D.state d.new) }
+    ensures takes { TakesFolder (backup_folder stanza.now ⫽ name.now) (D.state d.old) (D.state d.new) }
     ensures cause { IfErr result (IsDeviceFault (Rises (D.state d.old).faults (D.state d.new).faults)) }
 {
     let folder = format!(in alloc; "backup/{stanza}/{name}")?;
@@ -65,8 +61,7 @@ fn drop_one<D: Disk>(
     name: &str,
     entries: &[Entry],
 ) -> Result<bool, ExpireFault>
-    ensures takes { TakesAway (IsUnlisted stanza.now (labels_of (map entry_of entries.now)))
-        (D.state d.old) (D.state d.new) }
+    ensures takes { TakesAway (IsUnlisted stanza.now (labels_listed entries.now)) (D.state d.old) (D.state d.new) }
     ensures idle { IfOk result (λ is_dropped. is_dropped ≡ false → OnlyReads (D.state d.old) (D.state d.new)) }
     ensures cause { IfErr result (IsDeviceFault (Rises (D.state d.old).faults (D.state d.new).faults)) }
 {
@@ -85,8 +80,7 @@ fn drop_each<D: Disk>(
     names: &[String],
     entries: &[Entry],
 ) -> Result<bool, ExpireFault>
-    ensures takes { TakesAway (IsUnlisted stanza.now (labels_of (map entry_of entries.now)))
-        (D.state d.old) (D.state d.new) }
+    ensures takes { TakesAway (IsUnlisted stanza.now (labels_listed entries.now)) (D.state d.old) (D.state d.new) }
     ensures idle { IfOk result (λ is_dropped. is_dropped ≡ false → OnlyReads (D.state d.old) (D.state d.new)) }
     ensures cause { IfErr result (IsDeviceFault (Rises (D.state d.old).faults (D.state d.new).faults)) }
 {
@@ -107,10 +101,8 @@ pub(crate) fn drop_unlisted<D: Disk>(
     stanza: &str,
     entries: &[Entry],
 ) -> Result<(), ExpireFault>
-    ensures takes { TakesAway (IsUnlisted stanza.now (labels_of (map entry_of entries.now)))
-        (D.state d.old) (D.state d.new) }
-    ensures settled { OnOk result (StaysDurable (λ n. IsTrue (is_below (backup_folder stanza.now) n))
-        (D.state d.old).view (D.state d.new).view) }
+    ensures takes { TakesAway (IsUnlisted stanza.now (labels_listed entries.now)) (D.state d.old) (D.state d.new) }
+    ensures settled { OnOk result (FolderStaysDurable (backup_folder stanza.now) (D.state d.old) (D.state d.new)) }
     ensures cause { IfErr result (IsDeviceFault (Rises (D.state d.old).faults (D.state d.new).faults)) }
 {
     let folder = format!(in alloc; "backup/{stanza}")?;

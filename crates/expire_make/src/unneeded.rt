@@ -1,7 +1,6 @@
 // Which files of the archive the backups that are left don't need.
 ghost use Rattle.std.specs.Prelude.{◌≡◌, true, false};
-ghost use Rattle.base_model.specs.Text.{Text};
-ghost use Rattle.expire_make.specs.Unneeded.{IsForgotten, Forgets, prefix_of};
+ghost use Rattle.expire_make.specs.Unneeded.{Forgets, NeverForgets};
 
 use archive_lookup::read_path;
 use base_model::ArchiveId;
@@ -19,8 +18,7 @@ fn is_id(a: &ArchiveId, b: &ArchiveId) -> bool
 /// with a slash.
 pub(crate) fn is_unneeded(name: &str, prefix: &str, kept: &KeptFiles) -> bool
     ensures yes { result ≡ true → Forgets prefix.now kept.now name.now }
-    ensures no { result ≡ false → (stanza : Text) → prefix.now ≡ prefix_of stanza
-        → IsForgotten stanza kept.now name.now → ⊥ }
+    ensures no { result ≡ false → NeverForgets prefix.now kept.now name.now }
 {
     match read_path(name.as_bytes(), prefix.as_bytes()) {
         Some(known) => is_id(&known.id, &kept.id) && !keeps(&known.name, kept),

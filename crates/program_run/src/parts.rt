@@ -25,7 +25,7 @@ use cmd_archive_push_async::drain_stanza;
 use cmd_archive_push_wait::queue_push;
 use cmd_backup_offline::{OfflineOrder, back_up_offline};
 use cmd_backup_online::{OnlineOrder, back_up_online};
-use cmd_expire::{expire_after, expire_stanza};
+use cmd_expire::{InfoValues, expire_after, expire_stanza};
 use cmd_info::report_stanza;
 use cmd_rehearse::{RehearseOrder, rehearse};
 use cmd_restore::{RecoverOrder, restore_backup};
@@ -485,8 +485,7 @@ impl<
             &self.locks,
             settings.stanza,
             rules,
-            archive,
-            backup,
+            InfoValues { archive, backup },
         ))
     }
 }

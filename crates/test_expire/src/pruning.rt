@@ -6,7 +6,7 @@ use crate::fixture::{BOTH, COMING, GOES, OTHER, SECOND, STAYS, UNLISTED, disk_of
 use crate::same::{same, well};
 use base_devices::{Clock, Disk};
 use base_model::BackupKind;
-use cmd_expire::{ExpireCommandFault, expire_message, expire_stanza, expire_status};
+use cmd_expire::{ExpireCommandFault, InfoValues, expire_message, expire_stanza, expire_status};
 use cmd_setup::{lock_names, prepare, take_locks};
 use cmd_types::{Halt, Object, Outcome, Pairs, Plan, StageFault, SyncScope};
 use expire_rules::{FullRule, Rules};
@@ -74,7 +74,8 @@ fn prune_on<D: Disk, C: Clock>(
     let (Some(archive), Some(backup)) = (ready.archive, ready.backup) else {
         panic!(rt; "both pairs are read");
     };
-    expire_stanza(alloc, disk, clock, &locks, stanza, rules, archive, backup)
+    let pairs = InfoValues { archive, backup };
+    expire_stanza(alloc, disk, clock, &locks, stanza, rules, pairs)
 }
 
 fn prune(

@@ -1,17 +1,12 @@
 // info: the report on the stanza.
-ghost use Rattle.std.specs.Prelude.{◌≡◌, ◌++◌, map, Some, OnOk, IfOk, IfErr, IfSome, IsSome, string_bytes};
-ghost use Rattle.base_devices.specs.States.{OnlyReads};
-ghost use Rattle.base_devices.specs.Cause.{Rises};
+ghost use Rattle.std.specs.Prelude.{◌≡◌, ◌++◌, map, OnOk, IfOk, IfErr, string_bytes};
+ghost use Rattle.base_devices.specs.States.{DiskFailed, OnlyReads};
 ghost use Rattle.base_model.specs.InfoFiles.{IsBackupInfo};
-ghost use Rattle.base_model.specs.Now.{NowRepresents};
-ghost use Rattle.base_model.specs.Repository.{Stanza};
-ghost use Rattle.base_model.specs.Values.{archive_info_of, backup_info_of};
-ghost use Rattle.repo_stanza.specs.Pairs.{HavePairs};
-ghost use Rattle.archive_lookup.specs.Ends.{AreEnds};
+ghost use Rattle.base_model.specs.Values.{backup_info_of};
 ghost use Rattle.cmd_types.specs.declared.stages.object.Object.TheVariants.{Repo};
 ghost use Rattle.cmd_types.specs.Current.{id_kept};
 ghost use Rattle.cmd_types.specs.Halts.{HaltCause, Never, Only};
-ghost use Rattle.cmd_info.specs.Reporting.{report_by, named, HaveEnds, IsReported, ReportsStanza};
+ghost use Rattle.cmd_info.specs.Reporting.{report_in, named, IsReported, HoldsPairs, AreEndsIn, HaveEndsIn, ReportsRepresented};
 ghost use Rattle.cmd_types.specs.Reached.{OnFinished};
 
 use crate::report::{ArchivedName, Report, report_json, report_text};
@@ -40,11 +35,10 @@ fn ends_under<D: Disk>(
     stanza: &str,
     id: &ArchiveId,
 ) -> Result<Vec<Segment>, Halt<StageFault>>
-    ensures ends { IfOk result (λ found. IfSome (D.state repo.old).view.now
-        (λ f. AreEnds stanza.now id.now f found.items)) }
+    ensures ends { IfOk result (λ found. AreEndsIn stanza.now id.now found.items (D.state repo.old)) }
     ensures looks { OnlyReads (D.state repo.old) (D.state repo.new) }
-    ensures cause { IfErr result (HaltCause Never
-        (Only Repo (Rises (D.state repo.old).faults (D.state repo.new).faults))) }
+    ensures cause { IfErr result
+        (HaltCause Never (Only Repo (DiskFailed (D.state repo.old) (D.state repo.new)))) }
 {
     match ends(alloc, repo, stanza, id) {
         Ok(found) => Ok(found),
@@ -77,11 +71,10 @@ fn end_names<D: Disk>(
     stanza: &str,
     history: &[ClusterId],
 ) -> Result<Vec<ArchivedName>, Halt<StageFault>>
-    ensures ends { IfOk result (λ names. IfSome (D.state repo.old).view.now
-        (λ f. HaveEnds stanza.now history.now f names.items)) }
+    ensures ends { IfOk result (λ names. HaveEndsIn stanza.now history.now names.items (D.state repo.old)) }
     ensures looks { OnlyReads (D.state repo.old) (D.state repo.new) }
-    ensures cause { IfErr result (HaltCause Never
-        (Only Repo (Rises (D.state repo.old).faults (D.state repo.new).faults))) }
+    ensures cause { IfErr result
+        (HaltCause Never (Only Repo (DiskFailed (D.state repo.old) (D.state repo.new)))) }
 {
     let mut names = Vec::new(alloc);
     for cluster in history {
@@ -95,8 +88,7 @@ fn end_names<D: Disk>(
 // The report in this form.
 fn report_by(alloc: Global, form: OutputWord, report: &Report<'_>) -> Result<String, NoMemory>
     requires { IsBackupInfo (backup_info_of report.now.info.now) }
-    ensures { IfOk result (λ text. string_bytes text ≡ report_by form report.now.stanza.now
-        (archive_info_of report.now.archive.now) (backup_info_of report.now.info.now) report.now.archived.now) }
+    ensures { IfOk result (λ text. string_bytes text ≡ report_in form report.now) }
 {
     match form {
         OutputWord::Text => report_text(alloc, report),
@@ -113,16 +105,13 @@ pub fn report_stanza<D: Disk>(
     backup: &BackupInfo,
     form: OutputWord,
 ) -> Result<Outcome, Halt<StageFault>>
-    requires pairs { IfSome (D.state repo.old).view.now
-        (λ f. HavePairs stanza.now f (archive_info_of archive.now) (backup_info_of backup.now)) }
+    requires pairs { HoldsPairs stanza.now archive.now backup.now (D.state repo.old) }
     requires valid { IsBackupInfo (backup_info_of backup.now) }
     ensures known { IfOk result (λ o. OnFinished o (IsReported stanza.now form (D.state repo.old).view.now)) }
-    ensures reported { IfOk result (λ o. (s : Stanza) → IsSome (D.state repo.old).view.now
-        → NowRepresents stanza.now (Some s) (D.state repo.old).view.now
-        → OnFinished o (ReportsStanza form stanza.now s)) }
+    ensures reported { IfOk result (ReportsRepresented form stanza.now (D.state repo.old)) }
     ensures looks { OnlyReads (D.state repo.old) (D.state repo.new) }
-    ensures cause { IfErr result (HaltCause Never
-        (Only Repo (Rises (D.state repo.old).faults (D.state repo.new).faults))) }
+    ensures cause { IfErr result
+        (HaltCause Never (Only Repo (DiskFailed (D.state repo.old) (D.state repo.new)))) }
 {
     let archived = end_names(alloc, repo, stanza, &archive.history)?;
     let report = Report {

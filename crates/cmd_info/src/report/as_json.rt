@@ -5,9 +5,9 @@ ghost use Rattle.serde_json.specs.View.{view};
 ghost use Rattle.base_model.specs.Fields.{list_of, or_null};
 ghost use Rattle.base_model.specs.InfoFiles.{IsBackupInfo};
 ghost use Rattle.base_model.specs.Names.{id_text};
-ghost use Rattle.base_model.specs.Values.{archive_info_of, backup_info_of, entry_of};
+ghost use Rattle.base_model.specs.Values.{backup_info_of, entry_of};
 ghost use Rattle.cmd_info.specs.Bounds.{first_name, last_name};
-ghost use Rattle.cmd_info.specs.ReportData.{archive_data, cluster_data, status_code, status_message, status_data, report_data, report_json_of};
+ghost use Rattle.cmd_info.specs.ReportData.{archive_data, cluster_data, status_code, status_message, status_data, data_of_report, json_of_report};
 
 use crate::report::bounds::{Bounds, bounds_of, id_of};
 use crate::report::listed::backups_value;
@@ -149,8 +149,7 @@ fn status_value(alloc: Global, backups: &[Entry]) -> Result<Value, NoMemory>
 
 fn report_value(alloc: Global, report: &Report<'_>) -> Result<Value, NoMemory>
     requires { IsBackupInfo (backup_info_of report.now.info.now) }
-    ensures { IfOk result (λ v. view v ≡ report_data report.now.stanza.now (archive_info_of report.now.archive.now)
-        (backup_info_of report.now.info.now) report.now.archived.now) }
+    ensures { IfOk result (λ v. view v ≡ data_of_report report.now) }
 {
     let history = &report.archive.history;
     let archives = archives_value(alloc, report.archived, history)?;
@@ -182,8 +181,7 @@ fn report_value(alloc: Global, report: &Report<'_>) -> Result<Value, NoMemory>
 /// The report as one compact line of JSON, with its newline.
 pub fn report_json(alloc: Global, report: &Report<'_>) -> Result<String, NoMemory>
     requires { IsBackupInfo (backup_info_of report.now.info.now) }
-    ensures { IfOk result (λ t. string_bytes t ≡ report_json_of report.now.stanza.now
-        (archive_info_of report.now.archive.now) (backup_info_of report.now.info.now) report.now.archived.now) }
+    ensures { IfOk result (λ t. string_bytes t ≡ json_of_report report.now) }
 {
     let value = report_value(alloc, report)?;
     let mut text = value.to_string(alloc)?;

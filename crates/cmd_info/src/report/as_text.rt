@@ -1,9 +1,9 @@
 // Writes the report as text.
 ghost use Rattle.std.specs.Prelude.{◌≡◌, map, IfOk, string_bytes};
 ghost use Rattle.base_model.specs.InfoFiles.{IsBackupInfo};
-ghost use Rattle.base_model.specs.Values.{archive_info_of, backup_info_of, entry_of};
+ghost use Rattle.base_model.specs.Values.{backup_info_of, entry_of};
 ghost use Rattle.cmd_info.specs.Lines.{texts_of};
-ghost use Rattle.cmd_info.specs.ReportText.{status_text, stanza_lines, report_text_of};
+ghost use Rattle.cmd_info.specs.ReportText.{status_text, stanza_lines, text_of_report};
 
 use crate::report::backups::add_backups;
 use crate::report::clusters::add_clusters;
@@ -38,8 +38,7 @@ fn stanza_lines(alloc: Global, stanza: &str, backups: &[Entry]) -> Result<Vec<St
 /// The report as text, for a reader; each line ends with a newline.
 pub fn report_text(alloc: Global, report: &Report<'_>) -> Result<String, NoMemory>
     requires { IsBackupInfo (backup_info_of report.now.info.now) }
-    ensures { IfOk result (λ t. string_bytes t ≡ report_text_of report.now.stanza.now
-        (archive_info_of report.now.archive.now) (backup_info_of report.now.info.now) report.now.archived.now) }
+    ensures { IfOk result (λ t. string_bytes t ≡ text_of_report report.now) }
 {
     let archive = report.archive;
     let backups = &report.info.backups;

@@ -5,7 +5,7 @@ ghost use Rattle.base_model.specs.InfoFiles.{IsLabel, kind_text};
 ghost use Rattle.base_model.specs.Names.{label_text};
 ghost use Rattle.base_model.specs.Values.{entry_of};
 ghost use Rattle.base_devices.specs.States.{last_second};
-ghost use Rattle.cmd_info.specs.Lines.{texts_of};
+ghost use Rattle.cmd_info.specs.Lines.{AddsTexts, texts_of};
 ghost use Rattle.cmd_info.specs.ReportText.{name_line, times_line, wal_text, wal_line, sizes_line, reference_line, reference_lines, backup_lines};
 ghost use Rattle.cmd_info.specs.Shown.{HasTexts};
 
@@ -130,8 +130,7 @@ pub(crate) fn add_backups(
     backups: &[Entry],
 ) -> Result<(), NoMemory>
     requires { AllByRecursion (λ e. HasTexts (entry_of e)) backups.now }
-    ensures { OnOk result (texts_of lines.new ≡ texts_of lines.old ++ flat_map backup_lines
-        (map entry_of backups.now)) }
+    ensures { OnOk result (AddsTexts (flat_map backup_lines (map entry_of backups.now)) lines.old lines.new) }
 {
     for e in backups {
         add_backup(alloc, lines, e)?;

@@ -1,9 +1,8 @@
 // The first and the last archived segment of a cluster.
-ghost use Rattle.std.specs.Prelude.{◌≡◌, List, ◌∷◌, Some};
+ghost use Rattle.std.specs.Prelude.{◌≡◌};
 ghost use Rattle.base_model.specs.Names.{segment_text};
-ghost use Rattle.base_model.specs.Text.{Text};
 ghost use Rattle.cmd_info.specs.Archived.{id_of, segment_under, segments_under, lesser, greater, least, greatest};
-ghost use Rattle.cmd_info.specs.Bounds.{reduce_on, first_name, last_name};
+ghost use Rattle.cmd_info.specs.Bounds.{TakesIn, first_name, last_name};
 
 use crate::report::report::ArchivedName;
 use base_model::{ArchiveId, ArchiveName, ClusterId, Segment};
@@ -53,10 +52,8 @@ fn greater(a: Segment, b: Segment) -> Segment
 
 // The bounds, with one segment more.
 fn widened(bounds: Option<Bounds>, segment: Segment) -> Bounds
-    ensures first { (names : List Text) → reduce_on lesser (Some (segment_text result.first)) names
-        ≡ reduce_on lesser (first_name bounds) (segment_text segment ∷ names) }
-    ensures last { (names : List Text) → reduce_on greater (Some (segment_text result.last)) names
-        ≡ reduce_on greater (last_name bounds) (segment_text segment ∷ names) }
+    ensures first { TakesIn lesser result.first (first_name bounds) segment }
+    ensures last { TakesIn greater result.last (last_name bounds) segment }
 {
     match bounds {
         Some(bounds) => Bounds {

@@ -1,7 +1,7 @@
 // The lines of a stanza's clusters.
 ghost use Rattle.std.specs.Prelude.{◌≡◌, ◌++◌, flat_map, IfOk, OnOk, string_bytes};
-ghost use Rattle.cmd_info.specs.Lines.{texts_of};
-ghost use Rattle.cmd_info.specs.ReportText.{shown_clusters, cluster_word, archive_bounds, bounds_line, cluster_lines};
+ghost use Rattle.cmd_info.specs.Lines.{AddsTexts, texts_of};
+ghost use Rattle.cmd_info.specs.ReportText.{shown_clusters, cluster_word, archive_bounds, bounds_line, cluster_lines, history_lines};
 
 use crate::report::bounds::{bounds_of, id_of};
 use crate::report::lines::add_line;
@@ -90,8 +90,8 @@ fn add_each(
     archived: &[ArchivedName],
     clusters: &[ClusterId],
 ) -> Result<(), NoMemory>
-    ensures { OnOk result (texts_of lines.new ≡ texts_of lines.old ++ flat_map
-        (cluster_lines current archived.now) clusters.now) }
+    ensures { OnOk result
+        (AddsTexts (flat_map (cluster_lines current archived.now) clusters.now) lines.old lines.new) }
 {
     for cluster in clusters {
         add_cluster(alloc, lines, current, archived, cluster)?;
@@ -107,8 +107,7 @@ pub(crate) fn add_clusters(
     history: &[ClusterId],
     archived: &[ArchivedName],
 ) -> Result<(), NoMemory>
-    ensures { OnOk result (texts_of lines.new ≡ texts_of lines.old ++ flat_map (cluster_lines current archived.now)
-        (shown_clusters current history.now)) }
+    ensures { OnOk result (AddsTexts (history_lines current archived.now history.now) lines.old lines.new) }
 {
     let shown = shown_clusters(alloc, current, history)?;
     add_each(alloc, lines, current, archived, &shown)?;

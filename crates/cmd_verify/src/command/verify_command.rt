@@ -1,15 +1,11 @@
 // verify: the lines of what deviates.
-ghost use Rattle.std.specs.Prelude.{◌≡◌, ◌++◌, [], IfOk, IfErr, IfSome, OnOk, string_bytes};
+ghost use Rattle.std.specs.Prelude.{◌≡◌, ◌++◌, IfOk, IfErr, OnOk, string_bytes};
 ghost use Rattle.std.specs.List.{flat_map};
-ghost use Rattle.base_devices.specs.Cause.{Rises};
 ghost use Rattle.base_devices.specs.States.{OnlyReads};
-ghost use Rattle.base_model.specs.InfoFiles.{IsBackupText, IsBackupInfo};
-ghost use Rattle.base_model.specs.Names.{backup_info};
-ghost use Rattle.base_model.specs.Pair.{PairIs};
+ghost use Rattle.base_model.specs.InfoFiles.{IsBackupInfo};
 ghost use Rattle.base_model.specs.Values.{backup_info_of};
-ghost use Rattle.cmd_types.specs.declared.stages.object.Object.TheVariants.{Repo};
-ghost use Rattle.cmd_types.specs.Halts.{HaltCause, Only};
-ghost use Rattle.cmd_verify.specs.Verifying.{finding_line, VerifyCommandCause, IsVerified, EndsWithNone, EndsBy};
+ghost use Rattle.cmd_verify.specs.Looking.{HoldsBackupPair};
+ghost use Rattle.cmd_verify.specs.Verifying.{finding_line, VerifyCommandFails, IsVerified, EndsWithNone, EndsBy};
 
 use crate::command::fault::{VerifyCommandFault, of_verify};
 use crate::findings::{Finding, verify};
@@ -60,14 +56,12 @@ pub fn verify_stanza<D: Disk>(
     stanza: &str,
     backup: &BackupInfo,
 ) -> Result<Outcome, Halt<VerifyCommandFault>>
-    requires pair { IfSome (D.state repo.old).view.now
-        (λ f. PairIs IsBackupText f (backup_info stanza.now) (backup_info_of backup.now)) }
+    requires pair { HoldsBackupPair stanza.now (backup_info_of backup.now) (D.state repo.old) }
     requires valid { IsBackupInfo (backup_info_of backup.now) }
     ensures examined { IfOk result (IsVerified stanza.now (D.state repo.old).view.now) }
     ensures sound { IfOk result (EndsWithNone stanza.now (D.state repo.old).view.now) }
     ensures looks { OnlyReads (D.state repo.old) (D.state repo.new) }
-    ensures cause { IfErr result (HaltCause (VerifyCommandCause stanza.now (D.state repo.old).view.now)
-        (Only Repo (Rises (D.state repo.old).faults (D.state repo.new).faults))) }
+    ensures cause { IfErr result (VerifyCommandFails stanza.now (D.state repo.old) (D.state repo.new)) }
 {
     match verify(alloc, repo, stanza, backup) {
         Ok(found) => Ok(outcome_of(alloc, &found)?),

@@ -1,12 +1,7 @@
 // Looks at the stored segments.
-ghost use Rattle.std.specs.Prelude.{◌≡◌, ◌≤◌, IfOk, IfSome, IsSomeAnd, OnOk, IsErrOf, length, string_bytes};
+ghost use Rattle.std.specs.Prelude.{IfOk, OnOk, IsErrOf};
 ghost use Rattle.base_devices.specs.Cause.{HasCause, Rises};
-ghost use Rattle.base_model.specs.Text.{Text};
-ghost use Rattle.archive_lookup.specs.Stored.{AreStored, IsStoredFile};
-ghost use Rattle.cmd_verify.specs.Adding.{Adds, OfSome};
-ghost use Rattle.cmd_verify.specs.Archived.{HasOther};
-ghost use Rattle.cmd_verify.specs.Findings.{FileDeviates};
-ghost use Rattle.cmd_verify.specs.Lies.{LiesSo};
+ghost use Rattle.cmd_verify.specs.Looking.{HoldsStored, AddsStored, AddsBytes, AddsArchive};
 ghost use Rattle.base_devices.specs.States.{OnlyReads};
 
 use crate::findings::finding::{Finding, LookFault, Mark};
@@ -19,9 +14,7 @@ use std::alloc::Global;
 
 // What lies at a stored file's path, of as many bytes as it has.
 fn lies_of<D: Disk>(d: &mut D, file: &Stored) -> Result<Lies, DeviceError>
-    ensures lies { IfOk result (λ r. IfSome (D.state d.old).view.now
-        (λ f. IsSomeAnd (f (string_bytes file.now.path)) (λ bytes. length bytes ≡ file.now.size)
-        → LiesSo (f (string_bytes file.now.path)) 0 file.now.size r)) }
+    ensures lies { IfOk result (HoldsStored file.now (D.state d.old)) }
     ensures looks { OnlyReads (D.state d.old) (D.state d.new) }
     ensures cause { HasCause (D.state d.old).faults (D.state d.new).faults result }
 {
@@ -38,8 +31,7 @@ fn look_at_stored<D: Disk>(
     file: &Stored,
     found: &mut Vec<Finding>,
 ) -> Result<(), LookFault>
-    ensures adds { OnOk result (IfSome (D.state d.old).view.now (λ f. (stanza : Text)
-        → IsStoredFile stanza f file.now → Adds (HasOther f file.now) found.old.items found.new.items)) }
+    ensures adds { OnOk result (AddsStored file.now (D.state d.old) found.old found.new) }
     ensures looks { OnlyReads (D.state d.old) (D.state d.new) }
     ensures cause { IsErrOf result LookFault.Disk → Rises (D.state d.old).faults (D.state d.new).faults }
 {
@@ -61,8 +53,7 @@ fn look_at_bytes<D: Disk>(
     files: &[Stored],
     found: &mut Vec<Finding>,
 ) -> Result<(), LookFault>
-    ensures adds { OnOk result (IfSome (D.state d.old).view.now (λ f. (stanza : Text) → AreStored stanza f files.now
-        → Adds (OfSome (HasOther f) files.now) found.old.items found.new.items)) }
+    ensures adds { OnOk result (AddsBytes files.now (D.state d.old) found.old found.new) }
     ensures looks { OnlyReads (D.state d.old) (D.state d.new) }
     ensures cause { IsErrOf result LookFault.Disk → Rises (D.state d.old).faults (D.state d.new).faults }
 {
@@ -79,8 +70,7 @@ pub(crate) fn look_at_archive<D: Disk>(
     files: &[Stored],
     found: &mut Vec<Finding>,
 ) -> Result<(), LookFault>
-    ensures adds { OnOk result (IfSome (D.state d.old).view.now (λ f. (stanza : Text) → AreStored stanza f files.now
-        → Adds (FileDeviates stanza f) found.old.items found.new.items)) }
+    ensures adds { OnOk result (AddsArchive files.now (D.state d.old) found.old found.new) }
     ensures looks { OnlyReads (D.state d.old) (D.state d.new) }
     ensures cause { IsErrOf result LookFault.Disk → Rises (D.state d.old).faults (D.state d.new).faults }
 {

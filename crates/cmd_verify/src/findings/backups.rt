@@ -1,15 +1,10 @@
 // Looks at a listed backup.
-ghost use Rattle.std.specs.Prelude.{◌≡◌, ◌≤◌, IfOk, IfSome, OnOk, IsErrOf, string_bytes};
+ghost use Rattle.std.specs.Prelude.{IfOk, IfSome, OnOk, IsErrOf};
 ghost use Rattle.base_devices.specs.Cause.{Rises};
 ghost use Rattle.base_model.specs.InfoFiles.{IsLabel};
-ghost use Rattle.base_model.specs.ManifestText.{IsManifestText};
-ghost use Rattle.base_model.specs.Names.{manifest_name};
 ghost use Rattle.archive_lookup.specs.Stored.{AreStored};
-ghost use Rattle.cmd_verify.specs.Adding.{AddsMost};
-ghost use Rattle.base_model.specs.Values.{entry_of, manifest_of};
-ghost use Rattle.cmd_verify.specs.Findings.{BackupDeviates, ListedDeviates};
-ghost use Rattle.cmd_verify.specs.Members.{ValueSo};
-ghost use Rattle.cmd_verify.specs.Sharing.{AreListed, OwnDeviates, IsElsewhere};
+ghost use Rattle.cmd_verify.specs.Looking.{AddsOfBackup, AddsListed, HoldsManifest};
+ghost use Rattle.cmd_verify.specs.Sharing.{AreListed};
 ghost use Rattle.base_devices.specs.States.{OnlyReads};
 
 use crate::findings::entries::tell_unlike;
@@ -23,6 +18,12 @@ use base_devices::Disk;
 use base_model::{Cluster, Entry, Label, Manifest};
 use std::alloc::Global;
 
+/// What backups are compared with: the labels that are listed, and the archived files.
+pub(crate) struct StanzaLists<'a> {
+    pub labels: &'a [Label],
+    pub files: &'a [Stored],
+}
+
 // Looks at a backup: at its manifest, its files, the segments that it needs and the labels that it refers to. The
 // answer is its manifest, where it has one.
 fn look_at_backup<D: Disk>(
@@ -30,18 +31,14 @@ fn look_at_backup<D: Disk>(
     d: &mut D,
     stanza: &str,
     own: &Label,
-    labels: &[Label],
-    files: &[Stored],
+    lists: &StanzaLists<'_>,
     found: &mut Vec<Finding>,
 ) -> Result<Option<Manifest>, LookFault>
     requires own { IsLabel own.now }
-    requires listed { IfSome (D.state d.old).view.now (λ f. AreListed stanza.now labels.now f) }
-    requires stored { IfSome (D.state d.old).view.now (λ f. AreStored stanza.now f files.now) }
-    ensures adds { OnOk result (IfSome (D.state d.old).view.now
-        (λ f. AddsMost (BackupDeviates stanza.now f own.now) (OwnDeviates stanza.now f own.now)
-        (IsElsewhere stanza.now f) found.old.items found.new.items)) }
-    ensures value { IfOk result (λ v. IfSome (D.state d.old).view.now
-        (λ f. ValueSo IsManifestText manifest_of f (manifest_name stanza.now own.now) v)) }
+    requires listed { IfSome (D.state d.old).view.now (λ f. AreListed stanza.now lists.now.labels.now f) }
+    requires stored { IfSome (D.state d.old).view.now (λ f. AreStored stanza.now f lists.now.files.now) }
+    ensures adds { OnOk result (AddsOfBackup stanza.now own.now (D.state d.old) found.old found.new) }
+    ensures value { IfOk result (HoldsManifest stanza.now own.now (D.state d.old)) }
     ensures looks { OnlyReads (D.state d.old) (D.state d.new) }
     ensures cause { IsErrOf result LookFault.Disk → Rises (D.state d.old).faults (D.state d.new).faults }
 {
@@ -49,9 +46,9 @@ fn look_at_backup<D: Disk>(
     let Some(manifest) = look_at_manifest(alloc, d, name.as_str(), found)? else {
         return Ok(None);
     };
-    look_at_files(alloc, d, stanza, own, &manifest.files, labels, found)?;
-    look_for_gaps(alloc, stanza, own, &manifest, files, found)?;
-    look_for_references(alloc, name.as_str(), &manifest.files, labels, found)?;
+    look_at_files(alloc, d, stanza, own, &manifest.files, lists.labels, found)?;
+    look_for_gaps(alloc, stanza, own, &manifest, lists.files, found)?;
+    look_for_references(alloc, name.as_str(), &manifest.files, lists.labels, found)?;
     Ok(Some(manifest))
 }
 
@@ -62,22 +59,19 @@ pub(crate) fn look_at_listed<D: Disk>(
     stanza: &str,
     history: &[Cluster],
     entry: &Entry,
-    labels: &[Label],
-    files: &[Stored],
+    lists: &StanzaLists<'_>,
     found: &mut Vec<Finding>,
 ) -> Result<(), LookFault>
     requires own { IsLabel entry.now.label }
-    requires listed { IfSome (D.state d.old).view.now (λ f. AreListed stanza.now labels.now f) }
-    requires stored { IfSome (D.state d.old).view.now (λ f. AreStored stanza.now f files.now) }
-    ensures adds { OnOk result (IfSome (D.state d.old).view.now
-        (λ f. AddsMost (ListedDeviates stanza.now f history.now (entry_of entry.now))
-        (OwnDeviates stanza.now f entry.now.label) (IsElsewhere stanza.now f) found.old.items found.new.items)) }
+    requires listed { IfSome (D.state d.old).view.now (λ f. AreListed stanza.now lists.now.labels.now f) }
+    requires stored { IfSome (D.state d.old).view.now (λ f. AreStored stanza.now f lists.now.files.now) }
+    ensures adds { OnOk result
+        (AddsListed stanza.now history.now entry.now (D.state d.old) found.old found.new) }
     ensures looks { OnlyReads (D.state d.old) (D.state d.new) }
     ensures cause { IsErrOf result LookFault.Disk → Rises (D.state d.old).faults (D.state d.new).faults }
 {
     let name = manifest_name(alloc, stanza, &entry.label)?;
-    let Some(manifest) = look_at_backup(alloc, d, stanza, &entry.label, labels, files, found)?
-    else {
+    let Some(manifest) = look_at_backup(alloc, d, stanza, &entry.label, lists, found)? else {
         return Ok(());
     };
     tell_unlike(alloc, name.as_str(), history, entry, &manifest, found)?;

@@ -1,14 +1,13 @@
 // Whether a manifest states the backup that its entry in `backup.info` does.
-ghost use Rattle.std.specs.Prelude.{◌≡◌, ◌≢◌, ◌↔◌, false, IfOk, IsTrue, OnOk, map, option_map};
+ghost use Rattle.std.specs.Prelude.{◌≡◌, ◌≢◌, false, IfOk, IsTrue, OnOk, option_map};
 ghost use Rattle.base_model.specs.declared.clusters.Cluster.{Cluster as ClusterOf};
 ghost use Rattle.base_model.specs.declared.labels.Label.{Label as LabelOf};
 ghost use Rattle.base_model.specs.declared.wal.WalPart.{WalPart as WalOf};
 ghost use Rattle.base_model.specs.Text.{In};
-ghost use Rattle.base_model.specs.Values.{entry_of, file_entry_of, manifest_of};
-ghost use Rattle.cmd_verify.specs.Adding.{Adds};
-ghost use Rattle.cmd_verify.specs.Entries.{ShowsSame, IsUnlikeAt};
-ghost use Rattle.cmd_verify.specs.Findings.{IsOfEntry};
-ghost use Rattle.cmd_verify.specs.References.{RefersTo};
+ghost use Rattle.base_model.specs.Values.{entry_of, manifest_of};
+ghost use Rattle.cmd_verify.specs.Entries.{ShowsSame, StatesEntry};
+ghost use Rattle.cmd_verify.specs.Looking.{AddsUnlike};
+ghost use Rattle.cmd_verify.specs.References.{RefersAlike};
 ghost use Rattle.cmd_verify.specs.What.{Shows, Unlike};
 
 use crate::findings::finding::{Finding, FindingKind};
@@ -90,10 +89,8 @@ fn shows_same(entry: &Entry, manifest: &Manifest) -> bool
 
 // Whether the labels that the manifest's files refer to are those of the entry.
 fn has_same_references(alloc: Global, entry: &Entry, manifest: &Manifest) -> Result<bool, NoMemory>
-    ensures yes { IfOk result (λ r. IsTrue r → (l : LabelOf)
-        → In l entry.now.references.items ↔ RefersTo (map file_entry_of manifest.now.files.items) l) }
-    ensures no { IfOk result (λ r. r ≡ false → ¬ ((l : LabelOf)
-        → In l entry.now.references.items ↔ RefersTo (map file_entry_of manifest.now.files.items) l)) }
+    ensures yes { IfOk result (λ r. IsTrue r → RefersAlike entry.now manifest.now) }
+    ensures no { IfOk result (λ r. r ≡ false → ¬ RefersAlike entry.now manifest.now) }
 {
     let labels = labels_of(alloc, &manifest.files)?;
     if !has_all(&labels, &entry.references) {
@@ -110,10 +107,8 @@ fn is_of_entry(
     entry: &Entry,
     manifest: &Manifest,
 ) -> Result<bool, NoMemory>
-    ensures yes { IfOk result
-        (λ r. IsTrue r → IsOfEntry history.now (entry_of entry.now) (manifest_of manifest.now)) }
-    ensures no { IfOk result
-        (λ r. r ≡ false → ¬ IsOfEntry history.now (entry_of entry.now) (manifest_of manifest.now)) }
+    ensures yes { IfOk result (λ r. IsTrue r → StatesEntry history.now entry.now manifest.now) }
+    ensures no { IfOk result (λ r. r ≡ false → ¬ StatesEntry history.now entry.now manifest.now) }
 {
     if !shows_same(entry, manifest) {
         return Ok(false);
@@ -144,9 +139,7 @@ pub(crate) fn tell_unlike(
     manifest: &Manifest,
     found: &mut Vec<Finding>,
 ) -> Result<(), NoMemory>
-    ensures { OnOk result
-        (Adds (IsUnlikeAt name.now history.now (entry_of entry.now) (manifest_of manifest.now))
-        found.old.items found.new.items) }
+    ensures { OnOk result (AddsUnlike name.now history.now entry.now manifest.now found.old found.new) }
 {
     let like = is_of_entry(alloc, history, entry, manifest)?;
     if !like {

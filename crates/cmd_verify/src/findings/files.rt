@@ -1,13 +1,11 @@
 // Looks at the files of a backup.
-ghost use Rattle.std.specs.Prelude.{◌≡◌, ◌≢◌, ◌≤◌, false, None, IfOk, IfSome, IsTrue, OnOk, IsErrOf, map, string_bytes};
+ghost use Rattle.std.specs.Prelude.{◌≡◌, ◌≢◌, false, None, IfOk, IfSome, IsTrue, OnOk, IsErrOf, map, string_bytes};
 ghost use Rattle.base_devices.specs.Cause.{Rises};
 ghost use Rattle.base_model.specs.InfoFiles.{IsLabel};
 ghost use Rattle.base_model.specs.Place.{place};
 ghost use Rattle.base_model.specs.Text.{In};
 ghost use Rattle.base_model.specs.Values.{FileEntry as Entered, file_entry_of};
-ghost use Rattle.cmd_verify.specs.Findings.{EntryDeviates};
-ghost use Rattle.cmd_verify.specs.Adding.{Adds, OfSome};
-ghost use Rattle.cmd_verify.specs.Sharing.{OwnEntryDeviates};
+ghost use Rattle.cmd_verify.specs.Looking.{AddsFile, AddsOwnFile, AddsOwnFiles};
 ghost use Rattle.base_devices.specs.States.{OnlyReads};
 
 use crate::findings::finding::{Finding, LookFault, Mark};
@@ -60,8 +58,7 @@ pub(crate) fn look_at_file<D: Disk>(
 ) -> Result<(), LookFault>
     requires own { IsLabel own.now }
     requires reference { IfSome file.now.reference IsLabel }
-    ensures adds { OnOk result (IfSome (D.state d.old).view.now
-        (λ f. Adds (EntryDeviates stanza.now f own.now (file_entry_of file.now)) found.old.items found.new.items)) }
+    ensures adds { OnOk result (AddsFile stanza.now own.now file.now (D.state d.old) found.old found.new) }
     ensures looks { OnlyReads (D.state d.old) (D.state d.new) }
     ensures cause { IsErrOf result LookFault.Disk → Rises (D.state d.old).faults (D.state d.new).faults }
 {
@@ -95,8 +92,7 @@ fn look_at_own_file<D: Disk>(
 ) -> Result<(), LookFault>
     requires own { IsLabel own.now }
     requires reference { IfSome file.now.reference IsLabel }
-    ensures adds { OnOk result (IfSome (D.state d.old).view.now
-        (λ f. Adds (OwnEntryDeviates stanza.now f own.now (file_entry_of file.now)) found.old.items found.new.items)) }
+    ensures adds { OnOk result (AddsOwnFile stanza.now own.now file.now (D.state d.old) found.old found.new) }
     ensures looks { OnlyReads (D.state d.old) (D.state d.new) }
     ensures cause { IsErrOf result LookFault.Disk → Rises (D.state d.old).faults (D.state d.new).faults }
 {
@@ -118,9 +114,7 @@ pub(crate) fn look_at_own_files<D: Disk>(
 ) -> Result<(), LookFault>
     requires own { IsLabel own.now }
     requires references { (e : Entered) → In e (map file_entry_of files.now) → IfSome e.reference IsLabel }
-    ensures adds { OnOk result (IfSome (D.state d.old).view.now
-        (λ f. Adds (OfSome (OwnEntryDeviates stanza.now f own.now) (map file_entry_of files.now)) found.old.items
-        found.new.items)) }
+    ensures adds { OnOk result (AddsOwnFiles stanza.now own.now files.now (D.state d.old) found.old found.new) }
     ensures looks { OnlyReads (D.state d.old) (D.state d.new) }
     ensures cause { IsErrOf result LookFault.Disk → Rises (D.state d.old).faults (D.state d.new).faults }
 {

@@ -1,16 +1,14 @@
 // Looks for the segments that a backup needs.
-ghost use Rattle.std.specs.Prelude.{◌≡◌, ◌≢◌, ◌≤◌, ◌↔◌, ◌⊎◌, false, IfOk, IsTrue, OnOk, string_bytes};
+ghost use Rattle.std.specs.Prelude.{◌≡◌, ◌≢◌, ◌≤◌, ◌↔◌, false, IfOk, IsTrue, OnOk, string_bytes};
 ghost use Rattle.base_model.specs.declared.wal.Segment.{Segment as SegmentOf};
-ghost use Rattle.base_devices.specs.Content.{Content};
 ghost use Rattle.base_model.specs.InfoFiles.{IsLabel};
 ghost use Rattle.base_model.specs.ManifestText.{IsWalPart, IsManifest};
 ghost use Rattle.base_model.specs.Names.{label_folder};
 ghost use Rattle.base_model.specs.Values.{manifest_of};
-ghost use Rattle.archive_lookup.specs.Stored.{AreStored};
-ghost use Rattle.cmd_verify.specs.Findings.{SpanDeviates};
 ghost use Rattle.base_model.specs.Text.{In};
 ghost use Rattle.cmd_verify.specs.Adding.{Adds};
-ghost use Rattle.cmd_verify.specs.Gaps.{IsNear, IsWhole, HasWhole, IsGap, Gaps};
+ghost use Rattle.cmd_verify.specs.Gaps.{IsNear, AddsWhole, HasWhole, IsGap, GapsOf};
+ghost use Rattle.cmd_verify.specs.Looking.{AddsSpan};
 ghost use Rattle.cmd_verify.specs.What.{Gap, Shows};
 
 use crate::findings::finding::{Finding, FindingKind};
@@ -44,8 +42,7 @@ fn add_segment(
     id: ArchiveId,
     span: &Span,
 ) -> Result<(), NoMemory>
-    ensures { OnOk result ((s : SegmentOf)
-        → In s stored.new.items ↔ (In s stored.old.items ⊎ IsWhole id span.now file.now s)) }
+    ensures { OnOk result (AddsWhole id span.now file.now stored.old.items stored.new.items) }
 {
     if let ArchiveName::Segment(segment) = file.name {
         if file.id == id {
@@ -121,8 +118,7 @@ fn tell_gaps(
     found: &mut Vec<Finding>,
 ) -> Result<(), NoMemory>
     requires { IsWalPart wal.now }
-    ensures { OnOk result (Adds (Gaps name.now stored.now wal.now.size.0 wal.now.span) found.old.items
-        found.new.items) }
+    ensures { OnOk result (Adds (GapsOf name.now stored.now wal.now) found.old.items found.new.items) }
 {
     let Span { start, stop } = wal.span;
     let mut segment = start;
@@ -156,8 +152,7 @@ pub(crate) fn look_for_gaps(
 ) -> Result<(), NoMemory>
     requires own { IsLabel own.now }
     requires rules { IsManifest (manifest_of manifest.now) }
-    ensures { OnOk result ((f : Content) → AreStored stanza.now f files.now
-        → Adds (SpanDeviates stanza.now f own.now (manifest_of manifest.now)) found.old.items found.new.items) }
+    ensures { OnOk result (AddsSpan stanza.now own.now manifest.now files.now found.old found.new) }
 {
     let Some(wal) = manifest.wal else {
         return Ok(());

@@ -1,14 +1,12 @@
 // Looks at the two members of a pair.
-ghost use Rattle.std.specs.Prelude.{◌≡◌, ℕ, List, IfOk, IfSome, OnOk, IsErrOf, string_bytes};
+ghost use Rattle.std.specs.Prelude.{◌≡◌, IfOk, IfSome, OnOk, IsErrOf, string_bytes};
 ghost use Rattle.base_devices.specs.Cause.{Rises};
-ghost use Rattle.base_devices.specs.Content.{Content};
-ghost use Rattle.base_model.specs.Names.{copy_of, manifest_name};
+ghost use Rattle.base_model.specs.Names.{manifest_name};
 ghost use Rattle.base_model.specs.InfoFiles.{IsLabel};
 ghost use Rattle.base_model.specs.ManifestText.{IsManifest, IsManifestText};
 ghost use Rattle.base_model.specs.Values.{manifest_of};
-ghost use Rattle.cmd_verify.specs.Findings.{MemberDeviates, BothDeviate, PairDeviates};
-ghost use Rattle.cmd_verify.specs.Members.{IfGood, MemberSo, ValueSo};
-ghost use Rattle.cmd_verify.specs.Adding.{Adds};
+ghost use Rattle.cmd_verify.specs.Looking.{HoldsMember, HoldsValue, HaveValue, AddsMember, AddsBoth, AddsPair};
+ghost use Rattle.cmd_verify.specs.Members.{IfGood};
 ghost use Rattle.base_devices.specs.States.{OnlyReads};
 
 use crate::findings::finding::{Finding, FindingKind, LookFault};
@@ -34,8 +32,7 @@ fn read_member<D: Disk, I: ReadInfo>(
     d: &mut D,
     name: &str,
 ) -> Result<Member<I>, LookFault>
-    ensures member { IfOk result (λ m. IfSome (D.state d.old).view.now
-        (λ f. MemberSo I.IsText I.value (f name.now) m)) }
+    ensures member { IfOk result (HoldsMember I.IsText I.value name.now (D.state d.old)) }
     ensures valid { IfOk result (λ m. IfGood I.is_valid m) }
     ensures looks { OnlyReads (D.state d.old) (D.state d.new) }
     ensures cause { IsErrOf result LookFault.Disk → Rises (D.state d.old).faults (D.state d.new).faults }
@@ -68,8 +65,7 @@ fn tell_member<I: ReadInfo>(
     member: &Member<I>,
     found: &mut Vec<Finding>,
 ) -> Result<(), NoMemory>
-    ensures { OnOk result ((f : Content) → MemberSo I.IsText I.value (f name.now) member.now
-        → Adds (MemberDeviates I.IsText f name.now) found.old.items found.new.items) }
+    ensures { OnOk result (AddsMember I.IsText I.value name.now member.now found.old found.new) }
 {
     match member {
         Member::Absent => found.push(known(
@@ -91,9 +87,7 @@ fn tell_both<I: ReadInfo>(
     copy: &Member<I>,
     found: &mut Vec<Finding>,
 ) -> Result<(), NoMemory>
-    ensures { OnOk result ((f : Content) → MemberSo I.IsText I.value (f name.now) main.now
-        → MemberSo I.IsText I.value (f (copy_of name.now)) copy.now
-        → Adds (BothDeviate I.IsText f name.now) found.old.items found.new.items) }
+    ensures { OnOk result (AddsBoth I.IsText I.value name.now main.now copy.now found.old found.new) }
 {
     let Member::Good { bytes, .. } = main else {
         return Ok(());
@@ -109,8 +103,7 @@ fn tell_both<I: ReadInfo>(
 
 fn value_of<I: ReadInfo>(main: Member<I>, copy: Member<I>) -> Option<I>
     ensures valid { IfGood I.is_valid main → IfGood I.is_valid copy → IfSome result I.is_valid }
-    ensures value { (f : Content) (name : List ℕ) → MemberSo I.IsText I.value (f name) main
-        → MemberSo I.IsText I.value (f (copy_of name)) copy → ValueSo I.IsText I.value f name result }
+    ensures value { HaveValue I.IsText I.value main copy result }
 {
     match (main, copy) {
         (Member::Good { value, .. }, _) => Some(value),
@@ -126,9 +119,8 @@ pub(crate) fn look_at_pair<D: Disk, I: ReadInfo>(
     name: &str,
     found: &mut Vec<Finding>,
 ) -> Result<Option<I>, LookFault>
-    ensures adds { OnOk result (IfSome (D.state d.old).view.now
-        (λ f. Adds (PairDeviates I.IsText f name.now) found.old.items found.new.items)) }
-    ensures value { IfOk result (λ v. IfSome (D.state d.old).view.now (λ f. ValueSo I.IsText I.value f name.now v)) }
+    ensures adds { OnOk result (AddsPair I.IsText name.now (D.state d.old) found.old found.new) }
+    ensures value { IfOk result (HoldsValue I.IsText I.value name.now (D.state d.old)) }
     ensures valid { IfOk result (λ v. IfSome v I.is_valid) }
     ensures looks { OnlyReads (D.state d.old) (D.state d.new) }
     ensures cause { IsErrOf result LookFault.Disk → Rises (D.state d.old).faults (D.state d.new).faults }
@@ -158,10 +150,8 @@ pub(crate) fn look_at_manifest<D: Disk>(
     name: &str,
     found: &mut Vec<Finding>,
 ) -> Result<Option<Manifest>, LookFault>
-    ensures adds { OnOk result (IfSome (D.state d.old).view.now
-        (λ f. Adds (PairDeviates IsManifestText f name.now) found.old.items found.new.items)) }
-    ensures value { IfOk result (λ v. IfSome (D.state d.old).view.now
-        (λ f. ValueSo IsManifestText manifest_of f name.now v)) }
+    ensures adds { OnOk result (AddsPair IsManifestText name.now (D.state d.old) found.old found.new) }
+    ensures value { IfOk result (HoldsValue IsManifestText manifest_of name.now (D.state d.old)) }
     ensures rules { IfOk result (λ v. IfSome v (λ m. IsManifest (manifest_of m))) }
     ensures looks { OnlyReads (D.state d.old) (D.state d.new) }
     ensures cause { IsErrOf result LookFault.Disk → Rises (D.state d.old).faults (D.state d.new).faults }

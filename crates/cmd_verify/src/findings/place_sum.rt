@@ -1,9 +1,7 @@
 // The sum of the bytes at a place.
-ghost use Rattle.std.specs.Prelude.{◌≡◌, ◌<◌, ℕ, IfOk, IfSome, string_bytes};
-ghost use Rattle.base_devices.specs.Content.{Value};
+ghost use Rattle.std.specs.Prelude.{◌≡◌, ◌<◌, IfOk, IfSome, string_bytes};
 ghost use Rattle.base_devices.specs.Cause.{HasCause};
-ghost use Rattle.cmd_verify.specs.Findings.{BytesDeviate};
-ghost use Rattle.cmd_verify.specs.Lies.{LiesSo, ShowsJustOne};
+ghost use Rattle.cmd_verify.specs.Lies.{LiesSo, ShowsDeviation};
 ghost use Rattle.cmd_verify.specs.What.{Short, Digest, line_of};
 ghost use Rattle.base_devices.specs.States.{OnlyReads};
 
@@ -80,8 +78,7 @@ pub(crate) fn deviation(
     size: u64,
     sum: &Sum,
 ) -> Result<Option<Mark>, NoMemory>
-    ensures { IfOk result (λ r. (v : Value) (at : ℕ) → LiesSo v at size lies
-        → ShowsJustOne (BytesDeviate v at size sum.now.0) r) }
+    ensures { IfOk result (ShowsDeviation lies size sum.now.0) }
 {
     match lies {
         Lies::Nothing => Ok(Some(Mark {

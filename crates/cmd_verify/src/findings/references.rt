@@ -1,11 +1,12 @@
 // The labels that a backup refers to.
-ghost use Rattle.std.specs.Prelude.{◌≡◌, ◌≢◌, ◌↔◌, ◌⊎◌, false, Some, IfOk, IsTrue, OnOk, map};
+ghost use Rattle.std.specs.Prelude.{◌≡◌, ◌≢◌, ◌↔◌, ◌⊎◌, false, IfOk, IsTrue, OnOk, map};
 ghost use Rattle.base_model.specs.declared.labels.Label.{Label as LabelOf};
 ghost use Rattle.base_model.specs.InfoFiles.{IsLabel};
 ghost use Rattle.base_model.specs.Text.{In};
 ghost use Rattle.base_model.specs.Values.{file_entry_of};
 ghost use Rattle.cmd_verify.specs.Adding.{Adds, OfSome};
-ghost use Rattle.cmd_verify.specs.References.{RefersTo, IsUnlisted, AreUnlisted};
+ghost use Rattle.cmd_verify.specs.References.{AddsReference, RefersTo, IsUnlisted};
+ghost use Rattle.cmd_verify.specs.Looking.{AddsUnlisted};
 ghost use Rattle.cmd_verify.specs.What.{Reference, Shows};
 
 use crate::findings::finding::{Finding, FindingKind};
@@ -46,8 +47,7 @@ fn add_label(labels: &mut Vec<Label>, label: Label) -> Result<(), NoMemory>
 
 // Adds the label that a file refers to.
 fn add_reference(labels: &mut Vec<Label>, file: &FileEntry) -> Result<(), NoMemory>
-    ensures { OnOk result ((l : LabelOf) → In l labels.new.items ↔ (In l labels.old.items
-        ⊎ (file.now.reference ≡ Some l))) }
+    ensures { OnOk result (AddsReference file.now.reference labels.old.items labels.new.items) }
 {
     if let Some(label) = file.reference {
         add_label(labels, label)?;
@@ -123,8 +123,7 @@ pub(crate) fn look_for_references(
     found: &mut Vec<Finding>,
 ) -> Result<(), NoMemory>
     requires { (l : LabelOf) → RefersTo (map file_entry_of files.now) l → IsLabel l }
-    ensures { OnOk result (Adds (AreUnlisted name.now (map file_entry_of files.now) listed.now) found.old.items
-        found.new.items) }
+    ensures { OnOk result (AddsUnlisted name.now files.now listed.now found.old found.new) }
 {
     let labels = labels_of(alloc, files)?;
     tell_unlisted(alloc, name, &labels, listed, found)?;

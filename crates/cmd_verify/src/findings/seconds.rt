@@ -1,11 +1,9 @@
 // Segments that are stored under several names.
 ghost use Rattle.std.specs.Prelude.{◌≡◌, false, IfOk, IsTrue, OnOk, string_bytes};
-ghost use Rattle.base_model.specs.Text.{Text};
-ghost use Rattle.base_devices.specs.Content.{Content};
-ghost use Rattle.archive_lookup.specs.Stored.{AreStored};
 ghost use Rattle.cmd_verify.specs.Adding.{Adds};
-ghost use Rattle.cmd_verify.specs.Archived.{FollowsAlike, SecondDeviates};
+ghost use Rattle.cmd_verify.specs.Archived.{FollowsAlike};
 ghost use Rattle.cmd_verify.specs.Findings.{segment_of};
+ghost use Rattle.cmd_verify.specs.Looking.{AddsSeconds};
 ghost use Rattle.cmd_verify.specs.What.{Second, Shows};
 
 use crate::findings::finding::{Finding, FindingKind};
@@ -71,9 +69,7 @@ pub(crate) fn tell_seconds(
     files: &[Stored],
     found: &mut Vec<Finding>,
 ) -> Result<(), NoMemory>
-    ensures { OnOk result
-        ((stanza : Text) (f : Content) → AreStored stanza f files.now
-        → Adds (SecondDeviates stanza f) found.old.items found.new.items) }
+    ensures { OnOk result (AddsSeconds files.now found.old found.new) }
 {
     for i in 1..files.len() {
         tell_second(alloc, &files[i - 1], &files[i], found)?;

@@ -6,9 +6,8 @@ ghost use Rattle.base_model.specs.declared.labels.Label.{Label as LabelOf};
 ghost use Rattle.base_model.specs.InfoFiles.{IsLabel};
 ghost use Rattle.base_model.specs.Text.{In};
 ghost use Rattle.base_model.specs.Values.{FileEntry as Entered, file_entry_of};
-ghost use Rattle.cmd_verify.specs.Adding.{AddsMost, OfSome, Never};
-ghost use Rattle.cmd_verify.specs.Findings.{EntryDeviates};
-ghost use Rattle.cmd_verify.specs.Sharing.{AreListed, IsOwn, AreFilesOf, OwnEntryDeviates, ReferredDeviates, SharedDeviates, IsElsewhere};
+ghost use Rattle.cmd_verify.specs.Looking.{HoldsFilesOf, AddsShared, AddsLabel, AddsLabels, AddsFiles};
+ghost use Rattle.cmd_verify.specs.Sharing.{AreListed, IsOwn, HasAsOwn};
 
 use crate::findings::files::{look_at_file, look_at_own_files};
 use crate::findings::finding::{Finding, LookFault};
@@ -18,6 +17,12 @@ use base_devices::Disk;
 use base_model::{Bundled, FileEntry, Label};
 use std::alloc::Global;
 use std::cmp::Ordering;
+
+/// A backup's label, and its files.
+pub(crate) struct BackupFiles<'a> {
+    pub label: &'a Label,
+    pub files: &'a [FileEntry],
+}
 
 // Whether a file lies in the folder of this label.
 fn lies_with(file: &FileEntry, label: &Label) -> bool
@@ -47,8 +52,7 @@ fn is_own(label: &Label, file: &FileEntry, other: &FileEntry) -> bool
 
 // Whether one of these is it. They are in order of their paths.
 fn has_own(label: &Label, file: &FileEntry, others: &[FileEntry]) -> bool
-    ensures { IsTrue result → (other : Entered) × In other (map file_entry_of others.now)
-        × IsOwn label.now (file_entry_of file.now) other }
+    ensures { IsTrue result → HasAsOwn label.now file.now others.now }
 {
     let mut low = 0usize;
     let mut high = others.len();
@@ -64,31 +68,28 @@ fn has_own(label: &Label, file: &FileEntry, others: &[FileEntry]) -> bool
     false
 }
 
-// A file, where it lies in the folder of this label and the backup there doesn't have it as its own.
+// A file, where it lies in the folder of the other backup and that one doesn't have it as its own.
 fn look_at_referring<D: Disk>(
     alloc: Global,
     d: &mut D,
     stanza: &str,
     own: &Label,
-    label: &Label,
-    others: &[FileEntry],
+    other: &BackupFiles<'_>,
     file: &FileEntry,
     found: &mut Vec<Finding>,
 ) -> Result<(), LookFault>
     requires own { IsLabel own.now }
     requires reference { IfSome file.now.reference IsLabel }
-    requires others { IfSome (D.state d.old).view.now
-        (λ f. AreFilesOf stanza.now f label.now (map file_entry_of others.now)) }
-    ensures adds { OnOk result (IfSome (D.state d.old).view.now
-        (λ f. AddsMost (ReferredDeviates stanza.now f own.now label.now (file_entry_of file.now)) Never
-        (IsElsewhere stanza.now f) found.old.items found.new.items)) }
+    requires others { HoldsFilesOf stanza.now other.now.label.now other.now.files.now (D.state d.old) }
+    ensures adds { OnOk result
+        (AddsShared stanza.now own.now other.now file.now (D.state d.old) found.old found.new) }
     ensures looks { OnlyReads (D.state d.old) (D.state d.new) }
     ensures cause { IsErrOf result LookFault.Disk → Rises (D.state d.old).faults (D.state d.new).faults }
 {
-    if !lies_with(file, label) {
+    if !lies_with(file, other.label) {
         return Ok(());
     }
-    if has_own(label, file, others) {
+    if has_own(other.label, file, other.files) {
         return Ok(());
     }
     look_at_file(alloc, d, stanza, own, file, found)?;
@@ -105,8 +106,7 @@ fn files_of<D: Disk>(
 ) -> Result<Vec<FileEntry>, LookFault>
     requires label { IsLabel label.now }
     requires listed { IfSome (D.state d.old).view.now (λ f. AreListed stanza.now listed.now f) }
-    ensures files { IfOk result (λ files. IfSome (D.state d.old).view.now
-        (λ f. AreFilesOf stanza.now f label.now (map file_entry_of files.items))) }
+    ensures files { IfOk result (λ files. HoldsFilesOf stanza.now label.now files.items (D.state d.old)) }
     ensures looks { OnlyReads (D.state d.old) (D.state d.new) }
     ensures cause { IsErrOf result LookFault.Disk → Rises (D.state d.old).faults (D.state d.new).faults }
 {
@@ -122,57 +122,55 @@ fn files_of<D: Disk>(
     }
 }
 
-// The files that lie in the folder of this label.
+// The files of a backup that lie in the folder of the other one.
 fn look_at_label<D: Disk>(
     alloc: Global,
     d: &mut D,
     stanza: &str,
-    own: &Label,
-    label: &Label,
-    others: &[FileEntry],
-    files: &[FileEntry],
+    backup: &BackupFiles<'_>,
+    other: &BackupFiles<'_>,
     found: &mut Vec<Finding>,
 ) -> Result<(), LookFault>
-    requires own { IsLabel own.now }
-    requires references { (e : Entered) → In e (map file_entry_of files.now) → IfSome e.reference IsLabel }
-    requires others { IfSome (D.state d.old).view.now
-        (λ f. AreFilesOf stanza.now f label.now (map file_entry_of others.now)) }
-    ensures adds { OnOk result (IfSome (D.state d.old).view.now
-        (λ f. AddsMost (OfSome (ReferredDeviates stanza.now f own.now label.now) (map file_entry_of files.now))
-        Never (IsElsewhere stanza.now f) found.old.items found.new.items)) }
+    requires own { IsLabel backup.now.label.now }
+    requires references { (e : Entered) → In e (map file_entry_of backup.now.files.now)
+        → IfSome e.reference IsLabel }
+    requires others { HoldsFilesOf stanza.now other.now.label.now other.now.files.now (D.state d.old) }
+    ensures adds { OnOk result (AddsLabel stanza.now backup.now other.now (D.state d.old) found.old found.new) }
     ensures looks { OnlyReads (D.state d.old) (D.state d.new) }
     ensures cause { IsErrOf result LookFault.Disk → Rises (D.state d.old).faults (D.state d.new).faults }
 {
-    for file in files {
-        look_at_referring(alloc, d, stanza, own, label, others, file, found)?;
+    for file in backup.files {
+        look_at_referring(alloc, d, stanza, backup.label, other, file, found)?;
     }
     Ok(())
 }
 
-// The files that lie in the folders of these labels. Of each the manifest is read.
+// The files of a backup that lie in the folders of these labels. Of each the manifest is read.
 fn look_at_labels<D: Disk>(
     alloc: Global,
     d: &mut D,
     stanza: &str,
-    own: &Label,
+    backup: &BackupFiles<'_>,
     labels: &[Label],
     listed: &[Label],
-    files: &[FileEntry],
     found: &mut Vec<Finding>,
 ) -> Result<(), LookFault>
-    requires own { IsLabel own.now }
+    requires own { IsLabel backup.now.label.now }
     requires labels { (l : LabelOf) → In l labels.now → IsLabel l }
-    requires references { (e : Entered) → In e (map file_entry_of files.now) → IfSome e.reference IsLabel }
+    requires references { (e : Entered) → In e (map file_entry_of backup.now.files.now)
+        → IfSome e.reference IsLabel }
     requires listed { IfSome (D.state d.old).view.now (λ f. AreListed stanza.now listed.now f) }
-    ensures adds { OnOk result (IfSome (D.state d.old).view.now
-        (λ f. AddsMost (OfSome (SharedDeviates stanza.now f own.now (map file_entry_of files.now)) labels.now)
-        Never (IsElsewhere stanza.now f) found.old.items found.new.items)) }
+    ensures adds { OnOk result (AddsLabels stanza.now backup.now labels.now (D.state d.old) found.old found.new) }
     ensures looks { OnlyReads (D.state d.old) (D.state d.new) }
     ensures cause { IsErrOf result LookFault.Disk → Rises (D.state d.old).faults (D.state d.new).faults }
 {
     for label in labels {
         let others = files_of(alloc, d, stanza, label, listed)?;
-        look_at_label(alloc, d, stanza, own, label, &others, files, found)?;
+        let other = BackupFiles {
+            label,
+            files: &others,
+        };
+        look_at_label(alloc, d, stanza, backup, &other, found)?;
     }
     Ok(())
 }
@@ -191,15 +189,13 @@ pub(crate) fn look_at_files<D: Disk>(
     requires own { IsLabel own.now }
     requires references { (e : Entered) → In e (map file_entry_of files.now) → IfSome e.reference IsLabel }
     requires listed { IfSome (D.state d.old).view.now (λ f. AreListed stanza.now listed.now f) }
-    ensures adds { OnOk result (IfSome (D.state d.old).view.now
-        (λ f. AddsMost (OfSome (EntryDeviates stanza.now f own.now) (map file_entry_of files.now))
-        (OfSome (OwnEntryDeviates stanza.now f own.now) (map file_entry_of files.now)) (IsElsewhere stanza.now f)
-        found.old.items found.new.items)) }
+    ensures adds { OnOk result (AddsFiles stanza.now own.now files.now (D.state d.old) found.old found.new) }
     ensures looks { OnlyReads (D.state d.old) (D.state d.new) }
     ensures cause { IsErrOf result LookFault.Disk → Rises (D.state d.old).faults (D.state d.new).faults }
 {
     look_at_own_files(alloc, d, stanza, own, files, found)?;
     let labels = labels_of(alloc, files)?;
-    look_at_labels(alloc, d, stanza, own, &labels, listed, files, found)?;
+    let backup = BackupFiles { label: own, files };
+    look_at_labels(alloc, d, stanza, &backup, &labels, listed, found)?;
     Ok(())
 }

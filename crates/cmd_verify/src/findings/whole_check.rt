@@ -1,25 +1,18 @@
 // Looks at a repository as a whole.
-ghost use Rattle.std.specs.Prelude.{◌≡◌, ◌≤◌, [], IfOk, IfErr, IfSome, OnOk, IsErrOf, map};
+ghost use Rattle.std.specs.Prelude.{◌≡◌, IfOk, IfErr, IfSome, OnOk, IsErrOf, map};
 ghost use Rattle.base_devices.specs.Cause.{Rises};
-ghost use Rattle.base_model.specs.InfoFiles.{IsLabel, IsBackupText, IsBackupInfo};
-ghost use Rattle.base_model.specs.ManifestText.{IsManifestText};
-ghost use Rattle.base_model.specs.Names.{backup_info};
-ghost use Rattle.base_model.specs.Pair.{PairIs};
-ghost use Rattle.base_model.specs.Repository.{Stanza, IsSoundStanza};
-ghost use Rattle.base_model.specs.Represents.{HasStanza};
+ghost use Rattle.base_model.specs.InfoFiles.{IsLabel, IsBackupInfo};
 ghost use Rattle.base_model.specs.Values.{backup_info_of, entry_of, Entry as Listed};
 ghost use Rattle.base_model.specs.Text.{In};
 ghost use Rattle.archive_lookup.specs.Stored.{AreStored};
-ghost use Rattle.cmd_verify.specs.Adding.{Adds, AddsMost, OfSome};
-ghost use Rattle.cmd_verify.specs.Clean.{MembersAgree};
-ghost use Rattle.cmd_verify.specs.Exact.{AreFindings, PairsDeviate};
-ghost use Rattle.cmd_verify.specs.Faults.{VerifyCause};
-ghost use Rattle.cmd_verify.specs.Findings.{FileDeviates, ListedDeviates};
-ghost use Rattle.cmd_verify.specs.Sharing.{AreListed, OwnDeviates, IsElsewhere};
+ghost use Rattle.cmd_verify.specs.Exact.{AreFindings};
+ghost use Rattle.cmd_verify.specs.Faults.{VerifyFails};
+ghost use Rattle.cmd_verify.specs.Looking.{AddsArchiveOf, AddsBackups, AddsPairs, HoldsBackupPair, NoneIfSound};
+ghost use Rattle.cmd_verify.specs.Sharing.{AreListed};
 ghost use Rattle.base_devices.specs.States.{OnlyReads};
 
 use crate::findings::archive::look_at_archive;
-use crate::findings::backups::look_at_listed;
+use crate::findings::backups::{StanzaLists, look_at_listed};
 use crate::findings::finding::{Finding, LookFault, VerifyFault};
 use crate::findings::order::put_in_order;
 use crate::findings::pairs::look_at_pair;
@@ -47,22 +40,19 @@ fn look_at_backups<D: Disk>(
     stanza: &str,
     history: &[Cluster],
     entries: &[Entry],
-    labels: &[Label],
-    files: &[Stored],
+    lists: &StanzaLists<'_>,
     found: &mut Vec<Finding>,
 ) -> Result<(), LookFault>
     requires labels { (e : Listed) → In e (map entry_of entries.now) → IsLabel e.label }
-    requires listed { IfSome (D.state d.old).view.now (λ f. AreListed stanza.now labels.now f) }
-    requires stored { IfSome (D.state d.old).view.now (λ f. AreStored stanza.now f files.now) }
-    ensures adds { OnOk result (IfSome (D.state d.old).view.now
-        (λ f. AddsMost (OfSome (ListedDeviates stanza.now f history.now) (map entry_of entries.now))
-        (OfSome (λ (e : Listed). OwnDeviates stanza.now f e.label) (map entry_of entries.now))
-        (IsElsewhere stanza.now f) found.old.items found.new.items)) }
+    requires listed { IfSome (D.state d.old).view.now (λ f. AreListed stanza.now lists.now.labels.now f) }
+    requires stored { IfSome (D.state d.old).view.now (λ f. AreStored stanza.now f lists.now.files.now) }
+    ensures adds { OnOk result
+        (AddsBackups stanza.now history.now entries.now (D.state d.old) found.old found.new) }
     ensures looks { OnlyReads (D.state d.old) (D.state d.new) }
     ensures cause { IsErrOf result LookFault.Disk → Rises (D.state d.old).faults (D.state d.new).faults }
 {
     for entry in entries {
-        look_at_listed(alloc, d, stanza, history, entry, labels, files, found)?;
+        look_at_listed(alloc, d, stanza, history, entry, lists, found)?;
     }
     Ok(())
 }
@@ -74,8 +64,7 @@ fn look_at_pairs<D: Disk>(
     stanza: &str,
     found: &mut Vec<Finding>,
 ) -> Result<(), LookFault>
-    ensures adds { OnOk result (IfSome (D.state d.old).view.now
-        (λ f. Adds (PairsDeviate stanza.now f) found.old.items found.new.items)) }
+    ensures adds { OnOk result (AddsPairs stanza.now (D.state d.old) found.old found.new) }
     ensures looks { OnlyReads (D.state d.old) (D.state d.new) }
     ensures cause { IsErrOf result LookFault.Disk → Rises (D.state d.old).faults (D.state d.new).faults }
 {
@@ -93,13 +82,11 @@ fn look_at_files_of<D: Disk>(
     stanza: &str,
     found: &mut Vec<Finding>,
 ) -> Result<Vec<Stored>, VerifyFault>
-    ensures adds { OnOk result (IfSome (D.state d.old).view.now
-        (λ f. Adds (FileDeviates stanza.now f) found.old.items found.new.items)) }
+    ensures adds { OnOk result (AddsArchiveOf stanza.now (D.state d.old) found.old found.new) }
     ensures stored { IfOk result
         (λ files. IfSome (D.state d.old).view.now (λ f. AreStored stanza.now f files.items)) }
     ensures looks { OnlyReads (D.state d.old) (D.state d.new) }
-    ensures cause { IfErr result (VerifyCause stanza.now (D.state d.old).view.now
-        (Rises (D.state d.old).faults (D.state d.new).faults)) }
+    ensures cause { IfErr result (VerifyFails stanza.now (D.state d.old) (D.state d.new)) }
 {
     let files = all(alloc, d, stanza)?;
     look_at_archive(alloc, d, &files, found)?;
@@ -115,15 +102,12 @@ pub fn verify<D: Disk>(
     listed: &BackupInfo,
 ) -> Result<Vec<Finding>, VerifyFault>
     requires rules { IsBackupInfo (backup_info_of listed.now) }
-    requires listed { IfSome (D.state d.old).view.now
-        (λ f. PairIs IsBackupText f (backup_info stanza.now) (backup_info_of listed.now)) }
+    requires listed { HoldsBackupPair stanza.now (backup_info_of listed.now) (D.state d.old) }
     ensures exact { IfOk result
         (λ found. IfSome (D.state d.old).view.now (λ f. AreFindings stanza.now f found.items)) }
-    ensures clean { IfOk result (λ found. IfSome (D.state d.old).view.now (λ f. (s : Stanza)
-        → HasStanza stanza.now f s → IsSoundStanza s → MembersAgree stanza.now f s → found.items ≡ [])) }
+    ensures clean { IfOk result (NoneIfSound stanza.now (D.state d.old)) }
     ensures looks { OnlyReads (D.state d.old) (D.state d.new) }
-    ensures cause { IfErr result (VerifyCause stanza.now (D.state d.old).view.now
-        (Rises (D.state d.old).faults (D.state d.new).faults)) }
+    ensures cause { IfErr result (VerifyFails stanza.now (D.state d.old) (D.state d.new)) }
 {
     let labels = labels_of(alloc, &listed.backups)?;
     let mut found = Vec::new(alloc);
@@ -135,8 +119,10 @@ pub fn verify<D: Disk>(
         stanza,
         &listed.history,
         &listed.backups,
-        &labels,
-        &files,
+        &StanzaLists {
+            labels: &labels,
+            files: &files,
+        },
         &mut found,
     )?;
     put_in_order(&mut found);

@@ -12,7 +12,7 @@ returns-in_err-moment-clause-pruned g c = undone c.args.stanza.now c.args.rules.
     (g.D.Disk.state c.args.repo.now).view c.from_residual-in_err-moment.result c.in_err-moment.field-0.0 c.from_residual-in_err-moment.ensures.1
 
 pub expire_at-requires-clause-list : goal.expire_at-requires-clause-list
-expire_at-requires-clause-list g c = has_list c.args.stanza.now (g.D.Disk.state c.args.repo.now).view.now c.args.archive c.args.backup c.in_ok-list.list c.requires.archive c.requires.backup c.in_ok-list.ensures.settled
+expire_at-requires-clause-list g c = has_list c.args.stanza.now (g.D.Disk.state c.args.repo.now).view.now c.args.pairs.archive c.args.pairs.backup c.in_ok-list.list c.requires.archive c.requires.backup c.in_ok-list.ensures.settled
 
 pub expire_at-requires-clause-within : goal.expire_at-requires-clause-within
-expire_at-requires-clause-within g c = fits_less (backup_info_of c.args.backup) (backup_info_of c.in_ok-list.list) c.in_ok-list.ensures.shorter (unfits (backup_info_of c.args.backup) c.requires.fits)
+expire_at-requires-clause-within g c = fits_less (backup_info_of c.args.pairs.backup) (backup_info_of c.in_ok-list.list) c.in_ok-list.ensures.shorter (unfits (backup_info_of c.args.pairs.backup) c.requires.fits)

@@ -26,13 +26,13 @@ look_for_references-requires g c = λ l at.
 
 pub look_at_files-requires-clause-listed : goal.look_at_files-requires-clause-listed
 look_at_files-requires-clause-listed g c =
-    subst (λ (o : Option Content). IfSome o (λ f. (k : Label) → In k c.args.labels.now ↔ Lists c.args.stanza.now f k)) (sym c.in_ok-manifest.ensures.looks.now) c.requires.listed
+    subst (λ (o : Option Content). IfSome o (λ f. (k : Label) → In k c.args.lists.now.labels.now ↔ Lists c.args.stanza.now f k)) (sym c.in_ok-manifest.ensures.looks.now) c.requires.listed
 
 pub returns-clause-adds : goal.returns-clause-adds
 returns-clause-adds g c =
     let D = g.D.Disk in
     read_as_known c.args.stanza.now c.args.own.now (D.state c.args.d.now).view.now c.as_str.result.now (c.as_str.ensures.value ∙ c.in_ok-name.ensures) c.in_ok-manifest.field-0 c.in_ok-manifest.ensures.value c.args.found.now.items _ c.in_ok-manifest.ensures.adds
-    c.in-Some.manifest c.in-Some.is one_manifest (D.state c.look_at_manifest.new.d).view.now c.in_ok-manifest.ensures.looks.now c.deref.result.now c.deref.ensures.value c.args.files.now c.args.labels.now
+    c.in-Some.manifest c.in-Some.is one_manifest (D.state c.look_at_manifest.new.d).view.now c.in_ok-manifest.ensures.looks.now c.deref.result.now c.deref.ensures.value c.args.lists.now.files.now c.args.lists.now.labels.now
     _ _ _ c.requires.stored c.requires.listed c.in_ok-look_at_files.ensures.adds c.in_ok-look_for_gaps.ensures c.as_str-2.result.now (c.as_str-2.ensures.value ∙ sym c.as_str.ensures.value) c.deref-2.result.now c.deref-2.ensures.value c.in_ok-look_for_references.ensures
 
 pub returns-in_default-clause-value : goal.returns-in_default-clause-value

@@ -20,7 +20,7 @@ none = record { full = 0; later = None }
 
 pub loop-label-init : goal.loop-label-init
 loop-label-init g c = let D = g.D.Disk in record {
-  adds = most_start (λ (f : Content) (r : Label). SharedDeviates c.args.stanza.now f c.args.own.now (map file_entry_of c.args.files.now) r) (λ (f : Content) (r : Label). Never) (IsElsewhere c.args.stanza.now) (D.state c.args.d.now).view.now c.args.found.now.items;
+  adds = most_start (λ (f : Content) (r : Label). SharedDeviates c.args.stanza.now f c.args.backup.now.label.now (map file_entry_of c.args.backup.now.files.now) r) (λ (f : Content) (r : Label). Never) (IsElsewhere c.args.stanza.now) (D.state c.args.d.now).view.now c.args.found.now.items;
   looks = looks_still (D.state c.args.d.now);
 }
 
@@ -48,7 +48,7 @@ loop-label-preserved g c =
     let x = get_or c.args.labels.now l.label-index none in
     let looked = looks_on (D.state c.args.d.now) (D.state l.d) (D.state c.files_of.new.d) i.looks c.files_of.ensures.looks in
     record {
-      adds = most_own_step (λ (f : Content) (r : Label). SharedDeviates c.args.stanza.now f c.args.own.now (map file_entry_of c.args.files.now) r) (λ (f : Content) (r : Label). Never) (IsElsewhere c.args.stanza.now) (D.state c.args.d.now).view.now (D.state c.files_of.new.d).view.now
+      adds = most_own_step (λ (f : Content) (r : Label). SharedDeviates c.args.stanza.now f c.args.backup.now.label.now (map file_entry_of c.args.backup.now.files.now) r) (λ (f : Content) (r : Label). Never) (IsElsewhere c.args.stanza.now) (D.state c.args.d.now).view.now (D.state c.files_of.new.d).view.now
           c.args.labels.now l.label-index x c.args.found.now.items l.found.items c.look_at_label.new.found.items c.loop-label-test.true (get_or_default c.args.labels.now l.label-index none x c.loop-label-test.true) looked.now i.adds c.in_ok-look_at_label.ensures.adds;
       looks = looks_on (D.state c.args.d.now) (D.state c.files_of.new.d) (D.state c.look_at_label.new.d) looked c.look_at_label.ensures.looks;
     }
@@ -56,6 +56,6 @@ loop-label-preserved g c =
 pub returns-clause-adds : goal.returns-clause-adds
 returns-clause-adds g c = let D = g.D.Disk in
     let l = c.loop-label in
-    never_own (λ f. OfSome (SharedDeviates c.args.stanza.now f c.args.own.now (map file_entry_of c.args.files.now)) c.args.labels.now) (IsElsewhere c.args.stanza.now) c.args.labels.now (D.state c.args.d.now).view.now c.args.found.now.items l.found.items
-    (subst (λ (ls : List Label). IfSome (D.state c.args.d.now).view.now (λ f. AddsMost (OfSome (SharedDeviates c.args.stanza.now f c.args.own.now (map file_entry_of c.args.files.now)) ls) (OfSome (λ (r : Label). Never) ls) (IsElsewhere c.args.stanza.now f) c.args.found.now.items l.found.items))
+    never_own (λ f. OfSome (SharedDeviates c.args.stanza.now f c.args.backup.now.label.now (map file_entry_of c.args.backup.now.files.now)) c.args.labels.now) (IsElsewhere c.args.stanza.now) c.args.labels.now (D.state c.args.d.now).view.now c.args.found.now.items l.found.items
+    (subst (λ (ls : List Label). IfSome (D.state c.args.d.now).view.now (λ f. AddsMost (OfSome (SharedDeviates c.args.stanza.now f c.args.backup.now.label.now (map file_entry_of c.args.backup.now.files.now)) ls) (OfSome (λ (r : Label). Never) ls) (IsElsewhere c.args.stanza.now f) c.args.found.now.items l.found.items))
     (take_all l.label-index c.args.labels.now c.loop-label-test.false) l.invariant.adds)
