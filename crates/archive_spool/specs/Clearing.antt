@@ -1,6 +1,9 @@
 -- Marks that are of no use any more.
-use Rattle.std.specs.Prelude.{◌≡◌, ◌⊎◌, ◌++◌, List, map, Option, Some, None, IsSome, option_map, codes}
+use Rattle.std.specs.Prelude.{◌≡◌, ◌≢◌, ◌⊎◌, ◌++◌, List, All, map, Option, Some, None, IsSome, option_map, codes, string_bytes}
 use Rattle.base_devices.specs.Content.{Name, Content, at}
+use Rattle.base_devices.specs.declared.disk.Found.{Found}
+use Rattle.base_devices.specs.States.{DiskState, Works}
+use Rattle.base_disk.specs.Dropped.{IsAbsent}
 use Rattle.base_model.specs.declared.wal.ArchiveName.{ArchiveName}
 use Rattle.base_model.specs.Names.{receipt_name, wal_text}
 use Rattle.base_model.specs.Represents.{IsWalName}
@@ -29,11 +32,19 @@ pub record IsCleared (these : Name → Type 0) (old new : Option Content) : Type
   pub clears : Clears these old new
   pub gone : (g : Content) → new ≡ Some g → (n : Name) → these n → g n ≡ None
 
+-- each refusal is gone, and each receipt of none of these files, and nothing else
+abbrev pub ClearsStale : Text → List ArchiveName → DiskState → DiskState → Type 0
+ClearsStale stanza ready old new = IsCleared (IsStale stanza ready) old.view.now new.view.now
+
 -- ---- by the folder of the marks, with its slash
 
 -- the name is that of a file between these two texts
 abbrev pub IsMarkAt : Text → Text → Name → Type 0
 IsMarkAt prefix end n = (file : ArchiveName) × IsWalName file × (n ≡ prefix ++ (wal_text file ++ end))
+
+-- no file's name is between the two texts
+abbrev pub IsNotBetween : Text → Text → Text → Type 0
+IsNotBetween prefix end text = (name : ArchiveName) → IsWalName name → text ≢ prefix ++ (wal_text name ++ end)
 
 -- the name is that of a refusal, or of a receipt that isn't among these
 abbrev pub IsStaleAt : Text → List Name → Name → Type 0
@@ -42,3 +53,20 @@ IsStaleAt prefix receipts n = IsMarkAt prefix (codes ".error") n ⊎ (IsMarkAt p
 -- each of these names is as before or absent, and each other is as before
 abbrev pub Lessens : (Name → Type 0) → Option Content → Option Content → Type 0
 Lessens these old new = (q : Name) → (at q new ≡ at q old) ⊎ (these q × (at q new ≡ option_map (λ _. None) old))
+
+-- only stale names change, and they are absent then
+abbrev pub LessensStale : Text → List Name → DiskState → DiskState → Type 0
+LessensStale prefix receipts old new = Lessens (IsStaleAt prefix receipts) old.view.now new.view.now
+
+-- a crash then leaves no more than before, but that stale names may be absent
+abbrev pub RemovesStale : Text → List Name → DiskState → DiskState → Type 0
+RemovesStale prefix receipts old new = Works (λ n v. IsStaleAt prefix receipts n × (v ≡ None)) (λ _. ⊥) old new
+
+-- the name is absent where it is stale
+abbrev pub IsGoneIfStale : Text → List Name → Name → DiskState → Type 0
+IsGoneIfStale prefix receipts name spool = IsStaleAt prefix receipts name → IsAbsent spool.view.now name
+
+-- of these names each stale one is absent
+abbrev pub StaleAreGone : Text → List Name → List Found → DiskState → Type 0
+StaleAreGone prefix receipts found spool =
+    All (λ x. IsGoneIfStale prefix receipts (string_bytes x.name) spool) found

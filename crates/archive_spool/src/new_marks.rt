@@ -1,16 +1,11 @@
 // Puts a mark in the spool.
-ghost use Rattle.std.specs.Prelude.{◌≡◌, ◌⊎◌, ◌∷◌, [], IfOk, IfErr, OnOk, IsErrOf, string_bytes};
-ghost use Rattle.sha1.specs.Sha1.{sha1};
+ghost use Rattle.std.specs.Prelude.{[], IfOk, IfErr, OnOk, IsErrOf, string_bytes};
 ghost use Rattle.base_devices.specs.States.{CallsProperly};
-ghost use Rattle.base_devices.specs.Crash.{NowChanges, FirstOf, AllOf};
 ghost use Rattle.base_devices.specs.Cause.{Rises};
 ghost use Rattle.base_disk.specs.Fault.{IsDeviceFault};
-ghost use Rattle.base_disk.specs.Store.{ChangesOnly};
 ghost use Rattle.base_model.specs.Names.{receipt_name};
-ghost use Rattle.base_model.specs.Represents.{IsWalName};
-ghost use Rattle.base_model.specs.Text.{Text};
 ghost use Rattle.archive_lookup.specs.Turns.{refusal_name};
-ghost use Rattle.archive_spool.specs.Marks.{named, receipt_text, refusal_text, mark_temporary, IsMarkAs, GivesMarks};
+ghost use Rattle.archive_spool.specs.Marks.{receipt_text, refusal_text, IsMarkAs, GivesMarks, Reports, ChangesMark, MayConfirm, Confirms, GivesOneReceipt, MayReport};
 
 use crate::mark_place::{Mark, place};
 use crate::names::{receipt_name, receipt_text, refusal_name, refusal_text, temporary_name};
@@ -55,15 +50,11 @@ pub fn put_receipt<S: Disk>(
     sum: &Sum,
 ) -> Result<(), StoreFault>
     // At each moment it is the only receipt that is new, whole or not at all.
-    ensures marks { (bytes : Text) → sum.now.0 ≡ sha1 bytes → IsWalName name.now
-        → GivesMarks stanza.now (named name.now bytes ∷ []) (S.state spool.old).view (S.state spool.new).view }
-    ensures part { NowChanges (FirstOf ((receipt_name stanza.now name.now, receipt_text sum.now.0) ∷ []))
-        (S.state spool.old).view.now (S.state spool.new).view.now }
+    ensures marks { GivesOneReceipt stanza.now name.now sum.now.0 (S.state spool.old) (S.state spool.new) }
+    ensures part { MayConfirm stanza.now name.now sum.now.0 (S.state spool.old) (S.state spool.new) }
     ensures whole { OnOk result
-        (NowChanges (AllOf ((receipt_name stanza.now name.now, receipt_text sum.now.0) ∷ []))
-        (S.state spool.old).view.now (S.state spool.new).view.now) }
-    ensures only { ChangesOnly (λ n. (n ≡ mark_temporary stanza.now) ⊎ (n ≡ receipt_name stanza.now name.now))
-        (S.state spool.old).view (S.state spool.new).view }
+        (Confirms stanza.now name.now sum.now.0 (S.state spool.old) (S.state spool.new)) }
+    ensures only { ChangesMark stanza.now (receipt_name stanza.now name.now) (S.state spool.old) (S.state spool.new) }
     ensures frame { CallsProperly (S.state spool.old) (S.state spool.new) }
     ensures cause { IsErrOf result StoreFault.Disk → Rises (S.state spool.old).faults (S.state spool.new).faults }
     ensures refusals { IfErr result IsDeviceFault }
@@ -85,13 +76,10 @@ pub fn put_refusal<S: Disk>(
 ) -> Result<(), StoreFault>
     // At no moment is a receipt new.
     ensures marks { GivesMarks stanza.now [] (S.state spool.old).view (S.state spool.new).view }
-    ensures part { NowChanges (FirstOf ((refusal_name stanza.now name.now, refusal_text code line.now) ∷ []))
-        (S.state spool.old).view.now (S.state spool.new).view.now }
+    ensures part { MayReport stanza.now name.now code line.now (S.state spool.old) (S.state spool.new) }
     ensures whole { OnOk result
-        (NowChanges (AllOf ((refusal_name stanza.now name.now, refusal_text code line.now) ∷ []))
-        (S.state spool.old).view.now (S.state spool.new).view.now) }
-    ensures only { ChangesOnly (λ n. (n ≡ mark_temporary stanza.now) ⊎ (n ≡ refusal_name stanza.now name.now))
-        (S.state spool.old).view (S.state spool.new).view }
+        (Reports stanza.now name.now code line.now (S.state spool.old) (S.state spool.new)) }
+    ensures only { ChangesMark stanza.now (refusal_name stanza.now name.now) (S.state spool.old) (S.state spool.new) }
     ensures frame { CallsProperly (S.state spool.old) (S.state spool.new) }
     ensures cause { IsErrOf result StoreFault.Disk → Rises (S.state spool.old).faults (S.state spool.new).faults }
     ensures refusals { IfErr result IsDeviceFault }

@@ -1,9 +1,7 @@
 // Reads the text of a refusal.
-ghost use Rattle.std.specs.Prelude.{◌≡◌, ◌≢◌, ◌==◌, ◌<◌, ◌^◌, ◌++◌, ◌∷◌, ℕ, true, IfOk, IfSome, IfNone, decimal, position, string_bytes};
-ghost use Rattle.std.specs.Str.{is_utf8};
-ghost use Rattle.base_model.specs.Text.{Text};
+ghost use Rattle.std.specs.Prelude.{◌≡◌, ◌≢◌, ◌==◌, ◌<◌, ◌^◌, ◌++◌, ◌∷◌, ℕ, IfOk, IfSome, IfNone, decimal, position, string_bytes};
 ghost use Rattle.archive_lookup.specs.Paths.{Lacks};
-ghost use Rattle.archive_spool.specs.Marks.{refusal_text};
+ghost use Rattle.archive_spool.specs.Asking.{IsRefusalText, IsNoRefusalText};
 
 use base_text::{NoMemory, read_decimal, text_of};
 use std::alloc::Global;
@@ -32,10 +30,8 @@ fn read_code(text: &[u8]) -> Option<u32>
 
 /// The status and the line of a refusal; none where the bytes are no refusal's.
 pub(crate) fn read_refusal(alloc: Global, bytes: &[u8]) -> Result<Option<(u32, String)>, NoMemory>
-    ensures some { IfOk result (λ r. IfSome r (λ x. (x.0 < 2 ^ 32) × (is_utf8 (string_bytes x.1) ≡ true)
-        × (bytes.now ≡ refusal_text x.0 (string_bytes x.1)))) }
-    ensures none { IfOk result (λ r. IfNone r ((code : ℕ) (line : Text) → code < 2 ^ 32 → is_utf8 line ≡ true
-        → bytes.now ≢ refusal_text code line)) }
+    ensures some { IfOk result (λ r. IfSome r (λ x. IsRefusalText bytes.now x.0 (string_bytes x.1))) }
+    ensures none { IfOk result (λ r. IfNone r (IsNoRefusalText bytes.now)) }
 {
     let Some((prefix, rest)) = split_line(bytes) else {
         return Ok(None);

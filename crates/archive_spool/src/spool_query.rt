@@ -1,18 +1,12 @@
 // Asks the spool whether a file was stored.
-ghost use Rattle.std.specs.Prelude.{◌≡◌, ◌⊎◌, ◌<◌, ◌^◌, ◌↔◌, IsTrue, true, [], ℕ, Some, None, IfOk, IfErr, IfSome, IfNone, IsErrOf, IsSome, OnOk, option_map, string_bytes};
-ghost use Rattle.std.specs.Str.{is_utf8};
+ghost use Rattle.std.specs.Prelude.{◌≡◌, ◌⊎◌, [], None, IfOk, IfErr, IfSome, IfNone, IsErrOf, IsSome, OnOk, string_bytes};
 ghost use Rattle.base_text.specs.Sum.{IsSum};
 ghost use Rattle.base_devices.specs.Cause.{Rises};
-ghost use Rattle.base_devices.specs.Content.{put};
 ghost use Rattle.base_devices.specs.States.{CallsProperly, OnlyReads, Works};
 ghost use Rattle.base_disk.specs.Store.{ChangesOnly};
 ghost use Rattle.base_disk.specs.Fault.{IsDeviceFault, IfTooLong};
-ghost use Rattle.base_model.specs.declared.wal.ArchiveName.{ArchiveName};
-ghost use Rattle.base_model.specs.Names.{receipt_name};
-ghost use Rattle.base_model.specs.Text.{Text};
-ghost use Rattle.archive_lookup.specs.Turns.{refusal_name};
-ghost use Rattle.archive_spool.specs.Asking.{Answers, AreNamesOf, IsLong, IsNameOf, IsMarkName};
-ghost use Rattle.archive_spool.specs.Marks.{GivesMarks, refusal_text};
+ghost use Rattle.archive_spool.specs.Asking.{AreNamesOf, IsLong, IsNameOf, IsMarkName, HasLongMark, SaysHeld, HasRefusalAt, HasNoRefusalAt, IsAnswer, IsAnswerAt, RemovesNames, RemovesMarks};
+ghost use Rattle.archive_spool.specs.Marks.{GivesMarks};
 
 use crate::names::{receipt_name, receipt_text, refusal_name};
 use crate::refusals;
@@ -53,7 +47,7 @@ fn names_of(alloc: Global, stanza: &str, name: &ArchiveName) -> Result<MarkNames
 // Whether the name holds these bytes.
 fn holds<S: Disk>(alloc: Global, spool: &mut S, name: &str, text: &[u8]) -> Result<bool, StoreFault>
     ensures holds { IfOk result
-        (λ b. IfSome (S.state spool.old).view.now (λ f. IsTrue b ↔ (f name.now ≡ Some text.now))) }
+        (SaysHeld name.now text.now (S.state spool.old)) }
     ensures long { IfErr result (λ e. IfTooLong e (IsLong (λ n. n ≡ name.now) (S.state spool.old).view.now)) }
     ensures looks { OnlyReads (S.state spool.old) (S.state spool.new) }
     ensures cause { IsErrOf result StoreFault.Disk → Rises (S.state spool.old).faults (S.state spool.new).faults }
@@ -70,10 +64,8 @@ fn refusal_at<S: Disk>(
     spool: &mut S,
     name: &str,
 ) -> Result<Option<(u32, String)>, StoreFault>
-    ensures some { IfOk result (λ r. IfSome r (λ x. (x.0 < 2 ^ 32) × (is_utf8 (string_bytes x.1) ≡ true)
-        × IfSome (S.state spool.old).view.now (λ f. f name.now ≡ Some (refusal_text x.0 (string_bytes x.1))))) }
-    ensures none { IfOk result (λ r. IfNone r (IfSome (S.state spool.old).view.now (λ f. (code : ℕ) (line : Text)
-        → ¬ ((code < 2 ^ 32) × (is_utf8 line ≡ true) × (f name.now ≡ Some (refusal_text code line)))))) }
+    ensures some { IfOk result (λ r. IfSome r (λ x. HasRefusalAt name.now (S.state spool.old) x.0 (string_bytes x.1))) }
+    ensures none { IfOk result (λ r. IfNone r (HasNoRefusalAt name.now (S.state spool.old))) }
     ensures long { IfErr result (λ e. IfTooLong e (IsLong (λ n. n ≡ name.now) (S.state spool.old).view.now)) }
     ensures looks { OnlyReads (S.state spool.old) (S.state spool.new) }
     ensures cause { IsErrOf result StoreFault.Disk → Rises (S.state spool.old).faults (S.state spool.new).faults }
@@ -95,8 +87,7 @@ fn look<S: Disk>(
     sum: &Sum,
 ) -> Result<Asked, StoreFault>
     requires { IsSum sum.now.0 }
-    ensures answers { IfOk result (λ asked. IfSome (S.state spool.old).view.now (λ f. (stanza : Text)
-        (name : ArchiveName) → AreNamesOf stanza name names.now → Answers stanza f name sum.now.0 asked)) }
+    ensures answers { IfOk result (IsAnswerAt names.now sum.now.0 (S.state spool.old)) }
     ensures long { IfErr result (λ e. IfTooLong e (IsLong (IsNameOf names.now) (S.state spool.old).view.now)) }
     ensures looks { OnlyReads (S.state spool.old) (S.state spool.new) }
     ensures cause { IsErrOf result StoreFault.Disk → Rises (S.state spool.old).faults (S.state spool.new).faults }
@@ -115,8 +106,7 @@ fn look<S: Disk>(
 
 // Removes both marks.
 fn clear<S: Disk>(spool: &mut S, names: &MarkNames) -> Result<(), StoreFault>
-    ensures now { OnOk result ((S.state spool.new).view.now ≡ option_map (λ f. put (string_bytes names.now.refusal)
-        None (put (string_bytes names.now.receipt) None f)) (S.state spool.old).view.now) }
+    ensures now { OnOk result (RemovesNames names.now (S.state spool.old) (S.state spool.new)) }
     ensures known { IsSome (S.state spool.old).view.now → IsSome (S.state spool.new).view.now }
     ensures only { ChangesOnly (IsNameOf names.now) (S.state spool.old).view (S.state spool.new).view }
     ensures works { Works (λ _ v. v ≡ None) (λ _. ⊥) (S.state spool.old) (S.state spool.new) }
@@ -138,10 +128,8 @@ pub fn ask<S: Disk>(
 ) -> Result<Asked, StoreFault>
     requires { IsSum sum.now.0 }
     ensures answers { IfOk result
-        (λ asked. IfSome (S.state spool.old).view.now (λ f. Answers stanza.now f name.now sum.now.0 asked)) }
-    ensures gone { OnOk result ((S.state spool.new).view.now
-        ≡ option_map (λ f. put (refusal_name stanza.now name.now)
-        None (put (receipt_name stanza.now name.now) None f)) (S.state spool.old).view.now) }
+        (IsAnswer stanza.now name.now sum.now.0 (S.state spool.old)) }
+    ensures gone { OnOk result (RemovesMarks stanza.now name.now (S.state spool.old) (S.state spool.new)) }
     ensures known { IsSome (S.state spool.old).view.now → IsSome (S.state spool.new).view.now }
 
     // It gives no receipt, and nothing else changes.
@@ -150,7 +138,7 @@ pub fn ask<S: Disk>(
     ensures frame { CallsProperly (S.state spool.old) (S.state spool.new) }
 
     ensures long { IfErr result
-        (λ e. IfTooLong e (IsLong (IsMarkName stanza.now name.now) (S.state spool.old).view.now)) }
+        (λ e. IfTooLong e (HasLongMark stanza.now name.now (S.state spool.old))) }
     ensures cause { IsErrOf result StoreFault.Disk → Rises (S.state spool.old).faults (S.state spool.new).faults }
 {
     let Ok(names) = names_of(alloc, stanza, name) else {

@@ -1,13 +1,12 @@
 // Removes marks that are of no use any more.
 ghost use Rattle.std.specs.List.{list_any};
-ghost use Rattle.std.specs.Prelude.{◌≡◌, [], true, false, None, All, map, bytes_eq, IfOk, IfErr, IsErrOf, OnOk, string_bytes};
+ghost use Rattle.std.specs.Prelude.{◌≡◌, [], true, false, map, bytes_eq, IfOk, IfErr, IsErrOf, OnOk, string_bytes};
 ghost use Rattle.base_devices.specs.Cause.{Rises};
-ghost use Rattle.base_devices.specs.States.{CallsProperly, Works};
-ghost use Rattle.base_disk.specs.Dropped.{IsAbsent};
+ghost use Rattle.base_devices.specs.States.{CallsProperly};
 ghost use Rattle.base_disk.specs.Fault.{IsDeviceFault};
 ghost use Rattle.base_model.specs.Names.{receipt_name};
 ghost use Rattle.archive_lookup.specs.Stored.{ChangesArchive};
-ghost use Rattle.archive_spool.specs.Clearing.{IsStale, IsStaleAt, IsMarkAt, Lessens, Clears, IsCleared};
+ghost use Rattle.archive_spool.specs.Clearing.{IsStale, IsStaleAt, IsMarkAt, Clears, ClearsStale, LessensStale, RemovesStale, IsGoneIfStale, StaleAreGone};
 ghost use Rattle.archive_spool.specs.Marks.{GivesMarks};
 
 use crate::between::name_between;
@@ -64,12 +63,9 @@ fn clear_one<S: Disk>(
     prefix: &str,
     receipts: &[String],
 ) -> Result<(), StoreFault>
-    ensures gone { OnOk result (IsStaleAt prefix.now (map string_bytes receipts.now) name.now
-        → IsAbsent (S.state spool.new).view.now name.now) }
-    ensures drops { Lessens (IsStaleAt prefix.now (map string_bytes receipts.now)) (S.state spool.old).view.now
-        (S.state spool.new).view.now }
-    ensures works { Works (λ n v. IsStaleAt prefix.now (map string_bytes receipts.now) n × (v ≡ None)) (λ _. ⊥)
-        (S.state spool.old) (S.state spool.new) }
+    ensures gone { OnOk result (IsGoneIfStale prefix.now (map string_bytes receipts.now) name.now (S.state spool.new)) }
+    ensures drops { LessensStale prefix.now (map string_bytes receipts.now) (S.state spool.old) (S.state spool.new) }
+    ensures works { RemovesStale prefix.now (map string_bytes receipts.now) (S.state spool.old) (S.state spool.new) }
     ensures cause { IsErrOf result StoreFault.Disk → Rises (S.state spool.old).faults (S.state spool.new).faults }
     ensures refusals { IfErr result IsDeviceFault }
 {
@@ -88,12 +84,9 @@ fn clear_each<S: Disk>(
     receipts: &[String],
 ) -> Result<(), StoreFault>
     ensures gone { OnOk result
-        (All (λ x. IsStaleAt prefix.now (map string_bytes receipts.now) (string_bytes x.name)
-        → IsAbsent (S.state spool.new).view.now (string_bytes x.name)) found.now) }
-    ensures drops { Lessens (IsStaleAt prefix.now (map string_bytes receipts.now)) (S.state spool.old).view.now
-        (S.state spool.new).view.now }
-    ensures works { Works (λ n v. IsStaleAt prefix.now (map string_bytes receipts.now) n × (v ≡ None)) (λ _. ⊥)
-        (S.state spool.old) (S.state spool.new) }
+        (StaleAreGone prefix.now (map string_bytes receipts.now) found.now (S.state spool.new)) }
+    ensures drops { LessensStale prefix.now (map string_bytes receipts.now) (S.state spool.old) (S.state spool.new) }
+    ensures works { RemovesStale prefix.now (map string_bytes receipts.now) (S.state spool.old) (S.state spool.new) }
     ensures cause { IsErrOf result StoreFault.Disk → Rises (S.state spool.old).faults (S.state spool.new).faults }
     ensures refusals { IfErr result IsDeviceFault }
 {
@@ -111,8 +104,7 @@ pub fn clear_marks<S: Disk>(
     stanza: &str,
     ready: &[ArchiveName],
 ) -> Result<(), StoreFault>
-    ensures cleared { OnOk result (IsCleared (IsStale stanza.now ready.now) (S.state spool.old).view.now
-        (S.state spool.new).view.now) }
+    ensures cleared { OnOk result (ClearsStale stanza.now ready.now (S.state spool.old) (S.state spool.new)) }
     ensures clears { Clears (IsStale stanza.now ready.now) (S.state spool.old).view.now (S.state spool.new).view.now }
     ensures marks { GivesMarks stanza.now [] (S.state spool.old).view (S.state spool.new).view }
     ensures only { ChangesArchive stanza.now (S.state spool.old).view (S.state spool.new).view }

@@ -1,13 +1,18 @@
 -- Why a wait for segments ends without them.
 use Rattle.std.specs.Prelude.{◌≡◌, ℕ, Option, IfSome, string_bytes}
+use Rattle.base_devices.specs.Cause.{Rises}
 use Rattle.base_devices.specs.Content.{Content}
+use Rattle.base_devices.specs.States.{DiskState}
 use Rattle.base_model.specs.declared.wal.ArchiveId.{ArchiveId}
 use Rattle.base_model.specs.declared.wal.ArchiveName.TheVariants.{Segment as Whole}
 use Rattle.base_model.specs.declared.wal.Segment.{Segment}
 use Rattle.base_model.specs.declared.wal.WalPart.{WalPart}
 use Rattle.base_model.specs.Repository.{IsWithinSpan}
 use Rattle.base_model.specs.Text.{Text}
+use Rattle.archive_lookup.specs.Causes.{PresentCause}
 use Rattle.archive_lookup.specs.Stored.{StoresTwo}
+use Rattle.archive_lookup.specs.Turns.{ProcessesState}
+use Rattle.archive_lookup.specs.declared.stored.fault.ArchiveFault.{ArchiveFault}
 use Rattle.archive_lookup.specs.declared.pushes.processes.TurnError.{TurnError}
 use Rattle.archive_lookup.specs.declared.pushes.processes.TurnError.TheVariants as stops
 use Rattle.archive_wait.specs.declared.fault.AwaitFault.{AwaitFault}
@@ -29,10 +34,24 @@ LookCause stanza id s now rose Repo = rose
 LookCause stanza id s now rose NoMemory = Unit {0}
 LookCause stanza id s now rose other = ⊥
 
+-- .. between these states
+abbrev pub LookEnds : Text → ArchiveId → Segment → DiskState → DiskState → AwaitFault → Type 0
+LookEnds stanza id s old new = LookCause stanza id s new.view.now (Rises old.faults new.faults)
+
+-- the fault says of a look what the archive's says of it
+abbrev pub IsFaultOfLook : ArchiveFault → AwaitFault → Type 0
+IsFaultOfLook of_archive fault = (stanza : Text) (id : ArchiveId) (s : Segment) (now : Option Content)
+    (before after : ℕ) → PresentCause stanza id (Whole s) now (Rises before after) of_archive
+    → LookCause stanza id s now (Rises before after) fault
+
 -- .. one of a part of the log
 abbrev pub PartCause : Text → ArchiveId → WalPart → Option Content → Type 0 → AwaitFault → Type 0
 PartCause stanza id w now rose fault =
     (s : Segment) × IsWithinSpan w.size.0 w.span s × LookCause stanza id s now rose fault
+
+-- .. between these states
+abbrev pub PartEnds : Text → ArchiveId → WalPart → DiskState → DiskState → AwaitFault → Type 0
+PartEnds stanza id w old new = PartCause stanza id w new.view.now (Rises old.faults new.faults)
 
 -- the repository or the spool failed, or memory did
 abbrev pub TurnCause : Type 0 → Type 0 → AwaitFault → Type 0
@@ -40,6 +59,11 @@ TurnCause repo_rose spool_rose Repo = repo_rose
 TurnCause repo_rose spool_rose Spool = spool_rose
 TurnCause repo_rose spool_rose NoMemory = Unit {0}
 TurnCause repo_rose spool_rose other = ⊥
+
+-- .. between these states
+abbrev pub TurnEnds : {D S : Type 0} → (D → DiskState) → (S → DiskState) → D → D → S → S → AwaitFault → Type 0
+TurnEnds disk spooled repo new_repo spool new_spool = TurnCause
+    (Rises (disk repo).faults (disk new_repo).faults) (Rises (spooled spool).faults (spooled new_spool).faults)
 
 -- Why the wait ends: after this many steps of others a segment is missing, one is stored twice, or something failed.
 abbrev pub WaitCause : Text → ArchiveId → WalPart → ℕ → Option Content → Type 0 → Type 0 → ℕ → ℕ → AwaitFault → Type 0
@@ -51,3 +75,11 @@ WaitCause stanza id w turns now repo_rose spool_rose before after (Ambiguous fir
 WaitCause stanza id w turns now repo_rose spool_rose before after Repo = repo_rose
 WaitCause stanza id w turns now repo_rose spool_rose before after Spool = spool_rose
 WaitCause stanza id w turns now repo_rose spool_rose before after NoMemory = Unit {0}
+
+-- .. between these states
+abbrev pub WaitEnds : {A D S : Type 0} → (A → ProcessesState) → (D → DiskState) → (S → DiskState)
+    → Text → ArchiveId → WalPart → ℕ → A → A → D → D → S → S → AwaitFault → Type 0
+WaitEnds others disk spooled stanza id w turns old new repo new_repo spool new_spool =
+    WaitCause stanza id w turns (disk new_repo).view.now
+    (Rises (disk repo).faults (disk new_repo).faults) (Rises (spooled spool).faults (spooled new_spool).faults)
+    (others old).turns (others new).turns

@@ -1,6 +1,7 @@
 -- What other processes did while a command waited for several of their steps.
-use Rattle.std.specs.Prelude.{◌≡◌, ◌≤◌, ◌+◌, ◌-◌, ◌^◌, ◌&&◌, ℕ, min, Bool, true, List, [], ◌∷◌, ◌++◌, false, map, Option, Some, IsSome}
+use Rattle.std.specs.Prelude.{◌≡◌, ◌≤◌, ◌+◌, ◌-◌, ◌^◌, ◌&&◌, ℕ, min, Bool, true, List, [], ◌∷◌, ◌++◌, false, map, Option, Some, IfSome, IsSome}
 use Rattle.base_devices.specs.Moments.{View}
+use Rattle.base_devices.specs.States.{DiskState}
 use Rattle.base_model.specs.Now.{NowRepresents, NowEffect}
 use Rattle.base_model.specs.Log.{Done, Keeps, KeepsSpool}
 use Rattle.base_model.specs.Repository.{Repository, IsSound}
@@ -9,7 +10,7 @@ use Rattle.base_model.specs.Steps.{Turn, ArchivePushAsync, after, all_of, steps_
 use Rattle.base_model.specs.Text.{Text}
 use Rattle.base_crash_lists.specs.Trace.{HasReceiptsOf}
 use Rattle.archive_lookup.specs.Stored.{ChangesArchive}
-use Rattle.archive_lookup.specs.Turns.{Turned, Account}
+use Rattle.archive_lookup.specs.Turns.{Turned, Account, ProcessesState}
 
 -- all of the steps of others succeeded
 abbrev pub all_ended : List Turn → Bool
@@ -57,3 +58,14 @@ pub record TurnsDone (whole : Bool) (old : Option Account) (new : Account) (repo
 pub record Counts (turns before after : ℕ) : Type 0 where
   pub none : turns ≡ 0 → after ≡ before
   pub some : 1 ≤ turns → after ≡ min (before + turns) (2 ^ 64 - 1)
+
+-- where the steps of others are known, these are all that was done
+abbrev pub WentByTurns : {A D S : Type 0} → (A → ProcessesState) → (D → DiskState) → (S → DiskState) → Bool
+    → A → A → D → D → S → S → Type 0
+WentByTurns others disk spooled whole old new repo new_repo spool new_spool = IfSome (others new).account
+    (λ a. TurnsDone whole (others old).account a (disk repo).view (disk new_repo).view
+    (spooled spool).view (spooled new_spool).view)
+
+-- one step of others more succeeded
+abbrev pub CountsTurn : ProcessesState → ProcessesState → Type 0
+CountsTurn old new = new.turns ≡ min (old.turns + 1) (2 ^ 64 - 1)

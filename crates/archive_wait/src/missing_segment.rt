@@ -1,19 +1,10 @@
 // Looks for the segments.
-ghost use Rattle.std.specs.Prelude.{◌≡◌, ◌+◌, ◌*◌, ◌^◌, ◌<◌, ◌≤◌, ℕ, true, false, Option, IfOk, IfErr, IfSome, IfNone};
-ghost use Rattle.base_devices.specs.Cause.{Rises};
-ghost use Rattle.base_devices.specs.Content.{Content};
+ghost use Rattle.std.specs.Prelude.{◌≡◌, ◌+◌, ◌*◌, ◌^◌, ◌<◌, ◌≤◌, IfOk, IfErr};
 ghost use Rattle.base_devices.specs.States.{OnlyReads};
-ghost use Rattle.base_model.specs.declared.wal.ArchiveId.{ArchiveId};
-ghost use Rattle.base_model.specs.declared.wal.ArchiveName.TheVariants.{Segment as Whole};
-ghost use Rattle.base_model.specs.declared.wal.Segment.{Segment};
 ghost use Rattle.base_model.specs.ManifestText.{IsSegSize, IsWalPart, position, segments_per_log};
-ghost use Rattle.base_model.specs.Repository.{IsWithinSpan};
-ghost use Rattle.base_model.specs.Text.{Text};
 ghost use Rattle.repo_names.specs.Next.{IsOfLog, IsNext};
-ghost use Rattle.archive_lookup.specs.Stored.{StoresNone};
-ghost use Rattle.archive_lookup.specs.Causes.{PresentCause};
-ghost use Rattle.archive_wait.specs.Causes.{LookCause, PartCause};
-ghost use Rattle.archive_wait.specs.Stored.{HoldsSegment, HoldsPart, IsFirstMissing, Lasts};
+ghost use Rattle.archive_wait.specs.Stored.{LastsIfFound, LacksUnlessFound, LastsIfWhole, MissesFirst};
+ghost use Rattle.archive_wait.specs.Causes.{LookEnds, IsFaultOfLook, PartEnds};
 
 use crate::fault::AwaitFault;
 use archive_lookup::ArchiveFault;
@@ -25,9 +16,7 @@ use std::alloc::Global;
 
 // The fault that a fault of the archive becomes. No other comes from looking for a segment.
 fn look_fault(fault: ArchiveFault) -> AwaitFault
-    ensures { (stanza : Text) (id : ArchiveId) (s : Segment) (now : Option Content) (before after : ℕ)
-        → PresentCause stanza id (Whole s) now (Rises before after) fault
-        → LookCause stanza id s now (Rises before after) result }
+    ensures { IsFaultOfLook fault result }
 {
     match fault {
         ArchiveFault::Ambiguous { first, second } => AwaitFault::Ambiguous { first, second },
@@ -44,13 +33,11 @@ fn is_stored<D: Disk>(
     id: ArchiveId,
     segment: Segment,
 ) -> Result<bool, AwaitFault>
-    ensures there { IfOk result (λ b. b ≡ true → Lasts stanza.now (λ f. HoldsSegment stanza.now id f segment)
-        (D.state repo.old).view (D.state repo.new).view) }
+    ensures there { IfOk result (LastsIfFound stanza.now id segment (D.state repo.old) (D.state repo.new)) }
     ensures missing { IfOk result
-        (λ b. b ≡ false → IfSome (D.state repo.new).view.now (StoresNone stanza.now id (Whole segment))) }
+        (LacksUnlessFound stanza.now id segment (D.state repo.new)) }
     ensures looks { OnlyReads (D.state repo.old) (D.state repo.new) }
-    ensures cause { IfErr result (LookCause stanza.now id segment (D.state repo.new).view.now
-        (Rises (D.state repo.old).faults (D.state repo.new).faults)) }
+    ensures cause { IfErr result (LookEnds stanza.now id segment (D.state repo.old) (D.state repo.new)) }
 {
     match present(alloc, repo, stanza, &id, &ArchiveName::Segment(segment)) {
         Ok(None) => Ok(false),
@@ -92,13 +79,10 @@ fn look_once<D: Disk>(
     wal: &WalPart,
 ) -> Result<Option<Segment>, AwaitFault>
     requires { IsWalPart wal.now }
-    ensures there { IfOk result (λ o. IfNone o (Lasts stanza.now (HoldsPart stanza.now id.now wal.now)
-        (D.state repo.old).view (D.state repo.new).view)) }
-    ensures missing { IfOk result (λ o. IfSome o (λ s. IsWithinSpan wal.now.size.0 wal.now.span s
-        × IfSome (D.state repo.new).view.now (IsFirstMissing stanza.now id.now wal.now s))) }
+    ensures there { IfOk result (LastsIfWhole stanza.now id.now wal.now (D.state repo.old) (D.state repo.new)) }
+    ensures missing { IfOk result (MissesFirst stanza.now id.now wal.now (D.state repo.new)) }
     ensures looks { OnlyReads (D.state repo.old) (D.state repo.new) }
-    ensures cause { IfErr result (PartCause stanza.now id.now wal.now (D.state repo.new).view.now
-        (Rises (D.state repo.old).faults (D.state repo.new).faults)) }
+    ensures cause { IfErr result (PartEnds stanza.now id.now wal.now (D.state repo.old) (D.state repo.new)) }
 {
     let mut segment = wal.span.start;
     for _ in 0..following_first(wal) {
@@ -124,13 +108,10 @@ pub(crate) fn first_missing<D: Disk>(
     wal: &WalPart,
 ) -> Result<Option<Segment>, AwaitFault>
     requires { IsWalPart wal.now }
-    ensures there { IfOk result (λ o. IfNone o (Lasts stanza.now (HoldsPart stanza.now id.now wal.now)
-        (D.state repo.old).view (D.state repo.new).view)) }
-    ensures missing { IfOk result (λ o. IfSome o (λ s. IsWithinSpan wal.now.size.0 wal.now.span s
-        × IfSome (D.state repo.new).view.now (IsFirstMissing stanza.now id.now wal.now s))) }
+    ensures there { IfOk result (LastsIfWhole stanza.now id.now wal.now (D.state repo.old) (D.state repo.new)) }
+    ensures missing { IfOk result (MissesFirst stanza.now id.now wal.now (D.state repo.new)) }
     ensures looks { OnlyReads (D.state repo.old) (D.state repo.new) }
-    ensures cause { IfErr result (PartCause stanza.now id.now wal.now (D.state repo.new).view.now
-        (Rises (D.state repo.old).faults (D.state repo.new).faults)) }
+    ensures cause { IfErr result (PartEnds stanza.now id.now wal.now (D.state repo.old) (D.state repo.new)) }
 {
     match look_once(alloc, repo, stanza, id, wal) {
         Ok(None) => look_once(alloc, repo, stanza, id, wal),

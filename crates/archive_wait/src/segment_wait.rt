@@ -1,16 +1,11 @@
 // The wait for the segments that an online backup needs.
-ghost use Rattle.std.specs.Prelude.{◌≡◌, ◌+◌, ◌-◌, ◌^◌, ◌≤◌, ℕ, min, is_ok, List, IfErr, IfSome, IsSome, IsSomeAnd, OnOk, OnErr};
-ghost use Rattle.base_devices.specs.Cause.{Rises};
-ghost use Rattle.base_devices.specs.Content.{Content};
-ghost use Rattle.base_devices.specs.Crash.{Leaves};
+ghost use Rattle.std.specs.Prelude.{◌≡◌, ◌≤◌, ℕ, is_ok, IfErr, IfSome, OnOk, OnErr};
 ghost use Rattle.base_devices.specs.States.{CallsProperly};
-ghost use Rattle.base_model.specs.Log.{Done, KeepsRepository};
 ghost use Rattle.base_model.specs.ManifestText.{IsWalPart};
-ghost use Rattle.base_model.specs.Repository.{Repository};
 ghost use Rattle.base_model.specs.Text.{Text};
-ghost use Rattle.archive_wait.specs.Causes.{TurnCause, WaitCause};
-ghost use Rattle.archive_wait.specs.Stored.{HoldsPart};
-ghost use Rattle.archive_wait.specs.TurnsDone.{Counts, TurnsDone};
+ghost use Rattle.archive_wait.specs.Stored.{HoldsPart, Endures, Idles};
+ghost use Rattle.archive_wait.specs.TurnsDone.{Counts, WentByTurns, CountsTurn};
+ghost use Rattle.archive_wait.specs.Causes.{TurnEnds, WaitEnds};
 
 use crate::fault::{AwaitFault, turn_fault};
 use crate::missing_segment::first_missing;
@@ -25,17 +20,15 @@ fn wait_turn<D: Disk, S: Disk, A: OtherProcesses<D, S>>(
     spool: &mut S,
     processes: &mut A,
 ) -> Result<(), AwaitFault>
-    ensures went { IfSome (A.state processes.new).account (λ a. TurnsDone (is_ok result) (A.state processes.old).account
-        a
-        (D.state repo.old).view (D.state repo.new).view (S.state spool.old).view (S.state spool.new).view) }
+    ensures went { WentByTurns A.state D.state S.state (is_ok result) processes.old processes.new
+        repo.old repo.new spool.old spool.new }
     ensures repo_frame { CallsProperly (D.state repo.old) (D.state repo.new) }
     ensures spool_frame { CallsProperly (S.state spool.old) (S.state spool.new) }
     ensures started { (A.state processes.new).started ≡ (A.state processes.old).started }
-    ensures counted { OnOk result ((A.state processes.new).turns ≡ min ((A.state processes.old).turns + 1) (2 ^ 64 - 1)) }
+    ensures counted { OnOk result (CountsTurn (A.state processes.old) (A.state processes.new)) }
     ensures uncounted { OnErr result ((A.state processes.new).turns ≡ (A.state processes.old).turns) }
     ensures later { (A.state processes.old).faults ≤ (A.state processes.new).faults }
-    ensures cause { IfErr result (TurnCause (Rises (D.state repo.old).faults (D.state repo.new).faults)
-        (Rises (S.state spool.old).faults (S.state spool.new).faults)) }
+    ensures cause { IfErr result (TurnEnds D.state S.state repo.old repo.new spool.old spool.new) }
 {
     match processes.turn(repo, spool) {
         Ok(()) => Ok(()),
@@ -58,28 +51,20 @@ pub fn await_segments<D: Disk, S: Disk, A: OtherProcesses<D, S>>(
     requires { IsWalPart wal.now }
     // Each segment is archived, and stays so in all that a crash leaves.
     ensures archived { OnOk result (IfSome (D.state repo.new).view.now (HoldsPart stanza.now id.now wal.now)) }
-    ensures lasting { OnOk result (IfSome (A.state processes.new).account (λ a. a.stanza ≡ stanza.now
-        → (q : Repository) (log : List Done) → IsSome (D.state repo.old).view.now
-        → KeepsRepository stanza.now q log (D.state repo.old).view
-        → (f : Content) → Leaves (D.state repo.new).view (D.state repo.new).view.moment f
-        → HoldsPart stanza.now id.now wal.now f)) }
+    ensures lasting { OnOk result (Endures A.state D.state stanza.now id.now wal.now processes.new repo.old repo.new) }
 
     // The steps of other processes are all that was done.
-    ensures went { IfSome (A.state processes.new).account (λ a. TurnsDone (is_ok result) (A.state processes.old).account
-        a
-        (D.state repo.old).view (D.state repo.new).view (S.state spool.old).view (S.state spool.new).view) }
+    ensures went { WentByTurns A.state D.state S.state (is_ok result) processes.old processes.new
+        repo.old repo.new spool.old spool.new }
     ensures repo_frame { CallsProperly (D.state repo.old) (D.state repo.new) }
     ensures spool_frame { CallsProperly (S.state spool.old) (S.state spool.new) }
     ensures started { (A.state processes.new).started ≡ (A.state processes.old).started }
     ensures few { (n : ℕ) × (n ≤ turns) × Counts n (A.state processes.old).turns (A.state processes.new).turns }
     ensures later { (A.state processes.old).faults ≤ (A.state processes.new).faults }
-    ensures quiet { IsSomeAnd (D.state repo.old).view.now (HoldsPart stanza.now id.now wal.now)
-        → (processes.new ≡ processes.old) × (spool.new ≡ spool.old) }
+    ensures quiet { Idles stanza.now id.now wal.now (D.state repo.old) processes.old processes.new spool.old spool.new }
 
-    ensures cause { IfErr result (WaitCause stanza.now id.now wal.now turns (D.state repo.new).view.now
-        (Rises (D.state repo.old).faults (D.state repo.new).faults)
-        (Rises (S.state spool.old).faults (S.state spool.new).faults)
-        (A.state processes.old).turns (A.state processes.new).turns) }
+    ensures cause { IfErr result (WaitEnds A.state D.state S.state stanza.now id.now wal.now turns
+        processes.old processes.new repo.old repo.new spool.old spool.new) }
 {
     for _ in 0..turns {
         match first_missing(alloc, repo, stanza, id, wal) {

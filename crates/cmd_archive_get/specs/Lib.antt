@@ -3,3 +3,4 @@ pub mod Serving
 pub mod Looking
 pub mod Texts
 pub mod Words
+pub mod ByOrder

@@ -1,28 +1,15 @@
 // archive-get: serves a file of the archive.
-ghost use Rattle.std.specs.Prelude.{◌≡◌, ◌≤◌, Option, Some, IfOk, IfErr, IfSome, IsSome};
-ghost use Rattle.base_devices.specs.Content.{Content};
-ghost use Rattle.base_devices.specs.Crash.{Leaves};
+ghost use Rattle.std.specs.Prelude.{◌≡◌, ◌≤◌, IfOk, IfErr, IfSome};
 ghost use Rattle.base_devices.specs.States.{OnlyReads};
-ghost use Rattle.base_devices.specs.Cause.{Rises};
-ghost use Rattle.base_model.specs.declared.clusters.ClusterId.{ClusterId};
-ghost use Rattle.base_model.specs.Fields.{at_number};
 ghost use Rattle.base_model.specs.InfoFiles.{IsArchiveInfo};
-ghost use Rattle.base_model.specs.Now.{NowRepresents};
-ghost use Rattle.base_model.specs.Repository.{Stanza};
 ghost use Rattle.base_model.specs.Values.{archive_info_of};
-ghost use Rattle.repo_stanza.specs.Pairs.{identity_kept, identity_known};
-ghost use Rattle.cmd_types.specs.declared.stages.halt.Halt.TheVariants.{Refused};
 ghost use Rattle.cmd_types.specs.Cluster.{FolderShows};
 ghost use Rattle.cmd_types.specs.Current.{HasValue};
-ghost use Rattle.cmd_types.specs.Halts.{HaltCause};
 ghost use Rattle.cmd_types.specs.Reached.{reached_by};
-ghost use Rattle.cmd_types.specs.Risen.{none, rose_in};
-ghost use Rattle.base_model.specs.Walks.{IsSynced};
-ghost use Rattle.cmd_types.specs.DisksEffect.{OnNone, PairAlike};
-ghost use Rattle.cmd_archive_get.specs.declared.fault.GetFault.TheVariants.{StanzaMismatch};
-ghost use Rattle.cmd_archive_get.specs.Getting.{served_path, IsFound, IsAbsent, ChangesPath, FetchCause};
-ghost use Rattle.cmd_archive_get.specs.Getting.{GotBy, GivenBy, IsServed, GetCause, get_early};
-ghost use Rattle.cmd_archive_get.specs.Serving.{EitherFailed, Puts, IsLeft};
+ghost use Rattle.cmd_types.specs.Risen.{none};
+ghost use Rattle.cmd_types.specs.DisksEffect.{OnNone};
+ghost use Rattle.cmd_archive_get.specs.Getting.{get_early};
+ghost use Rattle.cmd_archive_get.specs.ByOrder.{PutsFound, SetsFound, GetStops, GotByOrder, GotFromLeft, GivenByOrder, SetsServed, GetEnds, IsMismatchOf};
 
 use crate::fault::GetFault;
 use crate::id_search::{has_cluster, search};
@@ -36,8 +23,7 @@ use std::alloc::Global;
 /// The stanza is of another cluster than the data folder.
 pub(crate) fn mismatch(info: &ArchiveInfo, known: &Control) -> Halt<GetFault>
     requires { IsArchiveInfo (archive_info_of info.now) }
-    ensures { (c : ClusterId) × (at_number info.now.current info.now.history.items ≡ Some c)
-        × (result ≡ Refused (StanzaMismatch (identity_kept c) (identity_known known.now))) }
+    ensures { IsMismatchOf info.now known.now result }
 {
     let current = &info.history[info.current as usize - 1];
     Halt::Refused(GetFault::StanzaMismatch {
@@ -64,18 +50,10 @@ fn serve_file<D: Disk, T: DataFolder>(
 ) -> Result<bool, Halt<GetFault>>
     requires pair { IfSome (D.state repo.old).view.now (λ f. HasValue stanza.now f (archive_info_of info.now)) }
     requires valid { IsArchiveInfo (archive_info_of info.now) }
-    ensures puts { (f : Option Content) → IsLeft stanza.now (D.state repo.old).view (D.state repo.new).view f
-        → IfSome f (λ f. HasValue stanza.now f (archive_info_of info.now))
-        → Puts result
-        (IsFound stanza.now known.now order.now.name f)
-        (IsAbsent stanza.now known.now order.now.name f)
-        order.now.inside.now (T.state tree.old).nodes (T.state tree.new).nodes }
-    ensures changes { ChangesPath order.now.inside.now
-        (IsFound stanza.now known.now order.now.name (D.state repo.old).view.now)
-        (T.state tree.old).nodes (T.state tree.new).nodes }
-    ensures cause { IfErr result (HaltCause
-        (FetchCause stanza.now known.now order.now.name (D.state repo.old).view.now)
-        (EitherFailed (D.state repo.old) (D.state repo.new) (T.state tree.old) (T.state tree.new))) }
+    ensures puts { PutsFound D.state T.state stanza.now known.now info.now order.now result
+        repo.old repo.new tree.old tree.new }
+    ensures changes { SetsFound D.state T.state stanza.now known.now order.now repo.old tree.old tree.new }
+    ensures cause { GetStops D.state T.state stanza.now known.now order.now result repo.old repo.new tree.old tree.new }
     ensures looks { OnlyReads (D.state repo.old) (D.state repo.new) }
     ensures tree_place { (T.state tree.new).opened ≡ (T.state tree.old).opened }
     ensures tree_later { (T.state tree.old).faults ≤ (T.state tree.new).faults }
@@ -102,33 +80,16 @@ pub fn get_file<D: Disk, T: DataFolder>(
     requires valid { IsArchiveInfo (archive_info_of info.now) }
     // The data folder has the file of the repository at Finished, and is unchanged where the repository doesn't have
     // it.
-    ensures got { IfOk result (GotBy stanza.now order.now.folder.now order.now.word.now order.now.path.now
-        (D.state repo.old).view.now (T.state tree.old).nodes (T.state tree.new).nodes) }
+    ensures got { IfOk result (GotByOrder D.state T.state stanza.now order.now repo.old tree.old tree.new) }
     // So it is in all that a crash leaves, where that has the archive pair.
-    ensures lasts { IfOk result (λ o. IsSynced stanza.now (D.state repo.old).view
-        → IsSome (D.state repo.old).view.now → PairAlike stanza.now (D.state repo.old).view → (f : Content)
-        → Leaves (D.state repo.new).view (D.state repo.new).view.moment f
-        → GotBy stanza.now order.now.folder.now order.now.word.now order.now.path.now
-        (Some f) (T.state tree.old).nodes (T.state tree.new).nodes o) }
-    ensures given { IfOk result (λ o. (s : Stanza) → IsSome (D.state repo.old).view.now
-        → NowRepresents stanza.now (Some s) (D.state repo.old).view.now
-        → GivenBy s order.now.folder.now order.now.word.now order.now.path.now
-        (T.state tree.old).nodes (T.state tree.new).nodes o) }
-    ensures changes { ChangesPath (served_path order.now.folder.now order.now.path.now)
-        (IsServed stanza.now order.now.folder.now order.now.word.now order.now.path.now
-        (D.state repo.old).view.now (T.state tree.old).nodes)
-        (T.state tree.old).nodes (T.state tree.new).nodes }
+    ensures lasts { IfOk result (GotFromLeft D.state T.state stanza.now order.now repo.old repo.new tree.old tree.new) }
+    ensures given { IfOk result (GivenByOrder D.state T.state stanza.now order.now repo.old tree.old tree.new) }
+    ensures changes { SetsServed D.state T.state stanza.now order.now repo.old tree.old tree.new }
     ensures none { OnNone (reached_by get_early result) ((T.state tree.new).nodes ≡ (T.state tree.old).nodes) }
     ensures looks { OnlyReads (D.state repo.old) (D.state repo.new) }
     ensures opened { (T.state tree.new).opened ≡ (T.state tree.old).opened }
     ensures later { (T.state tree.old).faults ≤ (T.state tree.new).faults }
-    ensures cause { IfErr result (HaltCause
-        (GetCause stanza.now order.now.folder.now order.now.word.now order.now.path.now
-        (D.state repo.old).view.now (T.state tree.old).nodes)
-        (rose_in (record none {
-          repo = Rises (D.state repo.old).faults (D.state repo.new).faults;
-          tree = Rises (T.state tree.old).faults (T.state tree.new).faults;
-        }))) }
+    ensures cause { IfErr result (GetEnds D.state T.state stanza.now order.now repo.old repo.new tree.old tree.new) }
 {
     if serve_file(alloc, repo, tree, stanza, order, known, info)? {
         Ok(Outcome::Finished {

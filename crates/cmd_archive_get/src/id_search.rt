@@ -1,16 +1,12 @@
 // A file of the archive is served from under that of the stanza's ids that has it.
-ghost use Rattle.std.specs.Prelude.{◌≡◌, ◌≤◌, true, false, Decides, map, Option, Some, IfErr, IfSome, OnOk};
-ghost use Rattle.base_devices.specs.Content.{Content};
+ghost use Rattle.std.specs.Prelude.{◌≡◌, ◌≤◌, true, false, Decides, map, Some, IfSome, OnOk};
 ghost use Rattle.base_devices.specs.States.{OnlyReads};
 ghost use Rattle.base_model.specs.declared.clusters.ClusterId.{ClusterId};
 ghost use Rattle.base_model.specs.InfoFiles.{AreFrom};
 ghost use Rattle.archive_lookup.specs.Paths.{has_sum};
 ghost use Rattle.archive_lookup.specs.Stored.{Finds};
-ghost use Rattle.cmd_types.specs.Halts.{HaltCause};
-ghost use Rattle.cmd_archive_get.specs.Getting.{IsSame, HasSame, ChangesPath};
-ghost use Rattle.cmd_archive_get.specs.Serving.{EitherFailed, Puts, AreBytes, IsUnstored, FileCause, IsLeft, EndsAlike};
-ghost use Rattle.cmd_archive_get.specs.Serving.{AreBytesUnder, IsUnstoredUnder, UnderCause};
-ghost use Rattle.cmd_archive_get.specs.Serving.{AreFoundIn, IsAbsentIn, SearchCause};
+ghost use Rattle.cmd_archive_get.specs.Getting.{IsSame, HasSame};
+ghost use Rattle.cmd_archive_get.specs.ByOrder.{PutsOfId, SetsOfId, StopsOfId, PutsUnder, SetsUnder, StopsUnder, PutsIn, SetsIn, StopsIn, LeavesAlike};
 
 use crate::fault::{GetFault, of_archive};
 use crate::order::GetOrder;
@@ -54,18 +50,10 @@ fn serve_whole<D: Disk, T: DataFolder>(
     id: &ArchiveId,
     order: &GetOrder<'_>,
 ) -> Result<bool, Halt<GetFault>>
-    ensures puts { Puts result
-        (AreBytes stanza.now id.now order.now.name (D.state repo.old).view.now)
-        (IsUnstored stanza.now id.now order.now.name (D.state repo.old).view.now)
-        order.now.inside.now (T.state tree.old).nodes (T.state tree.new).nodes }
-    ensures alike { OnOk result (EndsAlike stanza.now id.now order.now.name
-        (D.state repo.old).view (D.state repo.new).view) }
-    ensures changes { ChangesPath order.now.inside.now
-        (AreBytes stanza.now id.now order.now.name (D.state repo.old).view.now)
-        (T.state tree.old).nodes (T.state tree.new).nodes }
-    ensures cause { IfErr result (HaltCause
-        (FileCause stanza.now id.now order.now.name (D.state repo.old).view.now)
-        (EitherFailed (D.state repo.old) (D.state repo.new) (T.state tree.old) (T.state tree.new))) }
+    ensures puts { PutsOfId D.state T.state stanza.now id.now order.now result repo.old tree.old tree.new }
+    ensures alike { OnOk result (LeavesAlike stanza.now id.now order.now.name (D.state repo.old) (D.state repo.new)) }
+    ensures changes { SetsOfId D.state T.state stanza.now id.now order.now repo.old tree.old tree.new }
+    ensures cause { StopsOfId D.state T.state stanza.now id.now order.now result repo.old repo.new tree.old tree.new }
     ensures looks { OnlyReads (D.state repo.old) (D.state repo.new) }
     ensures tree_place { (T.state tree.new).opened ≡ (T.state tree.old).opened }
     ensures tree_later { (T.state tree.old).faults ≤ (T.state tree.new).faults }
@@ -93,16 +81,9 @@ fn serve_stored<D: Disk, T: DataFolder>(
     requires segment { has_sum order.now.name ≡ true }
     requires finds { IfSome (D.state repo.old).view.now
         (λ f. Finds stanza.now id.now order.now.name f (Some stored)) }
-    ensures puts { Puts result
-        (AreBytes stanza.now id.now order.now.name (D.state repo.old).view.now)
-        (IsUnstored stanza.now id.now order.now.name (D.state repo.old).view.now)
-        order.now.inside.now (T.state tree.old).nodes (T.state tree.new).nodes }
-    ensures changes { ChangesPath order.now.inside.now
-        (AreBytes stanza.now id.now order.now.name (D.state repo.old).view.now)
-        (T.state tree.old).nodes (T.state tree.new).nodes }
-    ensures cause { IfErr result (HaltCause
-        (FileCause stanza.now id.now order.now.name (D.state repo.old).view.now)
-        (EitherFailed (D.state repo.old) (D.state repo.new) (T.state tree.old) (T.state tree.new))) }
+    ensures puts { PutsOfId D.state T.state stanza.now id.now order.now result repo.old tree.old tree.new }
+    ensures changes { SetsOfId D.state T.state stanza.now id.now order.now repo.old tree.old tree.new }
+    ensures cause { StopsOfId D.state T.state stanza.now id.now order.now result repo.old repo.new tree.old tree.new }
     ensures looks { OnlyReads (D.state repo.old) (D.state repo.new) }
     ensures tree_place { (T.state tree.new).opened ≡ (T.state tree.old).opened }
     ensures tree_later { (T.state tree.old).faults ≤ (T.state tree.new).faults }
@@ -129,18 +110,10 @@ fn serve_segment<D: Disk, T: DataFolder>(
     order: &GetOrder<'_>,
 ) -> Result<bool, Halt<GetFault>>
     requires { has_sum order.now.name ≡ true }
-    ensures puts { Puts result
-        (AreBytes stanza.now id.now order.now.name (D.state repo.old).view.now)
-        (IsUnstored stanza.now id.now order.now.name (D.state repo.old).view.now)
-        order.now.inside.now (T.state tree.old).nodes (T.state tree.new).nodes }
-    ensures alike { OnOk result (EndsAlike stanza.now id.now order.now.name
-        (D.state repo.old).view (D.state repo.new).view) }
-    ensures changes { ChangesPath order.now.inside.now
-        (AreBytes stanza.now id.now order.now.name (D.state repo.old).view.now)
-        (T.state tree.old).nodes (T.state tree.new).nodes }
-    ensures cause { IfErr result (HaltCause
-        (FileCause stanza.now id.now order.now.name (D.state repo.old).view.now)
-        (EitherFailed (D.state repo.old) (D.state repo.new) (T.state tree.old) (T.state tree.new))) }
+    ensures puts { PutsOfId D.state T.state stanza.now id.now order.now result repo.old tree.old tree.new }
+    ensures alike { OnOk result (LeavesAlike stanza.now id.now order.now.name (D.state repo.old) (D.state repo.new)) }
+    ensures changes { SetsOfId D.state T.state stanza.now id.now order.now repo.old tree.old tree.new }
+    ensures cause { StopsOfId D.state T.state stanza.now id.now order.now result repo.old repo.new tree.old tree.new }
     ensures looks { OnlyReads (D.state repo.old) (D.state repo.new) }
     ensures tree_place { (T.state tree.new).opened ≡ (T.state tree.old).opened }
     ensures tree_later { (T.state tree.old).faults ≤ (T.state tree.new).faults }
@@ -162,17 +135,11 @@ fn serve_under<D: Disk, T: DataFolder>(
     known: &Control,
     order: &GetOrder<'_>,
 ) -> Result<bool, Halt<GetFault>>
-    ensures puts { (f : Option Content) → IsLeft stanza.now (D.state repo.old).view (D.state repo.new).view f
-        → Puts result
-        (AreBytesUnder cluster.now stanza.now known.now order.now.name f)
-        (IsUnstoredUnder cluster.now stanza.now known.now order.now.name f)
-        order.now.inside.now (T.state tree.old).nodes (T.state tree.new).nodes }
-    ensures changes { ChangesPath order.now.inside.now
-        (AreBytesUnder cluster.now stanza.now known.now order.now.name (D.state repo.old).view.now)
-        (T.state tree.old).nodes (T.state tree.new).nodes }
-    ensures cause { IfErr result (HaltCause
-        (UnderCause cluster.now stanza.now known.now order.now.name (D.state repo.old).view.now)
-        (EitherFailed (D.state repo.old) (D.state repo.new) (T.state tree.old) (T.state tree.new))) }
+    ensures puts { PutsUnder D.state T.state cluster.now stanza.now known.now order.now result
+        repo.old repo.new tree.old tree.new }
+    ensures changes { SetsUnder D.state T.state cluster.now stanza.now known.now order.now repo.old tree.old tree.new }
+    ensures cause { StopsUnder D.state T.state cluster.now stanza.now known.now order.now result
+        repo.old repo.new tree.old tree.new }
     ensures looks { OnlyReads (D.state repo.old) (D.state repo.new) }
     ensures tree_place { (T.state tree.new).opened ≡ (T.state tree.old).opened }
     ensures tree_later { (T.state tree.old).faults ≤ (T.state tree.new).faults }
@@ -202,17 +169,11 @@ pub(crate) fn search<D: Disk, T: DataFolder>(
     order: &GetOrder<'_>,
 ) -> Result<bool, Halt<GetFault>>
     requires numbers { AreFrom 1 (map (λ (c : ClusterId). c.id) history.now) }
-    ensures puts { (f : Option Content) → IsLeft stanza.now (D.state repo.old).view (D.state repo.new).view f
-        → Puts result
-        (AreFoundIn history.now stanza.now known.now order.now.name f)
-        (IsAbsentIn history.now stanza.now known.now order.now.name f)
-        order.now.inside.now (T.state tree.old).nodes (T.state tree.new).nodes }
-    ensures changes { ChangesPath order.now.inside.now
-        (AreFoundIn history.now stanza.now known.now order.now.name (D.state repo.old).view.now)
-        (T.state tree.old).nodes (T.state tree.new).nodes }
-    ensures cause { IfErr result (HaltCause
-        (SearchCause history.now stanza.now known.now order.now.name (D.state repo.old).view.now)
-        (EitherFailed (D.state repo.old) (D.state repo.new) (T.state tree.old) (T.state tree.new))) }
+    ensures puts { PutsIn D.state T.state history.now stanza.now known.now order.now result
+        repo.old repo.new tree.old tree.new }
+    ensures changes { SetsIn D.state T.state history.now stanza.now known.now order.now repo.old tree.old tree.new }
+    ensures cause { StopsIn D.state T.state history.now stanza.now known.now order.now result
+        repo.old repo.new tree.old tree.new }
     ensures looks { OnlyReads (D.state repo.old) (D.state repo.new) }
     ensures tree_place { (T.state tree.new).opened ≡ (T.state tree.old).opened }
     ensures tree_later { (T.state tree.old).faults ≤ (T.state tree.new).faults }

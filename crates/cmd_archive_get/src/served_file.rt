@@ -3,10 +3,10 @@ ghost use Rattle.std.specs.Prelude.{◌≡◌, ◌≤◌, ◌↔◌, true, OnOk,
 ghost use Rattle.base_devices.specs.States.{OnlyReads};
 ghost use Rattle.base_devices.specs.Content.{SameBut};
 ghost use Rattle.base_devices.specs.Moments.{LeavesNoMore};
-ghost use Rattle.base_devices.specs.Cause.{HasCause, Rises};
+ghost use Rattle.base_devices.specs.Cause.{HasCause};
 ghost use Rattle.cmd_archive_get.specs.Getting.{IsPut, ChangesPath, temporary_path};
-ghost use Rattle.cmd_types.specs.Halts.{HaltCause, Never};
-ghost use Rattle.cmd_archive_get.specs.Serving.{RoseIn, EitherFailed, Copies, AreStoredAt, Passes, PassCause, refusal};
+ghost use Rattle.cmd_archive_get.specs.Serving.{refusal};
+ghost use Rattle.cmd_archive_get.specs.ByOrder.{FolderEnds, CopiesFrom, CopyEnds, PassesOn, SetsStored, PassStops};
 
 use crate::fault::GetFault;
 use base_devices::{DataFolder, DeviceError, Disk};
@@ -92,8 +92,7 @@ pub fn put_file<T: DataFolder>(
         (λ b. b ≡ bytes.now) (T.state tree.old).nodes (T.state tree.new).nodes }
     ensures place { (T.state tree.new).opened ≡ (T.state tree.old).opened }
     ensures later { (T.state tree.old).faults ≤ (T.state tree.new).faults }
-    ensures cause { IfErr result (HaltCause Never
-        (RoseIn ⊥ (Rises (T.state tree.old).faults (T.state tree.new).faults))) }
+    ensures cause { IfErr result (FolderEnds (T.state tree.old) (T.state tree.new)) }
 {
     let temporary = temporary_name(alloc, path)?;
     match write_and_rename(tree, &temporary, path, bytes) {
@@ -110,10 +109,8 @@ fn copy_new<D: Disk, T: DataFolder>(
     from: &str,
     name: &str,
 ) -> Result<Option<Copied>, Halt<GetFault>>
-    ensures copies { Copies result (D.state repo.old).view.now from.now name.now
-        (T.state tree.old).nodes (T.state tree.new).nodes }
-    ensures cause { IfErr result (HaltCause Never
-        (EitherFailed (D.state repo.old) (D.state repo.new) (T.state tree.old) (T.state tree.new))) }
+    ensures copies { CopiesFrom result (D.state repo.old) from.now name.now (T.state tree.old) (T.state tree.new) }
+    ensures cause { IfErr result (CopyEnds D.state T.state repo.old repo.new tree.old tree.new) }
     ensures looks { OnlyReads (D.state repo.old) (D.state repo.new) }
     ensures tree_place { (T.state tree.new).opened ≡ (T.state tree.old).opened }
     ensures tree_later { (T.state tree.old).faults ≤ (T.state tree.new).faults }
@@ -179,14 +176,9 @@ pub fn pass_on<D: Disk, T: DataFolder>(
     sum: Sum,
     path: &str,
 ) -> Result<Passed, Halt<GetFault>>
-    ensures passes { Passes result (D.state repo.old).view.now (string_bytes from) sum.0 path.now
-        (T.state tree.old).nodes (T.state tree.new).nodes }
-    ensures changes { ChangesPath path.now
-        (AreStoredAt (D.state repo.old).view.now (string_bytes from) sum.0)
-        (T.state tree.old).nodes (T.state tree.new).nodes }
-    ensures cause { IfErr result (HaltCause
-        (PassCause (D.state repo.old).view.now (string_bytes from) sum.0)
-        (EitherFailed (D.state repo.old) (D.state repo.new) (T.state tree.old) (T.state tree.new))) }
+    ensures passes { PassesOn D.state T.state result (string_bytes from) sum.0 path.now repo.old tree.old tree.new }
+    ensures changes { SetsStored D.state T.state (string_bytes from) sum.0 path.now repo.old tree.old tree.new }
+    ensures cause { PassStops D.state T.state (string_bytes from) sum.0 result repo.old repo.new tree.old tree.new }
     ensures looks { OnlyReads (D.state repo.old) (D.state repo.new) }
     ensures tree_place { (T.state tree.new).opened ≡ (T.state tree.old).opened }
     ensures tree_later { (T.state tree.old).faults ≤ (T.state tree.new).faults }

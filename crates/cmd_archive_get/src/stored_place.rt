@@ -1,16 +1,12 @@
 // Where a file of the archive is stored.
-ghost use Rattle.std.specs.Prelude.{Option, map, IfOk, IfErr, IfSome};
-ghost use Rattle.base_devices.specs.Cause.{Rises};
-ghost use Rattle.base_devices.specs.Content.{Content};
+ghost use Rattle.std.specs.Prelude.{map, IfOk, IfErr, IfSome};
 ghost use Rattle.base_devices.specs.States.{OnlyReads};
 ghost use Rattle.base_model.specs.declared.clusters.ClusterId.{ClusterId};
 ghost use Rattle.base_model.specs.InfoFiles.{AreFrom, IsArchiveInfo};
 ghost use Rattle.base_model.specs.Values.{archive_info_of};
 ghost use Rattle.cmd_types.specs.Current.{HasValue};
-ghost use Rattle.cmd_types.specs.Halts.{HaltCause};
-ghost use Rattle.cmd_archive_get.specs.Getting.{FetchCause};
-ghost use Rattle.cmd_archive_get.specs.Looking.{FindsIn, FindsUnder, IsLookedUp, IsUndamaged};
-ghost use Rattle.cmd_archive_get.specs.Serving.{IsLeft, RoseIn, SearchCause, UnderCause};
+ghost use Rattle.cmd_archive_get.specs.Looking.{IsUndamaged};
+ghost use Rattle.cmd_archive_get.specs.ByOrder.{FoundUnder, LookStops, FoundAmong, SearchStops, LooksUp, FindStops};
 
 use crate::archive_get::mismatch;
 use crate::fault::{GetFault, of_archive};
@@ -32,12 +28,8 @@ fn look_under<D: Disk>(
     known: &Control,
     name: &ArchiveName,
 ) -> Result<Option<Stored>, Halt<GetFault>>
-    ensures finds { IfOk result (λ found. (f : Option Content)
-        → IsLeft stanza.now (D.state repo.old).view (D.state repo.new).view f
-        → FindsUnder cluster.now stanza.now known.now name.now found f) }
-    ensures cause { IfErr result (HaltCause
-        (UnderCause cluster.now stanza.now known.now name.now (D.state repo.old).view.now)
-        (RoseIn (Rises (D.state repo.old).faults (D.state repo.new).faults) ⊥)) }
+    ensures finds { IfOk result (FoundUnder D.state cluster.now stanza.now known.now name.now repo.old repo.new) }
+    ensures cause { IfErr result (LookStops D.state cluster.now stanza.now known.now name.now repo.old repo.new) }
     ensures undamaged { IfErr result IsUndamaged }
     ensures looks { OnlyReads (D.state repo.old) (D.state repo.new) }
 {
@@ -64,12 +56,8 @@ fn look_in<D: Disk>(
     name: &ArchiveName,
 ) -> Result<Option<Stored>, Halt<GetFault>>
     requires numbers { AreFrom 1 (map (λ (c : ClusterId). c.id) history.now) }
-    ensures finds { IfOk result (λ found. (f : Option Content)
-        → IsLeft stanza.now (D.state repo.old).view (D.state repo.new).view f
-        → IfSome f (FindsIn history.now stanza.now known.now name.now found)) }
-    ensures cause { IfErr result (HaltCause
-        (SearchCause history.now stanza.now known.now name.now (D.state repo.old).view.now)
-        (RoseIn (Rises (D.state repo.old).faults (D.state repo.new).faults) ⊥)) }
+    ensures finds { IfOk result (FoundAmong D.state history.now stanza.now known.now name.now repo.old repo.new) }
+    ensures cause { IfErr result (SearchStops D.state history.now stanza.now known.now name.now repo.old repo.new) }
     ensures undamaged { IfErr result IsUndamaged }
     ensures looks { OnlyReads (D.state repo.old) (D.state repo.new) }
 {
@@ -98,13 +86,8 @@ pub fn find_file<D: Disk>(
     requires pair { IfSome (D.state repo.old).view.now (λ f. HasValue stanza.now f (archive_info_of info.now)) }
     requires valid { IsArchiveInfo (archive_info_of info.now) }
     // So it is in all that a crash leaves, where that has the archive pair.
-    ensures finds { IfOk result (λ found. (f : Option Content)
-        → IsLeft stanza.now (D.state repo.old).view (D.state repo.new).view f
-        → IfSome f (λ f. HasValue stanza.now f (archive_info_of info.now))
-        → IsLookedUp stanza.now known.now name.now found f) }
-    ensures cause { IfErr result (HaltCause
-        (FetchCause stanza.now known.now name.now (D.state repo.old).view.now)
-        (RoseIn (Rises (D.state repo.old).faults (D.state repo.new).faults) ⊥)) }
+    ensures finds { IfOk result (LooksUp D.state stanza.now known.now info.now name.now repo.old repo.new) }
+    ensures cause { IfErr result (FindStops D.state stanza.now known.now name.now repo.old repo.new) }
     ensures undamaged { IfErr result IsUndamaged }
     ensures looks { OnlyReads (D.state repo.old) (D.state repo.new) }
 {

@@ -4,3 +4,4 @@ pub mod Taking
 pub mod Following
 pub mod Getting
 pub mod FollowUp
+pub mod Between

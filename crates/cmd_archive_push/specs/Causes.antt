@@ -1,13 +1,15 @@
 -- Why archive-push answers so.
-use Rattle.std.specs.Prelude.{◌≡◌, ◌≢◌, ◌⊎◌, ◌∷◌, [], Option, IfSome}
+use Rattle.std.specs.Prelude.{◌≡◌, ◌≢◌, ◌⊎◌, ◌∷◌, [], Option, Some, IfSome}
 use Rattle.sha1.specs.Sha1.{sha1}
 use Rattle.base_devices.specs.Content.{Content}
 use Rattle.base_devices.specs.Moments.{View}
 use Rattle.base_devices.specs.Crash.{NowChanges, AllOf, IsAlikeAt}
 use Rattle.base_devices.specs.DataFolder.{Nodes}
+use Rattle.base_model.specs.declared.clusters.ArchiveInfo as rust_archive_info
 use Rattle.base_model.specs.declared.clusters.ClusterId.{ClusterId}
 use Rattle.base_model.specs.declared.wal.ArchiveId.{ArchiveId}
 use Rattle.base_model.specs.declared.wal.ArchiveName.{ArchiveName}
+use Rattle.base_model.specs.Fields.{at_number}
 use Rattle.base_model.specs.Text.{Text}
 use Rattle.base_model.specs.Names.{wal_text}
 use Rattle.repo_stanza.specs.declared.control.Control.{Control}
@@ -18,6 +20,8 @@ use Rattle.archive_lookup.specs.declared.stored.fault.ArchiveFault.TheVariants.{
 use Rattle.archive_lookup.specs.Causes.{IsFileOf, limit_of, PushCause as StoringCause}
 use Rattle.archive_store.specs.Pushes.{IsPathOf}
 use Rattle.archive_lookup.specs.Stored.{archive_path, StoresNone, StoresOnly}
+use Rattle.cmd_types.specs.declared.stages.halt.Halt.{Halt}
+use Rattle.cmd_types.specs.declared.stages.halt.Halt.TheVariants.{Refused}
 use Rattle.cmd_types.specs.Cluster.{FolderShows}
 use Rattle.cmd_types.specs.Current.{HasCurrent, id_kept}
 use Rattle.cmd_archive_push.specs.declared.fault.PushFault.{PushFault}
@@ -44,6 +48,17 @@ abbrev pub MismatchCause : Text → Option Content → Option Nodes → Identity
 MismatchCause stanza repo nodes kept found = (known : Control) × IfSome nodes (λ f. FolderShows f known)
     × ((kept ≢ found) × (found ≡ identity_known known)
     × ((c : ClusterId) × (kept ≡ identity_kept c) × IfSome repo (λ f. HasCurrent stanza f c)))
+
+-- the id is that of the pair's current cluster, which is the data folder's
+abbrev pub IsIdOfCurrent : rust_archive_info.ArchiveInfo → Control → ArchiveId → Type 0
+IsIdOfCurrent info known id = (c : ClusterId) × (at_number info.current info.history.items ≡ Some c)
+    × (id ≡ id_kept c) × (identity_kept c ≡ identity_known known)
+
+-- the pair's current cluster is another than the data folder's, and that is the refusal
+abbrev pub HasOtherCurrent : rust_archive_info.ArchiveInfo → Control → Halt PushFault → Type 0
+HasOtherCurrent info known halt = (c : ClusterId) × (at_number info.current info.history.items ≡ Some c)
+    × (halt ≡ Refused (StanzaMismatch (identity_kept c) (identity_known known)))
+    × (identity_kept c ≢ identity_known known)
 
 -- the file is refused for its content
 pub record IsRefusedPush (stanza folder path : Text) (repo : Option Content) (nodes : Option Nodes)

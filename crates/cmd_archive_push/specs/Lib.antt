@@ -5,5 +5,6 @@ pub mod LogFile
 pub mod Faults
 pub mod Commands
 pub mod Causes
+pub mod Storing
 pub mod Outcomes
 pub mod Texts

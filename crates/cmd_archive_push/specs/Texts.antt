@@ -1,5 +1,6 @@
 -- The status and the message of each refusal of archive-push (own).
 use Rattle.std.specs.Prelude.{ℕ, ◌++◌, codes, decimal, Option, Some, None, string_bytes}
+use Rattle.base_text.specs.declared.sum.Sum.{Sum}
 use Rattle.base_text.specs.Sum.{sum_text}
 use Rattle.base_model.specs.Text.{Text}
 use Rattle.cmd_types.specs.StagesTexts.{shown, long_text, mismatch_text, twice_text}
@@ -19,6 +20,11 @@ push_status (HeaderMismatch kept found) = 33
 push_status (Ambiguous first second) = 36
 push_status (Duplicate kept found) = 34
 
+-- the bytes have another sum than those that are stored
+abbrev pub duplicate_text : Sum → Sum → Text
+duplicate_text kept found =
+    codes "archived with checksum " ++ (sum_text kept.0 ++ (codes ", now " ++ sum_text found.0))
+
 abbrev pub push_message : PushFault → Text
 push_message (SegmentName name) = codes "'" ++ (shown (string_bytes name) ++ codes "' is no WAL file name")
 push_message (PathOutside path) = codes "path '" ++ (shown (string_bytes path) ++ codes "' is outside the data folder")
@@ -31,8 +37,7 @@ push_message (SegmentSize known found) =
 push_message (HeaderMismatch kept found) =
     codes "stanza has system " ++ (decimal kept ++ (codes ", WAL has system " ++ decimal found))
 push_message (Ambiguous first second) = twice_text (string_bytes first) (string_bytes second)
-push_message (Duplicate kept found) =
-    codes "archived with checksum " ++ (sum_text kept.0 ++ (codes ", now " ++ sum_text found.0))
+push_message (Duplicate kept found) = duplicate_text kept found
 
 -- the message, where a file is refused for its content
 abbrev pub content_text : PushFault → Option Text

@@ -3,12 +3,10 @@ ghost use Rattle.std.specs.Prelude.{◌≡◌, ◌⊎◌, ◌≤◌, ◌<◌, De
 ghost use Rattle.std.proofs.Common.{refl, ap, ◌∙◌};
 ghost use Rattle.base_devices.specs.States.{OnlyReads, OnlyReadsFolder};
 ghost use Rattle.base_devices.specs.DataFolder.{known_path};
-ghost use Rattle.base_devices.specs.Cause.{HasCause, Rises};
-ghost use Rattle.cmd_types.specs.declared.stages.object.Object.TheVariants.{TheDataFolder as TheFolder};
-ghost use Rattle.cmd_types.specs.Halts.{HaltCause, Only};
+ghost use Rattle.base_devices.specs.Cause.{HasCause};
 ghost use Rattle.cmd_archive_push.specs.LogFile.{known_file, IsOpened, IsMeasured};
 ghost use Rattle.cmd_archive_push.specs.WalPath.{wal_path};
-ghost use Rattle.cmd_archive_push.specs.WalCause.{FileCause};
+ghost use Rattle.cmd_archive_push.specs.WalCause.{OpenEnds};
 
 use crate::fault::PushFault;
 use archive_store::{ByteSource, Prefix};
@@ -81,8 +79,7 @@ pub fn open_log_file<T: DataFolder>(
 ) -> Result<LogFile, Halt<PushFault>>
     requires { 65536 ≤ limit }
     ensures opened { IfOk result (IsOpened (T.state tree.old).nodes (wal_path name.now)) }
-    ensures cause { IfErr result (HaltCause (FileCause path.now name.now limit (T.state tree.old).nodes)
-        (Only TheFolder (Rises (T.state tree.old).faults (T.state tree.new).faults))) }
+    ensures cause { IfErr result (OpenEnds path.now name.now limit (T.state tree.old) (T.state tree.new)) }
     ensures looks { OnlyReadsFolder (T.state tree.old) (T.state tree.new) }
 {
     let what = ReadableFile::Wal(String::from_str(alloc, name)?);

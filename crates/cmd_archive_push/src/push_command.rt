@@ -1,32 +1,22 @@
 // Stores the file that archive-push is given.
-ghost use Rattle.std.specs.Prelude.{◌≡◌, ◌∷◌, [], ◌≤◌, ◌<◌, ◌^◌, IfOk, IfErr, IfSome, IsSome, IsSomeAnd, string_bytes};
-ghost use Rattle.base_devices.specs.Cause.{Rises};
-ghost use Rattle.base_devices.specs.Crash.{IsAlikeAt};
+ghost use Rattle.std.specs.Prelude.{◌≡◌, ◌∷◌, [], ◌≤◌, ◌<◌, ◌^◌, IfOk, IfErr, IfSome, string_bytes};
 ghost use Rattle.base_devices.specs.States.{CallsProperly, OnlyReadsFolder};
-ghost use Rattle.base_model.specs.declared.clusters.ClusterId.{ClusterId};
 ghost use Rattle.base_model.specs.InfoFiles.{IsArchiveInfo};
-ghost use Rattle.base_model.specs.Names.{archive_info, wal_text};
-ghost use Rattle.base_model.specs.Steps.{Command};
+ghost use Rattle.base_model.specs.Names.{wal_text};
 ghost use Rattle.base_model.specs.Values.{archive_info_of};
-ghost use Rattle.base_model.specs.Walks.{IsSynced};
-ghost use Rattle.repo_pair.specs.Member.{IsMember};
 ghost use Rattle.archive_lookup.specs.Causes.{limit_of};
 ghost use Rattle.base_crash_lists.specs.Beside.{StaysBeside};
 ghost use Rattle.archive_store.specs.Still.{IsStill};
-ghost use Rattle.cmd_types.specs.declared.stages.plan.SyncScope.TheVariants.{Looked};
 ghost use Rattle.cmd_types.specs.Cluster.{FolderShows};
-ghost use Rattle.cmd_types.specs.Current.{HasValue, AgreesAtPair, id_kept};
-ghost use Rattle.cmd_types.specs.Halts.{HaltCause};
+ghost use Rattle.cmd_types.specs.Current.{HasValue};
 ghost use Rattle.cmd_types.specs.Plans.{archive_lock};
-ghost use Rattle.cmd_types.specs.Reached.{OnFinished, reached_by};
-ghost use Rattle.cmd_types.specs.Risen.{none, rose_in};
-ghost use Rattle.cmd_types.specs.DisksEffect.{OnNone, RepoEffect};
-ghost use Rattle.cmd_archive_push.specs.Causes.{IsCurrent, IsStored, IsLasting, PushCause};
-ghost use Rattle.cmd_archive_push.specs.Commands.{IsPushOf};
+ghost use Rattle.cmd_types.specs.Reached.{reached_by};
+ghost use Rattle.cmd_types.specs.DisksEffect.{OnNone};
 ghost use Rattle.cmd_archive_push.specs.Faults.{push_early};
 ghost use Rattle.cmd_archive_push.specs.LogFile.{IsOpened};
 ghost use Rattle.cmd_archive_push.specs.Outcomes.{pushed_lines};
 ghost use Rattle.cmd_archive_push.specs.WalPath.{wal_path};
+ghost use Rattle.cmd_archive_push.specs.Storing.{IsIdOfCurrentIn, DoesPush, StoresBy, LastsBy, StaysAgreed, StaysAlike, PushEnds};
 
 use crate::current::id_of;
 use crate::fault::{PushFault, of_store};
@@ -75,34 +65,18 @@ fn store<D: Disk, T: DataFolder>(
 ) -> Result<Outcome, Halt<PushFault>>
     requires opened { IsOpened (T.state tree.old).nodes (wal_path (wal_text order.now.name)) log.now }
     requires fits { (id.now.version < 2 ^ 32) × (id.now.number < 2 ^ 32) }
-    requires current { (c : ClusterId) × (id.now ≡ id_kept c)
-        × IsCurrent stanza.now (D.state repo.old).view.now (T.state tree.old).nodes known.now c }
-    ensures does { (command : Command)
-        → IsSomeAnd (T.state tree.old).nodes (λ f. IsPushOf f order.now.folder.now order.now.path.now command)
-        → RepoEffect Looked stanza.now command (reached_by push_early result) (D.state repo.old).view
-        (D.state repo.new).view }
-    ensures stored { IfOk result (λ o. OnFinished o (IsStored stanza.now order.now.folder.now order.now.path.now
-        (T.state tree.old).nodes (D.state repo.old).view.now (D.state repo.new).view.now)) }
+    requires current { IsIdOfCurrentIn stanza.now id.now known.now (D.state repo.old) (T.state tree.old) }
+    ensures does { DoesPush stanza.now order.now (T.state tree.old) result (D.state repo.old) (D.state repo.new) }
+    ensures stored { IfOk result (StoresBy D.state T.state stanza.now order.now repo.old repo.new tree.old) }
     // No crash removes it.
-    ensures lasts { IfOk result (λ o. IsSynced stanza.now (D.state repo.old).view → IsSome (D.state repo.old).view.now
-        → OnFinished o (λ lines. IsLasting stanza.now order.now.folder.now order.now.path.now
-        (D.state repo.new).view)) }
-    ensures agrees { IfSome (D.state repo.old).view.now (AgreesAtPair stanza.now) → IsSome (D.state repo.old).view.now
-        → IfSome (D.state repo.new).view.now (AgreesAtPair stanza.now) }
-    ensures alike { IsSynced stanza.now (D.state repo.old).view → IsSome (D.state repo.old).view.now
-        → IsAlikeAt (IsMember (archive_info stanza.now)) (D.state repo.old).view
-        → IsAlikeAt (IsMember (archive_info stanza.now)) (D.state repo.new).view }
+    ensures lasts { IfOk result (LastsBy stanza.now order.now (D.state repo.old) (D.state repo.new)) }
+    ensures agrees { StaysAgreed stanza.now (D.state repo.old) (D.state repo.new) }
+    ensures alike { StaysAlike stanza.now (D.state repo.old) (D.state repo.new) }
     ensures rest { OnNone (reached_by push_early result) (IsStill (D.state repo.old).view (D.state repo.new).view) }
     ensures looks { OnlyReadsFolder (T.state tree.old) (T.state tree.new) }
     ensures beside { StaysBeside stanza.now (D.state repo.old).view (D.state repo.new).view }
     ensures frame { CallsProperly (D.state repo.old) (D.state repo.new) }
-    ensures cause { IfErr result (HaltCause
-        (PushCause stanza.now order.now.folder.now order.now.path.now (D.state repo.old).view.now
-        (T.state tree.old).nodes)
-        (rose_in (record none {
-          repo = Rises (D.state repo.old).faults (D.state repo.new).faults;
-          tree = Rises (T.state tree.old).faults (T.state tree.new).faults;
-        }))) }
+    ensures cause { IfErr result (PushEnds D.state T.state stanza.now order.now repo.old repo.new tree.old tree.new) }
 {
     match push_from(
         alloc,
@@ -139,32 +113,17 @@ pub fn push_file<D: Disk, T: DataFolder, K: Locks>(
     requires pair { IfSome (D.state repo.old).view.now (λ f. HasValue stanza.now f (archive_info_of info.now)) }
     requires valid { IsArchiveInfo (archive_info_of info.now) }
     // The command's steps are done, or a part of them, or none where it is refused.
-    ensures does { (command : Command)
-        → IsSomeAnd (T.state tree.old).nodes (λ f. IsPushOf f order.entry.folder.now order.entry.path.now command)
-        → RepoEffect Looked stanza.now command (reached_by push_early result) (D.state repo.old).view
-        (D.state repo.new).view }
-    ensures stored { IfOk result (λ o. OnFinished o (IsStored stanza.now order.entry.folder.now order.entry.path.now
-        (T.state tree.old).nodes (D.state repo.old).view.now (D.state repo.new).view.now)) }
+    ensures does { DoesPush stanza.now order.entry (T.state tree.old) result (D.state repo.old) (D.state repo.new) }
+    ensures stored { IfOk result (StoresBy D.state T.state stanza.now order.entry repo.old repo.new tree.old) }
     // No crash removes it.
-    ensures lasts { IfOk result (λ o. IsSynced stanza.now (D.state repo.old).view → IsSome (D.state repo.old).view.now
-        → OnFinished o (λ lines. IsLasting stanza.now order.entry.folder.now order.entry.path.now
-        (D.state repo.new).view)) }
-    ensures agrees { IfSome (D.state repo.old).view.now (AgreesAtPair stanza.now) → IsSome (D.state repo.old).view.now
-        → IfSome (D.state repo.new).view.now (AgreesAtPair stanza.now) }
-    ensures alike { IsSynced stanza.now (D.state repo.old).view → IsSome (D.state repo.old).view.now
-        → IsAlikeAt (IsMember (archive_info stanza.now)) (D.state repo.old).view
-        → IsAlikeAt (IsMember (archive_info stanza.now)) (D.state repo.new).view }
+    ensures lasts { IfOk result (LastsBy stanza.now order.entry (D.state repo.old) (D.state repo.new)) }
+    ensures agrees { StaysAgreed stanza.now (D.state repo.old) (D.state repo.new) }
+    ensures alike { StaysAlike stanza.now (D.state repo.old) (D.state repo.new) }
     ensures rest { OnNone (reached_by push_early result) (IsStill (D.state repo.old).view (D.state repo.new).view) }
     ensures looks { OnlyReadsFolder (T.state tree.old) (T.state tree.new) }
     ensures beside { StaysBeside stanza.now (D.state repo.old).view (D.state repo.new).view }
     ensures frame { CallsProperly (D.state repo.old) (D.state repo.new) }
-    ensures cause { IfErr result (HaltCause
-        (PushCause stanza.now order.entry.folder.now order.entry.path.now (D.state repo.old).view.now
-        (T.state tree.old).nodes)
-        (rose_in (record none {
-          repo = Rises (D.state repo.old).faults (D.state repo.new).faults;
-          tree = Rises (T.state tree.old).faults (T.state tree.new).faults;
-        }))) }
+    ensures cause { IfErr result (PushEnds D.state T.state stanza.now order.entry repo.old repo.new tree.old tree.new) }
 {
     let id = id_of(info, known)?;
     let log = open_log_file(alloc, tree, order.path, &order.text, limit_of(&order.name))?;

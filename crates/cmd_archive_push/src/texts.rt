@@ -1,7 +1,6 @@
 // The status and the message of each refusal.
-ghost use Rattle.std.specs.Prelude.{◌≡◌, ◌++◌, codes, IfOk, option_map, string_bytes};
-ghost use Rattle.base_text.specs.Sum.{sum_text};
-ghost use Rattle.cmd_archive_push.specs.Texts.{push_status, push_message, content_text};
+ghost use Rattle.std.specs.Prelude.{◌≡◌, IfOk, option_map, string_bytes};
+ghost use Rattle.cmd_archive_push.specs.Texts.{push_status, push_message, content_text, duplicate_text};
 
 use crate::fault::PushFault;
 use base_text::{NoMemory, Sum};
@@ -29,7 +28,7 @@ pub fn push_status(fault: &PushFault) -> u8
 // The message of a segment that is stored with other bytes.
 fn duplicate_text(alloc: Global, kept: &Sum, found: &Sum) -> Result<String, NoMemory>
     ensures { IfOk result (λ text. string_bytes text
-        ≡ codes "archived with checksum " ++ (sum_text kept.now.0 ++ (codes ", now " ++ sum_text found.now.0))) }
+        ≡ duplicate_text kept.now found.now) }
 {
     let kept = kept.hex(alloc)?;
     let found = found.hex(alloc)?;

@@ -8,3 +8,4 @@ pub mod Ready
 pub mod Whole
 pub mod Paired
 pub mod Drained
+pub mod Between

@@ -4,3 +4,4 @@ pub mod Causes
 pub mod Received
 pub mod Pushing
 pub mod Texts
+pub mod Between

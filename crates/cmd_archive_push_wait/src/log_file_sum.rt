@@ -1,17 +1,9 @@
 // The sum of a file of the log.
-ghost use Rattle.std.specs.Prelude.{◌≡◌, IfOk, IfErr, IfSome};
-ghost use Rattle.sha1.specs.Sha1.{sha1};
-ghost use Rattle.base_devices.specs.Cause.{Rises};
+ghost use Rattle.std.specs.Prelude.{◌≡◌, IfOk, IfErr};
 ghost use Rattle.base_devices.specs.States.{OnlyReadsFolder};
 ghost use Rattle.base_text.specs.Sum.{IsSum};
-ghost use Rattle.base_model.specs.Names.{wal_text};
-ghost use Rattle.archive_lookup.specs.Causes.{limit_of};
-ghost use Rattle.cmd_types.specs.declared.stages.object.Object.TheVariants.{TheDataFolder as TheFolder};
-ghost use Rattle.cmd_types.specs.Halts.{HaltCause, Only};
-ghost use Rattle.cmd_archive_push.specs.LogFile.{known_file};
-ghost use Rattle.cmd_archive_push.specs.WalPath.{wal_path};
 ghost use Rattle.cmd_archive_push_wait.specs.Faults.{halt_of_file};
-ghost use Rattle.cmd_archive_push_wait.specs.Pushing.{MissCause};
+ghost use Rattle.cmd_archive_push_wait.specs.Between.{IsSumOfLog, SumEnds};
 
 use crate::fault::QueueFault;
 use archive_store::sum_of;
@@ -45,12 +37,9 @@ pub(crate) fn sum_file<T: DataFolder>(
     order: &PushOrder<'_>,
 ) -> Result<Sum, Halt<QueueFault>>
     ensures is_sum { IfOk result (λ sum. IsSum sum.0) }
-    ensures sum { IfOk result (λ sum. IfSome
-        (known_file (T.state tree.old).nodes (wal_path (wal_text order.now.name))) (λ bytes. sum.0 ≡ sha1 bytes)) }
+    ensures sum { IfOk result (IsSumOfLog order.now.name (T.state tree.old)) }
     ensures looks { OnlyReadsFolder (T.state tree.old) (T.state tree.new) }
-    ensures cause { IfErr result (HaltCause
-        (MissCause order.now.path.now (wal_text order.now.name) (limit_of order.now.name) (T.state tree.old).nodes)
-        (Only TheFolder (Rises (T.state tree.old).faults (T.state tree.new).faults))) }
+    ensures cause { IfErr result (SumEnds order.now (T.state tree.old) (T.state tree.new)) }
 {
     let limit = limit_of(&order.name);
     let log = match open_log_file(alloc, tree, order.path, &order.text, limit) {

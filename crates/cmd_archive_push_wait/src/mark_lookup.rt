@@ -1,19 +1,12 @@
 // The spool is asked whether a file was stored, and then the names of its marks are synced.
-ghost use Rattle.std.specs.Prelude.{◌≡◌, [], false, IfOk, IfErr, IfSome, IsSome, OnOk};
+ghost use Rattle.std.specs.Prelude.{[], IfOk, IfErr, IfSome, IsSome, OnOk};
 ghost use Rattle.base_text.specs.Sum.{IsSum};
-ghost use Rattle.base_devices.specs.Cause.{Rises};
-ghost use Rattle.base_devices.specs.Content.{LiesDirectlyIn};
-ghost use Rattle.base_devices.specs.Moments.{SyncsFolders, is_unsynced};
 ghost use Rattle.base_devices.specs.States.{CallsProperly, OnlyReads};
-ghost use Rattle.base_model.specs.Names.{receipt_name};
-ghost use Rattle.cmd_types.specs.declared.stages.object.Object.TheVariants.{Spool as TheSpool};
-ghost use Rattle.cmd_types.specs.Halts.{HaltCause, Never, Only};
 ghost use Rattle.archive_lookup.specs.Stored.{ChangesArchive};
-ghost use Rattle.archive_spool.specs.declared.spool_query.Asked.TheVariants.{NotYet as Nothing};
-ghost use Rattle.archive_spool.specs.Asking.{Answers};
 ghost use Rattle.archive_spool.specs.Marks.{GivesMarks};
-ghost use Rattle.cmd_archive_push_wait.specs.Causes.{LongCause};
-ghost use Rattle.cmd_archive_push_wait.specs.Leaving.{IsBare, IsClear, marks_folder};
+ghost use Rattle.archive_spool.specs.Asking.{IsAnswer};
+ghost use Rattle.cmd_archive_push_wait.specs.Leaving.{IsClear};
+ghost use Rattle.cmd_archive_push_wait.specs.Between.{SpoolEnds, SyncsMarks, IsBareIfNothing, MarkEnds};
 
 use crate::fault::{QueueFault, of_mark};
 use archive_spool::{Asked, ask};
@@ -25,11 +18,9 @@ use std::alloc::Global;
 
 // Syncs the names of marks.
 fn sync_marks<S: Disk>(alloc: Global, spool: &mut S, stanza: &str) -> Result<(), Halt<QueueFault>>
-    ensures settled { OnOk result (SyncsFolders (LiesDirectlyIn (marks_folder stanza.now)) (S.state spool.old).view
-        (S.state spool.new).view) }
+    ensures settled { OnOk result (SyncsMarks stanza.now (S.state spool.old) (S.state spool.new)) }
     ensures looks { OnlyReads (S.state spool.old) (S.state spool.new) }
-    ensures cause { IfErr result (HaltCause Never
-        (Only TheSpool (Rises (S.state spool.old).faults (S.state spool.new).faults))) }
+    ensures cause { IfErr result (SpoolEnds (S.state spool.old) (S.state spool.new)) }
 {
     let Ok(folder) = format!(in alloc; "archive/{stanza}/out") else {
         return Err(Halt::NoMemory);
@@ -51,17 +42,14 @@ pub(crate) fn look<S: Disk>(
 ) -> Result<Asked, Halt<QueueFault>>
     requires { IsSum sum.now.0 }
     ensures answers { IfOk result
-        (λ asked. IfSome (S.state spool.old).view.now (λ f. Answers stanza.now f name sum.now.0 asked)) }
+        (IsAnswer stanza.now name sum.now.0 (S.state spool.old)) }
     ensures clear { OnOk result (IfSome (S.state spool.new).view.now (IsClear stanza.now name)) }
-    ensures bare { IfOk result (λ asked. asked ≡ Nothing → IsSome (S.state spool.old).view.now
-        → is_unsynced (S.state spool.old).view (receipt_name stanza.now name) ≡ false
-        → IsBare stanza.now name (S.state spool.new).view) }
+    ensures bare { IfOk result (IsBareIfNothing stanza.now name (S.state spool.old) (S.state spool.new)) }
     ensures known { IsSome (S.state spool.old).view.now → IsSome (S.state spool.new).view.now }
     ensures marks { GivesMarks stanza.now [] (S.state spool.old).view (S.state spool.new).view }
     ensures only { ChangesArchive stanza.now (S.state spool.old).view (S.state spool.new).view }
     ensures frame { CallsProperly (S.state spool.old) (S.state spool.new) }
-    ensures cause { IfErr result (HaltCause (LongCause stanza.now name (S.state spool.old).view.now)
-        (Only TheSpool (Rises (S.state spool.old).faults (S.state spool.new).faults))) }
+    ensures cause { IfErr result (MarkEnds stanza.now name (S.state spool.old) (S.state spool.new)) }
 {
     match ask(alloc, spool, stanza, &name, sum) {
         Ok(Asked::Done) => Ok(Asked::Done),

@@ -1,14 +1,9 @@
 // Queues a file for other processes.
-ghost use Rattle.std.specs.Prelude.{◌≡◌, ◌⊎◌, ◌≤◌, ℕ, map, is_ok, IfErr, IfSome, IsSomeAnd, OnOk, string_bytes};
+ghost use Rattle.std.specs.Prelude.{◌≤◌, ℕ, map, is_ok, IfErr, OnOk, string_bytes};
 ghost use Rattle.base_text.specs.Sum.{IsSum};
-ghost use Rattle.base_devices.specs.Cause.{Rises};
 ghost use Rattle.base_devices.specs.States.{CallsProperly};
-ghost use Rattle.base_model.specs.Log.{HasReceipt};
-ghost use Rattle.cmd_types.specs.Halts.{HaltCause};
-ghost use Rattle.cmd_types.specs.Risen.{none, rose_in};
-ghost use Rattle.archive_wait.specs.TurnsDone.{Counts, TurnsDone};
-ghost use Rattle.cmd_archive_push_wait.specs.Causes.{IsStarted, QueueCause};
-ghost use Rattle.cmd_archive_push_wait.specs.Leaving.{IsAcknowledged};
+ghost use Rattle.archive_wait.specs.TurnsDone.{Counts};
+ghost use Rattle.cmd_archive_push_wait.specs.Between.{MayStart, Skips, WentByStanza, AcknowledgesFile, QueueEnds};
 
 use crate::fault::QueueFault;
 use crate::mark_lookup::look;
@@ -37,42 +32,22 @@ pub fn queue_file<D: Disk, S: Disk, A: OtherProcesses<D, S>>(
 ) -> Result<(), Halt<QueueFault>>
     requires { IsSum sum.now.0 }
     // It is acknowledged only where a drain has stored a file of this name and sum.
-    ensures stored { OnOk result (IfSome (A.state processes.new).account (λ a. a.stanza ≡ stanza.now
-        → IsAcknowledged name sum.now.0 (A.state processes.old).account a (D.state repo.old).view
-        (D.state repo.new).view (S.state spool.old).view)) }
+    ensures stored { OnOk result (AcknowledgesFile A.state D.state S.state stanza.now name sum.now.0
+        processes.old processes.new repo.old repo.new spool.old) }
 
     // The steps of other processes are all that was done.
-    ensures went { IfSome (A.state processes.new).account (λ a. a.stanza ≡ stanza.now
-        → TurnsDone (is_ok result) (A.state processes.old).account a (D.state repo.old).view (D.state repo.new).view
-        (S.state spool.old).view (S.state spool.new).view) }
+    ensures went { WentByStanza A.state D.state S.state stanza.now (is_ok result)
+        processes.old processes.new repo.old repo.new spool.old spool.new }
     ensures repo_frame { CallsProperly (D.state repo.old) (D.state repo.new) }
     ensures spool_frame { CallsProperly (S.state spool.old) (S.state spool.new) }
     ensures few { (n : ℕ) × (n ≤ turns) × Counts n (A.state processes.old).turns (A.state processes.new).turns }
-    ensures started { ((A.state processes.new).started ≡ (A.state processes.old).started)
-        ⊎ IsStarted (map string_bytes arguments.now) (A.state processes.old) (A.state processes.new) }
+    ensures started { MayStart (map string_bytes arguments.now) (A.state processes.old) (A.state processes.new) }
     ensures later { (A.state processes.old).faults ≤ (A.state processes.new).faults }
-    ensures quiet { IsSomeAnd (S.state spool.old).view.now (λ f. HasReceipt stanza.now f name sum.now.0)
-        → (processes.new ≡ processes.old) × (repo.new ≡ repo.old) }
+    ensures quiet { Skips stanza.now name sum.now.0 (S.state spool.old) processes.old processes.new repo.old repo.new }
 
-    ensures cause { IfErr result (HaltCause
-        (QueueCause (record {
-          stanza = stanza.now;
-          name = name;
-          sum = sum.now.0;
-          arguments = map string_bytes arguments.now;
-          most = turns;
-          others = A.state processes.old;
-          new_others = A.state processes.new;
-          repo = (D.state repo.old).view;
-          new_repo = (D.state repo.new).view;
-          spool = (S.state spool.old).view;
-          new_spool = (S.state spool.new).view;
-        }))
-        (rose_in (record none {
-          repo = Rises (D.state repo.old).faults (D.state repo.new).faults;
-          spool = Rises (S.state spool.old).faults (S.state spool.new).faults;
-          others = Rises (A.state processes.old).faults (A.state processes.new).faults;
-        }))) }
+    ensures cause { IfErr result (QueueEnds A.state D.state S.state
+        stanza.now name sum.now.0 (map string_bytes arguments.now) turns
+        processes.old processes.new repo.old repo.new spool.old spool.new) }
 {
     match look(alloc, spool, stanza, name, sum) {
         Ok(Asked::NotYet) => {}

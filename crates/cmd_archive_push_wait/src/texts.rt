@@ -1,7 +1,6 @@
 // The status and the message of each refusal.
-ghost use Rattle.std.specs.Prelude.{◌≡◌, ◌++◌, codes, decimal, IfOk};
-ghost use Rattle.cmd_types.specs.StagesTexts.{shown};
-ghost use Rattle.cmd_archive_push_wait.specs.Texts.{queue_status, queue_message};
+ghost use Rattle.std.specs.Prelude.{◌≡◌, IfOk};
+ghost use Rattle.cmd_archive_push_wait.specs.Texts.{queue_status, queue_message, reported_text, late_text};
 
 use crate::fault::QueueFault;
 use base_text::NoMemory;
@@ -23,7 +22,7 @@ pub fn queue_status(fault: &QueueFault) -> u8
 // The message of a file that was refused before, with its status.
 fn reported_text(alloc: Global, code: u32, text: &str) -> Result<Vec<u8>, NoMemory>
     ensures { IfOk result
-        (λ line. line.items ≡ (codes "[" ++ (decimal code ++ codes "] ")) ++ (shown text.now ++ codes "")) }
+        (λ line. line.items ≡ reported_text code text.now) }
 {
     let prefix = format!(in alloc; "[{code}] ")?;
     quoted(alloc, &prefix, text, "")
@@ -32,7 +31,7 @@ fn reported_text(alloc: Global, code: u32, text: &str) -> Result<Vec<u8>, NoMemo
 // The message of a file that wasn't stored in this many steps of others.
 fn late_text(alloc: Global, name: &str, turns: u64) -> Result<Vec<u8>, NoMemory>
     ensures { IfOk result (λ line. line.items
-        ≡ codes "'" ++ (shown name.now ++ (codes "' not archived after " ++ (decimal turns ++ codes " turns")))) }
+        ≡ late_text name.now turns) }
 {
     let end = format!(in alloc; "' not archived after {turns} turns")?;
     quoted(alloc, "'", name, &end)

@@ -1,10 +1,11 @@
 -- The result of the push of a segment in a step of others, and how it is marked.
-use Rattle.std.specs.Prelude.{◌≡◌, ◌⊎◌, ◌≤◌, ◌++◌, ℕ, Bool, true, false, List, [], ◌∷◌, Some, Result, Ok, Err, IsSome, codes, string_bytes}
+use Rattle.std.specs.Prelude.{◌≡◌, ◌⊎◌, ◌≤◌, ◌++◌, ℕ, Bool, true, false, List, [], ◌∷◌, Some, Result, Ok, Err, IfSome, IsSome, codes, string_bytes}
 use Rattle.sha1.specs.Sha1.{sha1}
 use Rattle.base_text.specs.Sum.{sum_text}
 use Rattle.base_devices.specs.Content.{Content}
 use Rattle.base_devices.specs.Moments.{View, is_unsynced}
-use Rattle.base_devices.specs.Crash.{Leaves, Write}
+use Rattle.base_devices.specs.Crash.{Leaves, Write, Crash, NowChanges, FirstOf, AllOf}
+use Rattle.base_devices.specs.States.{DiskState}
 use Rattle.base_disk.specs.declared.fault.StoreFault.{StoreFault}
 use Rattle.base_disk.specs.declared.fault.StoreFault.TheVariants.{Disk as StoreDisk, TooLong, NoMemory as StoreNoMemory}
 use Rattle.base_model.specs.declared.wal.ArchiveId.{ArchiveId}
@@ -15,7 +16,10 @@ use Rattle.base_model.specs.Text.{Text, ◌⫽◌}
 use Rattle.base_model.specs.Names.{archive_folder, archive_name, receipt_name}
 use Rattle.base_model.specs.Represents.{IsWalName}
 use Rattle.base_model.specs.Steps.{Turn}
-use Rattle.base_model.specs.Log.{HasReceipt}
+use Rattle.base_model.specs.Log.{Done, HasReceipt, KeepsRepository}
+use Rattle.base_model.specs.Repository.{Repository}
+use Rattle.base_model.specs.Steady.{IsBegun}
+use Rattle.archive_lookup.specs.Stored.{Stores}
 use Rattle.archive_lookup.specs.declared.pushes.processes.TurnError.{TurnError}
 use Rattle.archive_lookup.specs.declared.pushes.processes.TurnError.TheVariants.{Repo, Spool, NoMemory}
 use Rattle.archive_lookup.specs.declared.stored.fault.ArchiveFault.{ArchiveFault}
@@ -24,7 +28,7 @@ use Rattle.archive_store.specs.declared.pushing.Pushed.{Pushed}
 use Rattle.memory_processes.specs.declared.pushing.PushResult.{PushResult}
 use Rattle.memory_processes.specs.declared.pushing.PushResult.TheVariants.{Nothing, Stored, Tried, Refused}
 use Rattle.memory_processes.specs.declared.pushing.MarkNames.{MarkNames}
-use Rattle.archive_lookup.specs.Turns.{HadReceipt}
+use Rattle.archive_lookup.specs.Turns.{HadReceipt, GoesByTurn, LeavesMarks}
 
 -- the result of a push that answered so: a file that is refused for its content is passed over
 abbrev pub went_of : Result Pushed ArchiveFault → PushResult
@@ -118,3 +122,44 @@ pub record GivesReceipt (stanza : Text) (segment : Segment) (bytes : Text) (went
         → old.moment ≤ m → m ≤ new.moment → Leaves new m f →
         (name : ArchiveName) (sum : Text) → IsWalName name → HasReceipt stanza f name sum
         → HadReceipt stanza old name sum ⊎ ((went ≡ Stored) × (name ≡ Whole segment) × (sum ≡ sha1 bytes))
+
+-- ---- between two states of a disk
+
+-- where the repository kept a log, all that a crash leaves represents what the log reaches
+abbrev pub BeginsLog : Text → DiskState → DiskState → Type 0
+BeginsLog stanza old new = (q : Repository) (log : List Done) → KeepsRepository stanza q log old.view
+    → IsSome old.view.now → IsBegun stanza q log new.view
+
+-- where the answer is yes, the repository stores the segment
+abbrev pub StoresIfThere : Text → ArchiveId → Segment → DiskState → Bool → Type 0
+StoresIfThere stanza id segment repo there = there ≡ true
+    → IfSome repo.view.now (λ f. (sum : Text) × Stores stanza id (Whole segment) f sum)
+
+-- the repository changes as by a step of others with this result, however that may end
+abbrev pub TurnsByPush : Text → ArchiveId → Segment → Text → PushResult → DiskState → DiskState → Type 0
+TurnsByPush stanza id segment bytes went old new = (ended : Bool) → MayEnd went ended
+    → GoesByTurn stanza (turn_of id segment bytes (was_tried went) ended) old.view new.view
+
+-- where the repository kept a log it has the segment, and so has all that a crash leaves
+abbrev pub HoldsFile : Text → ArchiveId → Segment → Text → DiskState → DiskState → Type 0
+HoldsFile stanza id segment bytes old new = (q : Repository) (log : List Done) → IsSome old.view.now
+    → KeepsRepository stanza q log old.view → HasFile stanza id segment (sha1 bytes) new.view
+
+-- the segment's receipt is put or not, in all that a crash leaves too, where its name wasn't unsynced
+abbrev pub MayPutReceipt : Text → Segment → Text → DiskState → DiskState → Type 0
+MayPutReceipt stanza segment bytes old new = is_unsynced old.view (receipt_name stanza (Whole segment)) ≡ false
+    → Crash (FirstOf ((receipt_name stanza (Whole segment), receipt_text bytes) ∷ [])) old.view new.view
+
+-- it is put
+abbrev pub PutsReceipt : Text → Segment → Text → DiskState → DiskState → Type 0
+PutsReceipt stanza segment bytes old new =
+    NowChanges (AllOf ((receipt_name stanza (Whole segment), receipt_text bytes) ∷ [])) old.view.now new.view.now
+
+-- at each moment each receipt is an earlier one, or the stored segment's
+abbrev pub GivesMark : Text → Segment → Text → PushResult → DiskState → DiskState → Type 0
+GivesMark stanza segment bytes went old new = GivesReceipt stanza segment bytes went old.view new.view
+
+-- the spool has the marks of a step of others with this result
+abbrev pub LeavesMark : Text → Segment → Text → PushResult → DiskState → DiskState → Type 0
+LeavesMark stanza segment bytes went old new =
+    LeavesMarks stanza (marks_of stanza segment bytes (was_tried went) true) old.view.now new.view.now

@@ -1,6 +1,6 @@
 // Other processes in memory.
 ghost use Rattle.std.specs.Prelude.{◌≡◌, ◌<◌, ◌∷◌, [], Some, length, map, string_bytes, IfOk};
-ghost use Rattle.memory_processes.specs.Others.{account_of};
+ghost use Rattle.memory_processes.specs.Others.{account_of, HasNoTurns, IsSameState};
 
 use crate::turn::OtherTurn;
 use archive_lookup::{OtherProcesses, TurnError};
@@ -49,12 +49,7 @@ fn copy_of(alloc: Global, arguments: &[String]) -> Result<Vec<String>, AllocErro
 impl MemProcesses {
     /// Those that push for this stanza, and have taken none of these steps.
     pub fn new(alloc: Global, stanza: String, list: Vec<OtherTurn>) -> Self
-        ensures state { ⟦<MemProcesses as OtherProcesses<NotThere, NotThere>>⟧.state result ≡ record {
-          account = Some (record { stanza = string_bytes stanza; turns = [] });
-          turns = 0;
-          started = Some [];
-          faults = 0;
-        } }
+        ensures state { HasNoTurns stanza (⟦<MemProcesses as OtherProcesses<NotThere, NotThere>>⟧.state result) }
         ensures list { result.list ≡ list }
     {
         MemProcesses {
@@ -73,8 +68,7 @@ impl MemProcesses {
 
     /// The same, except that the calls of `start` with these numbers fail, the first being 0.
     pub fn failing(mut self, fails: Vec<u64>) -> Self
-        ensures state { ⟦<MemProcesses as OtherProcesses<NotThere, NotThere>>⟧.state result
-            ≡ ⟦<MemProcesses as OtherProcesses<NotThere, NotThere>>⟧.state self }
+        ensures state { IsSameState (⟦<MemProcesses as OtherProcesses<NotThere, NotThere>>⟧.state) self result }
     {
         self.fails = fails;
         self

@@ -1,22 +1,14 @@
 // The push of a segment in a step, where the one before it is stored, and its mark in the spool.
-ghost use Rattle.std.specs.Prelude.{◌≡◌, ◌∷◌, [], Bool, true, false, None, List, IfOk, IfErr, IfSome, IsSome, OnOk, is_ok};
-ghost use Rattle.sha1.specs.Sha1.{sha1};
+ghost use Rattle.std.specs.Prelude.{◌≡◌, None, IfOk, IfErr, IsSome, OnOk, is_ok};
 ghost use Rattle.base_text.specs.Sum.{IsSum};
 ghost use Rattle.base_devices.specs.States.{CallsProperly, OnlyReads};
 ghost use Rattle.base_devices.specs.Cause.{Rises};
-ghost use Rattle.base_devices.specs.Moments.{is_unsynced};
-ghost use Rattle.base_devices.specs.Crash.{Crash, NowChanges, FirstOf, AllOf};
 ghost use Rattle.base_model.specs.declared.wal.ArchiveName.TheVariants.{Segment as Whole};
 ghost use Rattle.base_model.specs.Text.{Text};
 ghost use Rattle.base_model.specs.InfoFiles.{IsSegment};
-ghost use Rattle.base_model.specs.Names.{receipt_name};
-ghost use Rattle.base_model.specs.Repository.{Repository};
 ghost use Rattle.base_model.specs.Represents.{IsArchivePlace};
-ghost use Rattle.base_model.specs.Log.{Done, KeepsRepository};
-ghost use Rattle.base_model.specs.Steady.{IsBegun};
-ghost use Rattle.archive_lookup.specs.Stored.{Stores, ChangesArchive};
-ghost use Rattle.archive_lookup.specs.Turns.{GoesByTurn, LeavesMarks};
-ghost use Rattle.memory_processes.specs.Pushing.{went_of, spool_stop_of, was_tried, MayEnd, IfStored, IfDeviceError, IsRepoFault, IsSpoolFault, StopsBy, turn_of, receipt_text, marks_of, HasFile, AreMarkNamesOf, GivesReceipt};
+ghost use Rattle.archive_lookup.specs.Stored.{ChangesArchive};
+ghost use Rattle.memory_processes.specs.Pushing.{went_of, spool_stop_of, was_tried, MayEnd, IfStored, IfDeviceError, IsRepoFault, IsSpoolFault, StopsBy, AreMarkNamesOf, BeginsLog, StoresIfThere, TurnsByPush, HoldsFile, MayPutReceipt, PutsReceipt, GivesMark, LeavesMark};
 
 use archive_lookup::{ArchiveFault, Look, TurnError, file_names, look_for};
 use archive_store::{Pushed, push};
@@ -38,9 +30,7 @@ pub(crate) enum PushResult {
 }
 
 fn sync_directories<D: Disk>(alloc: Global, d: &mut D, stanza: &str) -> Result<(), TurnError>
-    ensures begun { OnOk result ((q : Repository) (log : List Done)
-        → KeepsRepository stanza.now q log (D.state d.old).view → IsSome (D.state d.old).view.now
-        → IsBegun stanza.now q log (D.state d.new).view) }
+    ensures begun { OnOk result (BeginsLog stanza.now (D.state d.old) (D.state d.new)) }
     ensures looks { OnlyReads (D.state d.old) (D.state d.new) }
     ensures cause { IfErr result (IsRepoFault (Rises (D.state d.old).faults (D.state d.new).faults)) }
 {
@@ -60,8 +50,7 @@ fn is_stored<D: Disk>(
     segment: &Segment,
 ) -> Result<bool, TurnError>
     ensures stored { IfOk result
-        (λ b. b ≡ true → IfSome (D.state d.old).view.now (λ f. (sum : Text)
-        × Stores stanza.now id.now (Whole segment.now) f sum)) }
+        (StoresIfThere stanza.now id.now segment.now (D.state d.old)) }
     ensures fits { OnOk result ((sum : Text) → IsSum sum → IsArchivePlace id.now (Whole segment.now) sum) }
     ensures looks { OnlyReads (D.state d.old) (D.state d.new) }
     ensures cause { IfErr result (IsRepoFault (Rises (D.state d.old).faults (D.state d.new).faults)) }
@@ -86,12 +75,9 @@ fn may_push<D: Disk>(
     id: &ArchiveId,
     before: &Segment,
 ) -> Result<bool, TurnError>
-    ensures begun { OnOk result ((q : Repository) (log : List Done)
-        → KeepsRepository stanza.now q log (D.state d.old).view → IsSome (D.state d.old).view.now
-        → IsBegun stanza.now q log (D.state d.new).view) }
+    ensures begun { OnOk result (BeginsLog stanza.now (D.state d.old) (D.state d.new)) }
     ensures stored { IfOk result
-        (λ b. b ≡ true → IfSome (D.state d.old).view.now (λ f. (sum : Text)
-        × Stores stanza.now id.now (Whole before.now) f sum)) }
+        (StoresIfThere stanza.now id.now before.now (D.state d.old)) }
     ensures fits { OnOk result ((sum : Text) → IsSum sum → IsArchivePlace id.now (Whole before.now) sum) }
     ensures looks { OnlyReads (D.state d.old) (D.state d.new) }
     ensures cause { IfErr result (IsRepoFault (Rises (D.state d.old).faults (D.state d.new).faults)) }
@@ -123,11 +109,8 @@ pub(crate) fn push_after<D: Disk>(
     system: u64,
     bytes: &[u8],
 ) -> PushResult
-    ensures turn { (ended : Bool) → MayEnd result ended → GoesByTurn stanza.now
-        (turn_of id segment bytes.now (was_tried result) ended) (D.state d.old).view (D.state d.new).view }
-    ensures stored { IfStored result ((q : Repository) (log : List Done) → IsSome (D.state d.old).view.now
-        → KeepsRepository stanza.now q log (D.state d.old).view
-        → HasFile stanza.now id segment (sha1 bytes.now) (D.state d.new).view) }
+    ensures turn { TurnsByPush stanza.now id segment bytes.now result (D.state d.old) (D.state d.new) }
+    ensures stored { IfStored result (HoldsFile stanza.now id segment bytes.now (D.state d.old) (D.state d.new)) }
     ensures only { ChangesArchive stanza.now (D.state d.old).view (D.state d.new).view }
     ensures frame { CallsProperly (D.state d.old) (D.state d.new) }
     ensures cause { IfDeviceError result (IsRepoFault (Rises (D.state d.old).faults (D.state d.new).faults)) }
@@ -189,14 +172,11 @@ fn mark<S: Disk>(
     segment: &Segment,
     bytes: &[u8],
 ) -> Result<(), TurnError>
-    ensures crash { is_unsynced (S.state spool.old).view (receipt_name stanza.now (Whole segment.now)) ≡ false
-        → Crash (FirstOf ((receipt_name stanza.now (Whole segment.now), receipt_text bytes.now) ∷ []))
-        (S.state spool.old).view (S.state spool.new).view }
+    ensures crash { MayPutReceipt stanza.now segment.now bytes.now (S.state spool.old) (S.state spool.new) }
     ensures unknown { (S.state spool.old).view.now ≡ None → (S.state spool.new).view.now ≡ None }
     ensures known { IsSome (S.state spool.old).view.now → IsSome (S.state spool.new).view.now }
     ensures whole { OnOk result
-        (NowChanges (AllOf ((receipt_name stanza.now (Whole segment.now), receipt_text bytes.now) ∷ []))
-        (S.state spool.old).view.now (S.state spool.new).view.now) }
+        (PutsReceipt stanza.now segment.now bytes.now (S.state spool.old) (S.state spool.new)) }
     ensures only { ChangesArchive stanza.now (S.state spool.old).view (S.state spool.new).view }
     ensures frame { CallsProperly (S.state spool.old) (S.state spool.new) }
     ensures cause { IfErr result (IsSpoolFault (Rises (S.state spool.old).faults (S.state spool.new).faults)) }
@@ -231,11 +211,9 @@ pub(crate) fn end_turn<S: Disk>(
     went: PushResult,
 ) -> Result<(), TurnError>
     ensures may_end { MayEnd went (is_ok result) }
-    ensures receipts { GivesReceipt stanza.now segment bytes.now went (S.state spool.old).view
-        (S.state spool.new).view }
+    ensures receipts { GivesMark stanza.now segment bytes.now went (S.state spool.old) (S.state spool.new) }
     ensures marks { OnOk result
-        (LeavesMarks stanza.now (marks_of stanza.now segment bytes.now (was_tried went) true)
-        (S.state spool.old).view.now (S.state spool.new).view.now) }
+        (LeavesMark stanza.now segment bytes.now went (S.state spool.old) (S.state spool.new)) }
     ensures fits { IsSegment segment }
     ensures known { IsSome (S.state spool.old).view.now → IsSome (S.state spool.new).view.now }
     ensures only { ChangesArchive stanza.now (S.state spool.old).view (S.state spool.new).view }

@@ -1,10 +1,8 @@
 // One step of other processes: a segment that is pushed, or nothing.
 ghost use Rattle.std.specs.Prelude.{◌≡◌, IsSome, IfErr, IsErrOf, OnOk, is_ok};
-ghost use Rattle.base_devices.specs.States.{CallsProperly};
-ghost use Rattle.base_devices.specs.Cause.{Rises};
+ghost use Rattle.base_devices.specs.States.{CallsProperly, DiskFailed};
 ghost use Rattle.archive_lookup.specs.Stored.{ChangesArchive};
-ghost use Rattle.archive_lookup.specs.Turns.{GoesByTurn, GivesReceipts, LeavesMarks};
-ghost use Rattle.memory_processes.specs.Others.{after_push, turned_by};
+ghost use Rattle.memory_processes.specs.Others.{after_push, turned_by, TurnGoes, TurnGives, TurnMarks};
 
 use crate::pushing::{end_turn, push_after};
 use archive_lookup::TurnError;
@@ -65,22 +63,18 @@ impl OtherTurn {
         spool: &mut S,
         stanza: &str,
     ) -> Came
-        ensures repository { GoesByTurn stanza.now (turned_by stanza.now (after_push self.now result)).turn
-            (D.state repo.old).view (D.state repo.new).view }
-        ensures receipts { GivesReceipts stanza.now (turned_by stanza.now (after_push self.now result)).turn
-            (D.state repo.old).view (D.state repo.new).view (S.state spool.old).view (S.state spool.new).view }
+        ensures repository { TurnGoes stanza.now self.now result (D.state repo.old) (D.state repo.new) }
+        ensures receipts { TurnGives D.state S.state stanza.now self.now result repo.old repo.new spool.old spool.new }
         ensures marks { OnOk result.done
-            (LeavesMarks stanza.now (turned_by stanza.now (after_push self.now result)).marks
-            (S.state spool.old).view.now (S.state spool.new).view.now) }
+            (TurnMarks S.state stanza.now self.now result spool.old spool.new) }
         ensures ended { (turned_by stanza.now (after_push self.now result)).turn.ended ≡ is_ok result.done }
         ensures repo_only { ChangesArchive stanza.now (D.state repo.old).view (D.state repo.new).view }
         ensures spool_only { ChangesArchive stanza.now (S.state spool.old).view (S.state spool.new).view }
         ensures spool_known { IsSome (S.state spool.old).view.now → IsSome (S.state spool.new).view.now }
         ensures repo_frame { CallsProperly (D.state repo.old) (D.state repo.new) }
         ensures spool_frame { CallsProperly (S.state spool.old) (S.state spool.new) }
-        ensures repo { IsErrOf result.done TurnError.Repo → Rises (D.state repo.old).faults (D.state repo.new).faults }
-        ensures spool { IsErrOf result.done TurnError.Spool
-            → Rises (S.state spool.old).faults (S.state spool.new).faults }
+        ensures repo { IsErrOf result.done TurnError.Repo → DiskFailed (D.state repo.old) (D.state repo.new) }
+        ensures spool { IsErrOf result.done TurnError.Spool → DiskFailed (S.state spool.old) (S.state spool.new) }
     {
         match &self.push {
             None => Came {

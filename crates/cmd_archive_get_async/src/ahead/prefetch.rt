@@ -1,21 +1,14 @@
 // Fetches segments from the repository into the spool.
-ghost use Rattle.std.specs.Prelude.{◌≡◌, [], Some, IfOk, IfErr, IfSome, OnOk, string_bytes};
-ghost use Rattle.base_devices.specs.Cause.{Rises};
+ghost use Rattle.std.specs.Prelude.{◌≡◌, [], IfOk, IfErr, OnOk, string_bytes};
 ghost use Rattle.base_devices.specs.Content.{SameBut};
 ghost use Rattle.base_devices.specs.States.{CallsProperly, OnlyReads, Works};
-ghost use Rattle.base_model.specs.declared.wal.ArchiveName.TheVariants.{Segment as OfWhole};
 ghost use Rattle.base_model.specs.ManifestText.{IsSegSize};
 ghost use Rattle.repo_names.specs.Next.{IsOfLog};
 ghost use Rattle.base_crash_lists.specs.Beside.{StaysBeside};
 ghost use Rattle.archive_spool.specs.Marks.{GivesMarks};
-ghost use Rattle.archive_lookup.specs.Stored.{Finds};
-ghost use Rattle.cmd_types.specs.declared.stages.object.Object.TheVariants.{Spool as TheSpool};
-ghost use Rattle.cmd_types.specs.Halts.{HaltCause, Never, Only};
-ghost use Rattle.cmd_types.specs.Risen.{none, rose_in};
-ghost use Rattle.cmd_archive_get.specs.Serving.{FileCause, PassCause};
 ghost use Rattle.cmd_archive_get_async.specs.Names.{ChangesAhead};
-ghost use Rattle.cmd_archive_get_async.specs.Fetching.{most_ahead, HoldsFetched, IsFetched, AheadCause};
-ghost use Rattle.cmd_archive_get_async.specs.Fetching.{PutsAhead, FetchesOne, FetchesNext, NextCause};
+ghost use Rattle.cmd_archive_get_async.specs.Fetching.{most_ahead, HoldsFetched};
+ghost use Rattle.cmd_archive_get_async.specs.Between.{SpoolEnds, FindsSegment, PutsCopy, PutStops, Fetched, OneEnds, NextComes, NextStops, FetchedAhead, AheadStops};
 
 use crate::ahead::fault::of_spool;
 use crate::ahead::names::{ahead_folder, ahead_name};
@@ -40,16 +33,11 @@ fn fetch_file<D: Disk, S: Disk>(
     sum: Sum,
     name: &str,
 ) -> Result<(), Halt<GetFault>>
-    ensures puts { OnOk result (PutsAhead (D.state repo.old).view.now (string_bytes from) sum.0 name.now
-        (S.state spool.old).view.now (S.state spool.new).view.now) }
+    ensures puts { PutsCopy D.state S.state (string_bytes from) sum.0 name.now result repo.old spool.old spool.new }
     ensures others { SameBut name.now (S.state spool.old).view.now (S.state spool.new).view.now }
     ensures works { Works (λ _ _. ⊥) (λ n. n ≡ name.now) (S.state spool.old) (S.state spool.new) }
     ensures looks { OnlyReads (D.state repo.old) (D.state repo.new) }
-    ensures cause { IfErr result (HaltCause (PassCause (D.state repo.old).view.now (string_bytes from) sum.0)
-        (rose_in (record none {
-          repo = Rises (D.state repo.old).faults (D.state repo.new).faults;
-          spool = Rises (S.state spool.old).faults (S.state spool.new).faults;
-        }))) }
+    ensures cause { PutStops D.state S.state (string_bytes from) sum.0 result repo.old repo.new spool.old spool.new }
 {
     match copy(alloc, repo, spool, from.as_str(), name) {
         Ok(Copied::Whole(found)) => {
@@ -79,19 +67,12 @@ fn fetch_stored<D: Disk, S: Disk>(
     segment: &Segment,
     stored: Stored,
 ) -> Result<(), Halt<GetFault>>
-    requires finds { IfSome (D.state repo.old).view.now
-        (λ f. Finds stanza.now id.now (OfWhole segment.now) f (Some stored)) }
-    ensures fetches { OnOk result (FetchesOne stanza.now id.now segment.now (D.state repo.old).view.now
-        (S.state spool.old).view.now (S.state spool.new).view.now) }
+    requires finds { FindsSegment stanza.now id.now segment.now stored (D.state repo.old) }
+    ensures fetches { OnOk result (Fetched D.state S.state stanza.now id.now segment.now repo.old spool.old spool.new) }
     ensures only { ChangesAhead stanza.now (S.state spool.old).view (S.state spool.new).view }
     ensures frame { CallsProperly (S.state spool.old) (S.state spool.new) }
     ensures looks { OnlyReads (D.state repo.old) (D.state repo.new) }
-    ensures cause { IfErr result (HaltCause
-        (FileCause stanza.now id.now (OfWhole segment.now) (D.state repo.old).view.now)
-        (rose_in (record none {
-          repo = Rises (D.state repo.old).faults (D.state repo.new).faults;
-          spool = Rises (S.state spool.old).faults (S.state spool.new).faults;
-        }))) }
+    ensures cause { OneEnds D.state S.state stanza.now id.now segment.now result repo.old repo.new spool.old spool.new }
 {
     // A segment has a sum, so this is never so.
     let Some(sum) = stored.sum else {
@@ -115,17 +96,12 @@ fn fetch_next<D: Disk, S: Disk>(
 ) -> Result<Option<Segment>, Halt<GetFault>>
     requires valid { IsSegSize size.0 }
     requires of_log { IsOfLog size.0 last.now }
-    ensures fetches { IfOk result (FetchesNext stanza.now id.now last.now size.0 (D.state repo.old).view.now
-        (S.state spool.old).view.now (S.state spool.new).view.now) }
+    ensures fetches { NextComes D.state S.state stanza.now id.now last.now size.0 result repo.old spool.old spool.new }
     ensures only { ChangesAhead stanza.now (S.state spool.old).view (S.state spool.new).view }
     ensures frame { CallsProperly (S.state spool.old) (S.state spool.new) }
     ensures looks { OnlyReads (D.state repo.old) (D.state repo.new) }
-    ensures cause { IfErr result (HaltCause
-        (NextCause stanza.now id.now last.now size.0 (D.state repo.old).view.now)
-        (rose_in (record none {
-          repo = Rises (D.state repo.old).faults (D.state repo.new).faults;
-          spool = Rises (S.state spool.old).faults (S.state spool.new).faults;
-        }))) }
+    ensures cause { IfErr result (NextStops D.state S.state stanza.now id.now last.now size.0
+        repo.old repo.new spool.old spool.new) }
 {
     let Some(segment) = next(last, size) else {
         return Ok(None);
@@ -147,8 +123,7 @@ fn clear<S: Disk>(alloc: Global, spool: &mut S, stanza: &str) -> Result<(), Halt
     ensures clear { OnOk result (HoldsFetched stanza.now [] (S.state spool.old).view.now (S.state spool.new).view.now) }
     ensures only { ChangesAhead stanza.now (S.state spool.old).view (S.state spool.new).view }
     ensures frame { CallsProperly (S.state spool.old) (S.state spool.new) }
-    ensures cause { IfErr result (HaltCause Never
-        (Only TheSpool (Rises (S.state spool.old).faults (S.state spool.new).faults))) }
+    ensures cause { IfErr result (SpoolEnds (S.state spool.old) (S.state spool.new)) }
 {
     let Ok(folder) = ahead_folder(alloc, stanza) else {
         return Err(Halt::NoMemory);
@@ -182,20 +157,16 @@ pub fn fetch_ahead<D: Disk, S: Disk>(
 ) -> Result<u64, Halt<GetFault>>
     requires valid { IsSegSize size.0 }
     requires of_log { IsOfLog size.0 after.now }
-    ensures fetched { IfOk result (IsFetched stanza.now id.now after.now size.0 (most_ahead size.0 queue)
-        (D.state repo.old).view.now (S.state spool.old).view.now (S.state spool.new).view.now) }
+    ensures fetched { IfOk result (FetchedAhead D.state S.state stanza.now id.now after.now size.0 queue
+        repo.old spool.old spool.new) }
     // Nothing else changes, and no receipt is given.
     ensures only { ChangesAhead stanza.now (S.state spool.old).view (S.state spool.new).view }
     ensures marks { GivesMarks stanza.now [] (S.state spool.old).view (S.state spool.new).view }
     ensures beside { StaysBeside stanza.now (S.state spool.old).view (S.state spool.new).view }
     ensures frame { CallsProperly (S.state spool.old) (S.state spool.new) }
     ensures looks { OnlyReads (D.state repo.old) (D.state repo.new) }
-    ensures cause { IfErr result (HaltCause
-        (AheadCause stanza.now id.now after.now size.0 (most_ahead size.0 queue) (D.state repo.old).view.now)
-        (rose_in (record none {
-          repo = Rises (D.state repo.old).faults (D.state repo.new).faults;
-          spool = Rises (S.state spool.old).faults (S.state spool.new).faults;
-        }))) }
+    ensures cause { IfErr result (AheadStops D.state S.state stanza.now id.now after.now size.0 queue
+        repo.old repo.new spool.old spool.new) }
 {
     if let Err(halt) = clear(alloc, spool, stanza) {
         return Err(halt);

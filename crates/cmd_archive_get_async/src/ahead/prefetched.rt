@@ -1,12 +1,9 @@
 // Whether a segment was fetched ahead.
-ghost use Rattle.std.specs.Prelude.{◌≡◌, ◌<◌, ℕ, true, false, None, All, IfOk, IfErr, IfSome, IsSome, get_or, length, option_map, string_bytes};
-ghost use Rattle.base_devices.specs.Cause.{Rises};
+ghost use Rattle.std.specs.Prelude.{◌≡◌, true, false, None, All, IfOk, IfErr, IfSome, option_map, string_bytes};
 ghost use Rattle.base_devices.specs.States.{OnlyReads};
-ghost use Rattle.base_devices.specs.declared.disk.Found.{Found};
-ghost use Rattle.cmd_types.specs.declared.stages.object.Object.TheVariants.{Spool as TheSpool};
-ghost use Rattle.cmd_types.specs.Halts.{HaltCause, Never, Only};
 ghost use Rattle.archive_lookup.specs.Listing.{sum_after};
 ghost use Rattle.cmd_archive_get_async.specs.Taking.{IsAhead};
+ghost use Rattle.cmd_archive_get_async.specs.Between.{SpoolEnds, HasSumAfter, LacksUnlessAhead};
 
 use crate::ahead::names::{ahead_folder, ahead_prefix};
 use base_devices::{Disk, Found};
@@ -25,8 +22,7 @@ fn sum_after(name: &[u8], prefix: &[u8]) -> Option<Sum>
 
 // Whether one of the names is that of a fetched segment whose names begin so.
 fn any_of(found: &[Found], prefix: &str) -> bool
-    ensures some { result ≡ true → (k : ℕ) × (k < length found.now)
-        × ((d : Found) → IsSome (sum_after prefix.now (string_bytes (get_or found.now k d).name))) }
+    ensures some { result ≡ true → HasSumAfter prefix.now found.now }
     ensures none { result ≡ false
         → All (λ x. sum_after prefix.now (string_bytes x.name) ≡ None) found.now }
 {
@@ -48,10 +44,9 @@ pub fn has_ahead<S: Disk>(
     ensures has { IfOk result (λ b. b ≡ true
         → IfSome (S.state spool.old).view.now (IsAhead stanza.now segment.now)) }
     ensures lacks { IfOk result
-        (λ b. b ≡ false → IfSome (S.state spool.old).view.now (λ f. ¬ IsAhead stanza.now segment.now f)) }
+        (LacksUnlessAhead stanza.now segment.now (S.state spool.old)) }
     ensures looks { OnlyReads (S.state spool.old) (S.state spool.new) }
-    ensures cause { IfErr result (HaltCause Never
-        (Only TheSpool (Rises (S.state spool.old).faults (S.state spool.new).faults))) }
+    ensures cause { IfErr result (SpoolEnds (S.state spool.old) (S.state spool.new)) }
 {
     let Ok(folder) = ahead_folder(alloc, stanza) else {
         return Err(Halt::NoMemory);

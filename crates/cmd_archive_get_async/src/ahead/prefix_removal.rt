@@ -1,12 +1,9 @@
 // Removes names that begin alike.
-ghost use Rattle.std.specs.List.{starts_with};
-ghost use Rattle.std.specs.Prelude.{◌≡◌, ◌++◌, ◌∷◌, true, None, All, IfErr, IsErrOf, IsTrue, OnOk, nat_eq, option_map, string_bytes};
+ghost use Rattle.std.specs.Prelude.{◌≡◌, ◌++◌, ◌∷◌, IfErr, IsErrOf, OnOk};
 ghost use Rattle.base_devices.specs.Cause.{Rises};
 ghost use Rattle.base_devices.specs.Content.{Name};
-ghost use Rattle.base_devices.specs.States.{Works};
-ghost use Rattle.base_disk.specs.Dropped.{Drops, IsAbsent};
 ghost use Rattle.base_disk.specs.Fault.{IsDeviceFault};
-ghost use Rattle.cmd_archive_get_async.specs.Names.{lacking};
+ghost use Rattle.cmd_archive_get_async.specs.Between.{AreGoneWith, DropsWith, RemovesWith, ClearsPrefix};
 
 use base_devices::{Disk, Found};
 use base_disk::StoreFault;
@@ -15,12 +12,9 @@ use std::alloc::Global;
 // Removes those of the names that begin so.
 fn remove_each<S: Disk>(spool: &mut S, found: &[Found], prefix: &str) -> Result<(), StoreFault>
     ensures gone { OnOk result
-        (All (λ x. starts_with nat_eq (string_bytes x.name) prefix.now ≡ true
-        → IsAbsent (S.state spool.new).view.now (string_bytes x.name)) found.now) }
-    ensures drops { Drops (λ n. starts_with nat_eq n prefix.now) (S.state spool.old).view.now
-        (S.state spool.new).view.now }
-    ensures works { Works (λ n v. IsTrue (starts_with nat_eq n prefix.now) × (v ≡ None)) (λ _. ⊥)
-        (S.state spool.old) (S.state spool.new) }
+        (AreGoneWith prefix.now found.now (S.state spool.new)) }
+    ensures drops { DropsWith prefix.now (S.state spool.old) (S.state spool.new) }
+    ensures works { RemovesWith prefix.now (S.state spool.old) (S.state spool.new) }
     ensures cause { IsErrOf result StoreFault.Disk → Rises (S.state spool.old).faults (S.state spool.new).faults }
     ensures refusals { IfErr result IsDeviceFault }
 {
@@ -41,11 +35,9 @@ pub(crate) fn remove_prefix<S: Disk>(
 ) -> Result<(), StoreFault>
     requires { (rest : Name) × (prefix.now ≡ folder.now ++ 47 ∷ rest) }
     ensures now { OnOk result
-        ((S.state spool.new).view.now ≡ option_map (lacking prefix.now) (S.state spool.old).view.now) }
-    ensures drops { Drops (λ n. starts_with nat_eq n prefix.now) (S.state spool.old).view.now
-        (S.state spool.new).view.now }
-    ensures works { Works (λ n v. IsTrue (starts_with nat_eq n prefix.now) × (v ≡ None)) (λ _. ⊥)
-        (S.state spool.old) (S.state spool.new) }
+        (ClearsPrefix prefix.now (S.state spool.old) (S.state spool.new)) }
+    ensures drops { DropsWith prefix.now (S.state spool.old) (S.state spool.new) }
+    ensures works { RemovesWith prefix.now (S.state spool.old) (S.state spool.new) }
     ensures cause { IsErrOf result StoreFault.Disk → Rises (S.state spool.old).faults (S.state spool.new).faults }
     ensures refusals { IfErr result IsDeviceFault }
 {

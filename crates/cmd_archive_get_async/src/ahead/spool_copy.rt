@@ -1,11 +1,8 @@
 // Copies a stored file into the spool, piece by piece.
 ghost use Rattle.std.specs.Prelude.{◌≡◌, IfOk, IfErr};
-ghost use Rattle.base_devices.specs.Cause.{Rises};
 ghost use Rattle.base_devices.specs.Content.{SameBut};
 ghost use Rattle.base_devices.specs.States.{OnlyReads, Works};
-ghost use Rattle.cmd_types.specs.Halts.{HaltCause, Never};
-ghost use Rattle.cmd_types.specs.Risen.{none, rose_in};
-ghost use Rattle.cmd_archive_get_async.specs.Fetching.{CopiedTo};
+ghost use Rattle.cmd_archive_get_async.specs.Between.{CopyStops, CopiedAhead};
 
 use crate::ahead::fault::of_spool;
 use base_devices::Disk;
@@ -41,15 +38,11 @@ pub(crate) fn copy<D: Disk, S: Disk>(
     from: &str,
     name: &str,
 ) -> Result<Copied, Halt<GetFault>>
-    ensures copied { IfOk result (λ copied. CopiedTo copied (D.state repo.old).view.now from.now name.now
-        (S.state spool.old).view.now (S.state spool.new).view.now) }
+    ensures copied { IfOk result (CopiedAhead D.state S.state from.now name.now repo.old spool.old spool.new) }
     ensures others { SameBut name.now (S.state spool.old).view.now (S.state spool.new).view.now }
     ensures works { Works (λ _ _. ⊥) (λ n. n ≡ name.now) (S.state spool.old) (S.state spool.new) }
     ensures looks { OnlyReads (D.state repo.old) (D.state repo.new) }
-    ensures cause { IfErr result (HaltCause Never (rose_in (record none {
-      repo = Rises (D.state repo.old).faults (D.state repo.new).faults;
-      spool = Rises (S.state spool.old).faults (S.state spool.new).faults;
-    }))) }
+    ensures cause { IfErr result (CopyStops D.state S.state repo.old repo.new spool.old spool.new) }
 {
     let mut staging = match start_stage(alloc, spool, name) {
         Ok(staging) => staging,

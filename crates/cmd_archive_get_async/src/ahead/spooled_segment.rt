@@ -1,16 +1,11 @@
 // Takes a fetched segment from the spool.
-ghost use Rattle.std.specs.List.{starts_with};
-ghost use Rattle.std.specs.Prelude.{◌≡◌, ◌≤◌, [], IfErr, OnOk, IsTrue, nat_eq, option_map, string_bytes};
-ghost use Rattle.base_devices.specs.Cause.{Rises};
+ghost use Rattle.std.specs.Prelude.{◌≡◌, ◌≤◌, [], IfErr, OnOk, IsTrue, string_bytes};
 ghost use Rattle.base_devices.specs.States.{CallsProperly, OnlyReads};
 ghost use Rattle.base_crash_lists.specs.Beside.{StaysBeside};
-ghost use Rattle.cmd_types.specs.declared.stages.object.Object.TheVariants.{Spool as TheSpool};
-ghost use Rattle.cmd_types.specs.Halts.{HaltCause, Never, Only};
 ghost use Rattle.archive_spool.specs.Marks.{GivesMarks};
-ghost use Rattle.cmd_archive_get.specs.Getting.{ChangesPath};
-ghost use Rattle.cmd_archive_get.specs.Serving.{AreStoredAt};
-ghost use Rattle.cmd_archive_get_async.specs.Names.{ahead_prefix, ahead_name, lacking, ChangesAhead, ChangesWithin};
-ghost use Rattle.cmd_archive_get_async.specs.Taking.{TakesAt, SpoolOrFolder};
+ghost use Rattle.cmd_archive_get_async.specs.Names.{ChangesAhead};
+ghost use Rattle.cmd_archive_get_async.specs.Between.{SpoolEnds, ClearsAhead, ChangesSegment, TakeEnds, TakesFrom, Draws, SetsAhead};
+ghost use Rattle.cmd_archive_get.specs.ByOrder.{SetsStored};
 
 use crate::ahead::fault::of_spool;
 use crate::ahead::names::{ahead_folder, ahead_name, ahead_prefix};
@@ -33,15 +28,12 @@ fn pass_whole<S: Disk, T: DataFolder>(
     sum: &Sum,
     path: &str,
 ) -> Result<bool, Halt<GetFault>>
-    ensures takes { TakesAt result (S.state spool.old).view.now name.now sum.now.0 path.now
-        (T.state tree.old).nodes (T.state tree.new).nodes }
-    ensures changes { ChangesPath path.now (AreStoredAt (S.state spool.old).view.now name.now sum.now.0)
-        (T.state tree.old).nodes (T.state tree.new).nodes }
+    ensures takes { TakesFrom S.state T.state result name.now sum.now.0 path.now spool.old tree.old tree.new }
+    ensures changes { SetsStored S.state T.state name.now sum.now.0 path.now spool.old tree.old tree.new }
     ensures looks { OnlyReads (S.state spool.old) (S.state spool.new) }
     ensures tree_place { (T.state tree.new).opened ≡ (T.state tree.old).opened }
     ensures tree_later { (T.state tree.old).faults ≤ (T.state tree.new).faults }
-    ensures cause { IfErr result (HaltCause Never
-        (SpoolOrFolder (S.state spool.old) (S.state spool.new) (T.state tree.old) (T.state tree.new))) }
+    ensures cause { IfErr result (TakeEnds S.state T.state spool.old spool.new tree.old tree.new) }
 {
     let bytes = match read_whole(alloc, spool, name, SEGMENT_LIMIT) {
         Ok(Some(bytes)) => bytes,
@@ -66,15 +58,12 @@ fn pass_ahead<S: Disk, T: DataFolder>(
     sum: &Sum,
     path: &str,
 ) -> Result<bool, Halt<GetFault>>
-    ensures takes { TakesAt result (S.state spool.old).view.now name.now sum.now.0 path.now
-        (T.state tree.old).nodes (T.state tree.new).nodes }
-    ensures changes { ChangesPath path.now (AreStoredAt (S.state spool.old).view.now name.now sum.now.0)
-        (T.state tree.old).nodes (T.state tree.new).nodes }
+    ensures takes { TakesFrom S.state T.state result name.now sum.now.0 path.now spool.old tree.old tree.new }
+    ensures changes { SetsStored S.state T.state name.now sum.now.0 path.now spool.old tree.old tree.new }
     ensures looks { OnlyReads (S.state spool.old) (S.state spool.new) }
     ensures tree_place { (T.state tree.new).opened ≡ (T.state tree.old).opened }
     ensures tree_later { (T.state tree.old).faults ≤ (T.state tree.new).faults }
-    ensures cause { IfErr result (HaltCause Never
-        (SpoolOrFolder (S.state spool.old) (S.state spool.new) (T.state tree.old) (T.state tree.new))) }
+    ensures cause { IfErr result (TakeEnds S.state T.state spool.old spool.new tree.old tree.new) }
 {
     let from = match String::from_str(alloc, name) {
         Ok(from) => from,
@@ -98,13 +87,10 @@ fn clear<S: Disk>(
     stanza: &str,
     segment: &Segment,
 ) -> Result<(), Halt<GetFault>>
-    ensures gone { OnOk result ((S.state spool.new).view.now
-        ≡ option_map (lacking (ahead_prefix stanza.now segment.now)) (S.state spool.old).view.now) }
-    ensures only { ChangesWithin (λ n. starts_with nat_eq n (ahead_prefix stanza.now segment.now))
-        (S.state spool.old).view (S.state spool.new).view }
+    ensures gone { OnOk result (ClearsAhead stanza.now segment.now (S.state spool.old) (S.state spool.new)) }
+    ensures only { ChangesSegment stanza.now segment.now (S.state spool.old) (S.state spool.new) }
     ensures frame { CallsProperly (S.state spool.old) (S.state spool.new) }
-    ensures cause { IfErr result (HaltCause Never
-        (Only TheSpool (Rises (S.state spool.old).faults (S.state spool.new).faults))) }
+    ensures cause { IfErr result (SpoolEnds (S.state spool.old) (S.state spool.new)) }
 {
     let Ok(folder) = ahead_folder(alloc, stanza) else {
         return Err(Halt::NoMemory);
@@ -130,23 +116,17 @@ pub fn take_ahead<S: Disk, T: DataFolder>(
     path: &str,
 ) -> Result<bool, Halt<GetFault>>
     // The bytes have the sum, by their digest; at false the spool has none that do.
-    ensures takes { TakesAt result (S.state spool.old).view.now (ahead_name stanza.now segment.now sum.now.0)
-        sum.now.0 path.now (T.state tree.old).nodes (T.state tree.new).nodes }
-    ensures changes { ChangesPath path.now
-        (AreStoredAt (S.state spool.old).view.now (ahead_name stanza.now segment.now sum.now.0) sum.now.0)
-        (T.state tree.old).nodes (T.state tree.new).nodes }
-    ensures gone { OnOk result ((S.state spool.new).view.now
-        ≡ option_map (lacking (ahead_prefix stanza.now segment.now)) (S.state spool.old).view.now) }
+    ensures takes { Draws S.state T.state stanza.now segment.now sum.now.0 path.now result spool.old tree.old tree.new }
+    ensures changes { SetsAhead S.state T.state stanza.now segment.now sum.now.0 path.now spool.old tree.old tree.new }
+    ensures gone { OnOk result (ClearsAhead stanza.now segment.now (S.state spool.old) (S.state spool.new)) }
     // Nothing of the spool changes but the names of the segment, and no receipt is given.
-    ensures only { ChangesWithin (λ n. starts_with nat_eq n (ahead_prefix stanza.now segment.now))
-        (S.state spool.old).view (S.state spool.new).view }
+    ensures only { ChangesSegment stanza.now segment.now (S.state spool.old) (S.state spool.new) }
     ensures marks { GivesMarks stanza.now [] (S.state spool.old).view (S.state spool.new).view }
     ensures beside { StaysBeside stanza.now (S.state spool.old).view (S.state spool.new).view }
     ensures frame { CallsProperly (S.state spool.old) (S.state spool.new) }
     ensures tree_place { (T.state tree.new).opened ≡ (T.state tree.old).opened }
     ensures tree_later { (T.state tree.old).faults ≤ (T.state tree.new).faults }
-    ensures cause { IfErr result (HaltCause Never
-        (SpoolOrFolder (S.state spool.old) (S.state spool.new) (T.state tree.old) (T.state tree.new))) }
+    ensures cause { IfErr result (TakeEnds S.state T.state spool.old spool.new tree.old tree.new) }
 {
     let Ok(name) = ahead_name(alloc, stanza, segment, sum) else {
         return Err(Halt::NoMemory);

@@ -1,6 +1,5 @@
 // archive-get:async: fetches what follows a segment.
 ghost use Rattle.std.specs.Prelude.{◌≡◌, [], IfOk, IfErr, IfSome, OnOk};
-ghost use Rattle.base_devices.specs.Cause.{Rises};
 ghost use Rattle.base_devices.specs.States.{CallsProperly, OnlyReads};
 ghost use Rattle.base_model.specs.InfoFiles.{IsArchiveInfo};
 ghost use Rattle.base_model.specs.Names.{segment_text};
@@ -8,11 +7,10 @@ ghost use Rattle.base_model.specs.Values.{archive_info_of};
 ghost use Rattle.base_crash_lists.specs.Beside.{StaysBeside};
 ghost use Rattle.cmd_types.specs.Current.{HasValue};
 ghost use Rattle.cmd_types.specs.Halts.{HaltCause};
-ghost use Rattle.cmd_types.specs.Risen.{none, rose_in};
 ghost use Rattle.archive_spool.specs.Marks.{GivesMarks};
-ghost use Rattle.cmd_archive_get_async.specs.Fetching.{most_ahead, AheadCause};
 ghost use Rattle.cmd_archive_get_async.specs.Names.{ChangesAhead};
-ghost use Rattle.cmd_archive_get_async.specs.FollowUp.{FollowUpCause, FetchedBy, FetchesAfter, WordCause};
+ghost use Rattle.cmd_archive_get_async.specs.FollowUp.{WordCause};
+ghost use Rattle.cmd_archive_get_async.specs.Between.{AheadStops, FetchedAfter, FetchedUp, FollowUpStops};
 
 use crate::ahead::fetch_ahead;
 use crate::command::following::size_of;
@@ -57,18 +55,13 @@ fn fetch_from<D: Disk, S: Disk>(
     stored: &Stored,
     queue: u64,
 ) -> Result<(), Halt<GetFault>>
-    ensures fetches { OnOk result (FetchesAfter stanza.now segment.now stored.now queue
-        (D.state repo.old).view.now (S.state spool.old).view.now (S.state spool.new).view.now) }
+    ensures fetches { OnOk result (FetchedAfter D.state S.state stanza.now segment.now stored.now queue
+        repo.old spool.old spool.new) }
     ensures looks { OnlyReads (D.state repo.old) (D.state repo.new) }
     ensures only { ChangesAhead stanza.now (S.state spool.old).view (S.state spool.new).view }
     ensures frame { CallsProperly (S.state spool.old) (S.state spool.new) }
-    ensures cause { IfErr result (HaltCause
-        (AheadCause stanza.now stored.now.id segment.now stored.now.size (most_ahead stored.now.size queue)
-        (D.state repo.old).view.now)
-        (rose_in (record none {
-          repo = Rises (D.state repo.old).faults (D.state repo.new).faults;
-          spool = Rises (S.state spool.old).faults (S.state spool.new).faults;
-        }))) }
+    ensures cause { IfErr result (AheadStops D.state S.state stanza.now stored.now.id segment.now stored.now.size queue
+        repo.old repo.new spool.old spool.new) }
 {
     let Some(size) = size_of(segment, stored.size) else {
         return Ok(());
@@ -93,19 +86,15 @@ pub fn fetch_after<D: Disk, S: Disk>(
 ) -> Result<Outcome, Halt<GetFault>>
     requires pair { IfSome (D.state repo.old).view.now (λ f. HasValue stanza.now f (archive_info_of info.now)) }
     requires valid { IsArchiveInfo (archive_info_of info.now) }
-    ensures fetched { IfOk result (FetchedBy stanza.now known.now order.now.word.now order.now.segment queue
-        (D.state repo.old).view.now (S.state spool.old).view.now (S.state spool.new).view.now) }
+    ensures fetched { IfOk result (FetchedUp D.state S.state stanza.now known.now order.now.word.now order.now.segment queue
+        repo.old spool.old spool.new) }
     ensures looks { OnlyReads (D.state repo.old) (D.state repo.new) }
     ensures marks { GivesMarks stanza.now [] (S.state spool.old).view (S.state spool.new).view }
     ensures beside { StaysBeside stanza.now (S.state spool.old).view (S.state spool.new).view }
     ensures only { ChangesAhead stanza.now (S.state spool.old).view (S.state spool.new).view }
     ensures frame { CallsProperly (S.state spool.old) (S.state spool.new) }
-    ensures cause { IfErr result (HaltCause
-        (FollowUpCause stanza.now known.now order.now.segment queue (D.state repo.old).view.now)
-        (rose_in (record none {
-          repo = Rises (D.state repo.old).faults (D.state repo.new).faults;
-          spool = Rises (S.state spool.old).faults (S.state spool.new).faults;
-        }))) }
+    ensures cause { IfErr result (FollowUpStops D.state S.state stanza.now known.now order.now.segment queue
+        repo.old repo.new spool.old spool.new) }
 {
     let name = ArchiveName::Segment(order.segment);
     let stored = match find_file(alloc, repo, stanza, known, info, &name) {

@@ -1,25 +1,19 @@
 // archive-get with archive-async: a file is served, through the spool where it is there.
-ghost use Rattle.std.specs.Prelude.{◌≡◌, ◌≤◌, [], map, Option, Some, IfOk, IfErr, IfSome, IsSome, string_bytes};
-ghost use Rattle.base_devices.specs.Cause.{Rises};
-ghost use Rattle.base_devices.specs.Content.{Content};
-ghost use Rattle.base_devices.specs.Crash.{Leaves};
+ghost use Rattle.std.specs.Prelude.{◌≡◌, ◌≤◌, [], map, Option, IfOk, IfErr, IfSome, IsSome, string_bytes};
 ghost use Rattle.base_devices.specs.States.{CallsProperly, OnlyReads};
 ghost use Rattle.base_model.specs.InfoFiles.{IsArchiveInfo};
-ghost use Rattle.base_model.specs.Now.{NowRepresents};
-ghost use Rattle.base_model.specs.Repository.{Stanza};
 ghost use Rattle.base_model.specs.Values.{archive_info_of};
-ghost use Rattle.base_model.specs.Walks.{IsSynced};
 ghost use Rattle.base_crash_lists.specs.Beside.{StaysBeside};
 ghost use Rattle.cmd_types.specs.Cluster.{FolderShows};
 ghost use Rattle.cmd_types.specs.Current.{HasValue};
-ghost use Rattle.cmd_types.specs.Halts.{HaltCause};
 ghost use Rattle.cmd_types.specs.Reached.{reached_by};
-ghost use Rattle.cmd_types.specs.Risen.{none, rose_in};
-ghost use Rattle.cmd_types.specs.DisksEffect.{OnNone, PairAlike};
+ghost use Rattle.cmd_types.specs.Risen.{none};
+ghost use Rattle.cmd_types.specs.DisksEffect.{OnNone};
 ghost use Rattle.archive_spool.specs.Marks.{GivesMarks};
-ghost use Rattle.cmd_archive_get.specs.Getting.{get_early, served_path, ChangesPath, GivenBy};
+ghost use Rattle.cmd_archive_get.specs.Getting.{get_early};
 ghost use Rattle.cmd_archive_get_async.specs.Following.{QuietOthers};
-ghost use Rattle.cmd_archive_get_async.specs.Getting.{FollowsUp, GetAheadCause, GotAhead, IsServedBySum, NoTwins};
+ghost use Rattle.cmd_archive_get_async.specs.Getting.{FollowsUp};
+ghost use Rattle.cmd_archive_get_async.specs.Between.{GotBySum, GotLasts, SetsBySum, GivesFile, GetAheadEnds};
 
 use crate::command::following::follow;
 use crate::command::served_segment::serve_ahead;
@@ -51,24 +45,12 @@ pub fn get_ahead<D: Disk, S: Disk, T: DataFolder, A: OtherProcesses<D, S>>(
     requires valid { IsArchiveInfo (archive_info_of info.now) }
     // The data folder has at Finished a file of the sum that the repository's name states, and is unchanged where the
     // repository doesn't have it.
-    ensures got { IfOk result (GotAhead stanza.now order.now.folder.now order.now.word.now order.now.path.now
-        (D.state repo.old).view.now (T.state tree.old).nodes (T.state tree.new).nodes) }
+    ensures got { IfOk result (GotBySum D.state T.state stanza.now order.now repo.old tree.old tree.new) }
     // So it is in all that a crash leaves, where that has the archive pair.
-    ensures lasts { IfOk result (λ o. IsSynced stanza.now (D.state repo.old).view
-        → IsSome (D.state repo.old).view.now → PairAlike stanza.now (D.state repo.old).view → (f : Content)
-        → Leaves (D.state repo.new).view (D.state repo.new).view.moment f
-        → GotAhead stanza.now order.now.folder.now order.now.word.now order.now.path.now
-        (Some f) (T.state tree.old).nodes (T.state tree.new).nodes o) }
+    ensures lasts { IfOk result (GotLasts D.state T.state stanza.now order.now repo.old repo.new tree.old tree.new) }
     // What is served is archived, where no two contents share a SHA-1.
-    ensures given { IfOk result (λ o. (s : Stanza) → IsSome (D.state repo.old).view.now
-        → IsSome (S.state spool.old).view.now → NowRepresents stanza.now (Some s) (D.state repo.old).view.now
-        → NoTwins (D.state repo.old).view.now (S.state spool.old).view.now
-        → GivenBy s order.now.folder.now order.now.word.now order.now.path.now
-        (T.state tree.old).nodes (T.state tree.new).nodes o) }
-    ensures changes { ChangesPath (served_path order.now.folder.now order.now.path.now)
-        (IsServedBySum stanza.now order.now.folder.now order.now.word.now order.now.path.now
-        (D.state repo.old).view.now (T.state tree.old).nodes)
-        (T.state tree.old).nodes (T.state tree.new).nodes }
+    ensures given { GivesFile D.state S.state T.state stanza.now order.now result repo.old spool.old tree.old tree.new }
+    ensures changes { SetsBySum D.state T.state stanza.now order.now repo.old tree.old tree.new }
     ensures none { OnNone (reached_by get_early result) ((T.state tree.new).nodes ≡ (T.state tree.old).nodes) }
     ensures looks { OnlyReads (D.state repo.old) (D.state repo.new) }
     ensures opened { (T.state tree.new).opened ≡ (T.state tree.old).opened }
@@ -82,14 +64,8 @@ pub fn get_ahead<D: Disk, S: Disk, T: DataFolder, A: OtherProcesses<D, S>>(
     ensures follows { IfOk result (FollowsUp stanza.now known.now order.now.name (D.state repo.old).view.now
         (map string_bytes arguments.now) (S.state spool.new).view.now (A.state processes.old) (A.state processes.new)) }
     ensures others { QuietOthers (map string_bytes arguments.now) (A.state processes.old) (A.state processes.new) }
-    ensures cause { IfErr result (HaltCause
-        (GetAheadCause stanza.now order.now.folder.now order.now.word.now order.now.path.now known.now order.now.name
-        (D.state repo.old).view.now (T.state tree.old).nodes (S.state spool.old).view.now)
-        (rose_in (record none {
-          repo = Rises (D.state repo.old).faults (D.state repo.new).faults;
-          spool = Rises (S.state spool.old).faults (S.state spool.new).faults;
-          tree = Rises (T.state tree.old).faults (T.state tree.new).faults;
-        }))) }
+    ensures cause { IfErr result (GetAheadEnds D.state S.state T.state stanza.now known.now order.now
+        repo.old repo.new spool.old spool.new tree.old tree.new) }
 {
     let ArchiveName::Segment(segment) = order.name else {
         return get_file(alloc, repo, tree, stanza, order, known, info);

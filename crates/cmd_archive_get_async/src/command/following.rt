@@ -1,10 +1,9 @@
 // Fetches ahead what follows a served segment.
 ghost use Rattle.std.specs.Prelude.{◌≡◌, ◌≤◌, map, IfOk, IfErr, IfSome, IfNone, string_bytes};
-ghost use Rattle.base_devices.specs.Cause.{Rises};
 ghost use Rattle.base_devices.specs.States.{OnlyReads};
-ghost use Rattle.cmd_types.specs.declared.stages.object.Object.TheVariants.{Spool as TheSpool};
-ghost use Rattle.cmd_types.specs.Halts.{HaltCause, Never, Only};
-ghost use Rattle.cmd_archive_get_async.specs.Following.{HasNoneAfter, HasSize, IsFollowing, Follows, Starts, QuietOthers};
+ghost use Rattle.cmd_types.specs.Halts.{HaltCause, Never};
+ghost use Rattle.cmd_archive_get_async.specs.Following.{HasNoneAfter, HasSize, IsFollowing, Follows, QuietOthers};
+ghost use Rattle.cmd_archive_get_async.specs.Between.{SpoolEnds, StartsSaying};
 
 use crate::ahead::has_ahead;
 use archive_lookup::OtherProcesses;
@@ -43,9 +42,7 @@ fn start<D: Disk, S: Disk, A: OtherProcesses<D, S>>(
     processes: &mut A,
     arguments: &[String],
 ) -> Result<String, Halt<GetFault>>
-    ensures starts { IfOk result (λ lines. Starts (map string_bytes arguments.now) (A.state processes.old) (A.state
-        processes.new)
-        (string_bytes lines)) }
+    ensures starts { IfOk result (StartsSaying A.state (map string_bytes arguments.now) processes.old processes.new) }
     ensures others { QuietOthers (map string_bytes arguments.now) (A.state processes.old) (A.state processes.new) }
     ensures cause { IfErr result (HaltCause Never (λ _. ⊥)) }
 {
@@ -73,8 +70,7 @@ pub(crate) fn follow<D: Disk, S: Disk, A: OtherProcesses<D, S>>(
         (S.state spool.old).view.now (A.state processes.old) (A.state processes.new) (string_bytes lines)) }
     ensures others { QuietOthers (map string_bytes arguments.now) (A.state processes.old) (A.state processes.new) }
     ensures looks { OnlyReads (S.state spool.old) (S.state spool.new) }
-    ensures cause { IfErr result (HaltCause Never
-        (Only TheSpool (Rises (S.state spool.old).faults (S.state spool.new).faults))) }
+    ensures cause { IfErr result (SpoolEnds (S.state spool.old) (S.state spool.new)) }
 {
     let Some(next) = next_of(segment, length) else {
         return Ok(String::new(alloc));

@@ -1,25 +1,16 @@
 // Serves a whole segment, from the spool or else from the repository.
-ghost use Rattle.std.specs.Prelude.{◌≡◌, ◌≤◌, [], Option, Some, None, IfOk, IfErr, IfSome, IsSome};
-ghost use Rattle.base_devices.specs.Cause.{Rises};
-ghost use Rattle.base_devices.specs.Content.{Content};
-ghost use Rattle.base_devices.specs.Crash.{Leaves};
+ghost use Rattle.std.specs.Prelude.{◌≡◌, ◌≤◌, [], Option, None, IfOk, IfErr, IfSome, IsSome};
 ghost use Rattle.base_devices.specs.States.{CallsProperly, OnlyReads};
 ghost use Rattle.base_model.specs.declared.wal.ArchiveName.TheVariants.{Segment as OfWhole};
 ghost use Rattle.base_model.specs.InfoFiles.{IsArchiveInfo};
-ghost use Rattle.base_model.specs.Now.{NowRepresents};
-ghost use Rattle.base_model.specs.Repository.{Stanza};
 ghost use Rattle.base_model.specs.Values.{archive_info_of};
-ghost use Rattle.base_model.specs.Walks.{IsSynced};
 ghost use Rattle.base_crash_lists.specs.Beside.{StaysBeside};
 ghost use Rattle.cmd_types.specs.Cluster.{FolderShows};
 ghost use Rattle.cmd_types.specs.Current.{HasValue};
-ghost use Rattle.cmd_types.specs.Halts.{HaltCause};
-ghost use Rattle.cmd_types.specs.Risen.{none, rose_in};
-ghost use Rattle.cmd_types.specs.DisksEffect.{PairAlike};
 ghost use Rattle.archive_spool.specs.Marks.{GivesMarks};
-ghost use Rattle.cmd_archive_get.specs.Getting.{served_path, ChangesPath, GetCause};
-ghost use Rattle.cmd_archive_get.specs.Looking.{IsKeptAs};
-ghost use Rattle.cmd_archive_get_async.specs.Getting.{GetAheadCause, GivenAs, IsServedBySum, NoTwins, ServedAs, StillFolder};
+ghost use Rattle.cmd_archive_get_async.specs.Getting.{StillFolder};
+ghost use Rattle.cmd_archive_get_async.specs.Between.{KeptAsFound, ServedBySum, ServedLasts, GivenFile, SetsBySum, GivesOne, GetAheadEnds};
+ghost use Rattle.cmd_archive_get.specs.ByOrder.{GetEnds};
 
 use crate::ahead::take_ahead;
 use archive_lookup::Stored;
@@ -44,33 +35,16 @@ fn serve_stored<D: Disk, T: DataFolder>(
     requires shows { IfSome (T.state tree.old).nodes (λ f. FolderShows f known.now) }
     requires pair { IfSome (D.state repo.old).view.now (λ f. HasValue stanza.now f (archive_info_of info.now)) }
     requires valid { IsArchiveInfo (archive_info_of info.now) }
-    ensures serves { IfOk result (ServedAs stanza.now order.now.folder.now order.now.word.now order.now.path.now
-        (D.state repo.old).view.now (T.state tree.old).nodes (T.state tree.new).nodes) }
+    ensures serves { IfOk result (ServedBySum D.state T.state stanza.now order.now repo.old tree.old tree.new) }
     ensures same { IfOk result (λ r. IfSome r (λ file. file ≡ stored)) }
-    ensures lasts { IfOk result (λ r. IsSynced stanza.now (D.state repo.old).view
-        → IsSome (D.state repo.old).view.now → PairAlike stanza.now (D.state repo.old).view → (f : Content)
-        → Leaves (D.state repo.new).view (D.state repo.new).view.moment f
-        → ServedAs stanza.now order.now.folder.now order.now.word.now order.now.path.now
-        (Some f) (T.state tree.old).nodes (T.state tree.new).nodes r) }
-    ensures given { IfOk result (λ r. (s : Stanza) → IsSome (D.state repo.old).view.now
-        → NowRepresents stanza.now (Some s) (D.state repo.old).view.now
-        → GivenAs s order.now.folder.now order.now.word.now order.now.path.now
-        (T.state tree.old).nodes (T.state tree.new).nodes r) }
-    ensures changes { ChangesPath (served_path order.now.folder.now order.now.path.now)
-        (IsServedBySum stanza.now order.now.folder.now order.now.word.now order.now.path.now
-        (D.state repo.old).view.now (T.state tree.old).nodes)
-        (T.state tree.old).nodes (T.state tree.new).nodes }
+    ensures lasts { IfOk result (ServedLasts D.state T.state stanza.now order.now repo.old repo.new tree.old tree.new) }
+    ensures given { IfOk result (GivenFile D.state T.state stanza.now order.now repo.old tree.old tree.new) }
+    ensures changes { SetsBySum D.state T.state stanza.now order.now repo.old tree.old tree.new }
     ensures still { StillFolder result (T.state tree.old).nodes (T.state tree.new).nodes }
     ensures looks { OnlyReads (D.state repo.old) (D.state repo.new) }
     ensures opened { (T.state tree.new).opened ≡ (T.state tree.old).opened }
     ensures later { (T.state tree.old).faults ≤ (T.state tree.new).faults }
-    ensures cause { IfErr result (HaltCause
-        (GetCause stanza.now order.now.folder.now order.now.word.now order.now.path.now
-        (D.state repo.old).view.now (T.state tree.old).nodes)
-        (rose_in (record none {
-          repo = Rises (D.state repo.old).faults (D.state repo.new).faults;
-          tree = Rises (T.state tree.old).faults (T.state tree.new).faults;
-        }))) }
+    ensures cause { IfErr result (GetEnds D.state T.state stanza.now order.now repo.old repo.new tree.old tree.new) }
 {
     match get_file(alloc, repo, tree, stanza, order, known, info) {
         Ok(Outcome::Finished { .. }) => Ok(Some(stored)),
@@ -96,24 +70,11 @@ pub(crate) fn serve_ahead<D: Disk, S: Disk, T: DataFolder>(
     requires shows { IfSome (T.state tree.old).nodes (λ f. FolderShows f known.now) }
     requires pair { IfSome (D.state repo.old).view.now (λ f. HasValue stanza.now f (archive_info_of info.now)) }
     requires valid { IsArchiveInfo (archive_info_of info.now) }
-    ensures serves { IfOk result (ServedAs stanza.now order.now.folder.now order.now.word.now order.now.path.now
-        (D.state repo.old).view.now (T.state tree.old).nodes (T.state tree.new).nodes) }
-    ensures kept { IfOk result (λ r. IfSome r (λ file. IsKeptAs stanza.now known.now order.now.name file
-        (D.state repo.old).view.now)) }
-    ensures lasts { IfOk result (λ r. IsSynced stanza.now (D.state repo.old).view
-        → IsSome (D.state repo.old).view.now → PairAlike stanza.now (D.state repo.old).view → (f : Content)
-        → Leaves (D.state repo.new).view (D.state repo.new).view.moment f
-        → ServedAs stanza.now order.now.folder.now order.now.word.now order.now.path.now
-        (Some f) (T.state tree.old).nodes (T.state tree.new).nodes r) }
-    ensures given { IfOk result (λ r. (s : Stanza) → IsSome (D.state repo.old).view.now
-        → IsSome (S.state spool.old).view.now → NowRepresents stanza.now (Some s) (D.state repo.old).view.now
-        → NoTwins (D.state repo.old).view.now (S.state spool.old).view.now
-        → GivenAs s order.now.folder.now order.now.word.now order.now.path.now
-        (T.state tree.old).nodes (T.state tree.new).nodes r) }
-    ensures changes { ChangesPath (served_path order.now.folder.now order.now.path.now)
-        (IsServedBySum stanza.now order.now.folder.now order.now.word.now order.now.path.now
-        (D.state repo.old).view.now (T.state tree.old).nodes)
-        (T.state tree.old).nodes (T.state tree.new).nodes }
+    ensures serves { IfOk result (ServedBySum D.state T.state stanza.now order.now repo.old tree.old tree.new) }
+    ensures kept { IfOk result (KeptAsFound stanza.now known.now order.now.name (D.state repo.old)) }
+    ensures lasts { IfOk result (ServedLasts D.state T.state stanza.now order.now repo.old repo.new tree.old tree.new) }
+    ensures given { GivesOne D.state S.state T.state stanza.now order.now result repo.old spool.old tree.old tree.new }
+    ensures changes { SetsBySum D.state T.state stanza.now order.now repo.old tree.old tree.new }
     ensures still { StillFolder result (T.state tree.old).nodes (T.state tree.new).nodes }
     ensures looks { OnlyReads (D.state repo.old) (D.state repo.new) }
     ensures opened { (T.state tree.new).opened ≡ (T.state tree.old).opened }
@@ -122,14 +83,8 @@ pub(crate) fn serve_ahead<D: Disk, S: Disk, T: DataFolder>(
     ensures beside { StaysBeside stanza.now (S.state spool.old).view (S.state spool.new).view }
     ensures known { IsSome (S.state spool.old).view.now → IsSome (S.state spool.new).view.now }
     ensures frame { CallsProperly (S.state spool.old) (S.state spool.new) }
-    ensures cause { IfErr result (HaltCause
-        (GetAheadCause stanza.now order.now.folder.now order.now.word.now order.now.path.now known.now order.now.name
-        (D.state repo.old).view.now (T.state tree.old).nodes (S.state spool.old).view.now)
-        (rose_in (record none {
-          repo = Rises (D.state repo.old).faults (D.state repo.new).faults;
-          spool = Rises (S.state spool.old).faults (S.state spool.new).faults;
-          tree = Rises (T.state tree.old).faults (T.state tree.new).faults;
-        }))) }
+    ensures cause { IfErr result (GetAheadEnds D.state S.state T.state stanza.now known.now order.now
+        repo.old repo.new spool.old spool.new tree.old tree.new) }
 {
     let stored = match find_file(alloc, repo, stanza, known, info, &order.name) {
         Ok(Some(stored)) => stored,

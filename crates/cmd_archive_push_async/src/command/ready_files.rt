@@ -1,23 +1,15 @@
 // Stores the files that are ready under the id of the current cluster.
-ghost use Rattle.std.specs.Prelude.{◌≡◌, ◌∷◌, [], Some, IfOk, IfErr, IfSome, OnOk, is_ok};
-ghost use Rattle.base_devices.specs.Cause.{Rises};
+ghost use Rattle.std.specs.Prelude.{◌≡◌, ◌∷◌, [], IfErr, IfSome, OnOk};
 ghost use Rattle.base_devices.specs.States.{CallsProperly, OnlyReadsFolder};
-ghost use Rattle.base_devices.specs.DataFolder.{Nodes};
 ghost use Rattle.base_model.specs.InfoFiles.{IsArchiveInfo};
 ghost use Rattle.base_model.specs.Values.{archive_info_of};
 ghost use Rattle.base_crash_lists.specs.Beside.{StaysBeside};
-ghost use Rattle.cmd_types.specs.declared.stages.plan.SyncScope.TheVariants.{Whole};
 ghost use Rattle.cmd_types.specs.Cluster.{FolderShows};
 ghost use Rattle.cmd_types.specs.Current.{HasValue};
-ghost use Rattle.cmd_types.specs.Halts.{HaltCause};
 ghost use Rattle.cmd_types.specs.Plans.{archive_lock};
-ghost use Rattle.cmd_types.specs.Reached.{OnFinished, reached_by};
-ghost use Rattle.cmd_types.specs.Risen.{rose_in};
-ghost use Rattle.cmd_types.specs.DisksEffect.{On, one, DisksEffect};
-ghost use Rattle.cmd_archive_push_async.specs.Ends.{three};
 ghost use Rattle.cmd_archive_push_async.specs.Paired.{KeepsPair};
 ghost use Rattle.cmd_archive_push_async.specs.Whole.{HasMarksOf};
-ghost use Rattle.cmd_archive_push_async.specs.Drained.{IsDrainOf, IsDrained, DrainCause, drain_early};
+ghost use Rattle.cmd_archive_push_async.specs.Between.{RunsDrain, Pushes, DrainEnds};
 
 use crate::files::drain;
 use base_devices::{DataFolder, Disk, Locks};
@@ -44,13 +36,8 @@ pub fn drain_stanza<D: Disk, S: Disk, T: DataFolder, K: Locks>(
     requires pair { IfSome (D.state repo.old).view.now (λ f. HasValue stanza.now f (archive_info_of info.now)) }
     requires valid { IsArchiveInfo (archive_info_of info.now) }
     // It is one command of the log: all of it, or a part, or nothing where it is refused.
-    ensures runs { (f : Nodes) → (T.state tree.old).nodes ≡ Some f
-        → On (one (IsDrainOf f (is_ok result))) (λ command. DisksEffect Whole stanza.now command
-        (reached_by drain_early result) (D.state repo.old).view (S.state spool.old).view (D.state repo.new).view
-        (S.state spool.new).view) }
-    ensures drained { IfOk result (λ o. OnFinished o (λ lines. (f : Nodes) → (T.state tree.old).nodes ≡ Some f
-        → IsDrained stanza.now f known.now (D.state repo.old).view.now (S.state spool.old).view.now
-        (S.state spool.new).view.now lines)) }
+    ensures runs { RunsDrain D.state S.state T.state stanza.now result repo.old repo.new spool.old spool.new tree.old }
+    ensures drained { Pushes D.state S.state T.state stanza.now known.now result repo.old spool.old spool.new tree.old }
     // At Ok a crash leaves the marks unchanged.
     ensures lasts { OnOk result (HasMarksOf stanza.now (S.state spool.old).view (S.state spool.new).view) }
     // Members of the archive pair that have the same bytes stay so, in all that a crash leaves too.
@@ -60,11 +47,8 @@ pub fn drain_stanza<D: Disk, S: Disk, T: DataFolder, K: Locks>(
     ensures repo_frame { CallsProperly (D.state repo.old) (D.state repo.new) }
     ensures spool_frame { CallsProperly (S.state spool.old) (S.state spool.new) }
     ensures looks { OnlyReadsFolder (T.state tree.old) (T.state tree.new) }
-    ensures cause { IfErr result (HaltCause
-        (DrainCause stanza.now (D.state repo.old).view.now (D.state repo.new).view.now (T.state tree.old).nodes)
-        (rose_in (three (Rises (D.state repo.old).faults (D.state repo.new).faults)
-        (Rises (S.state spool.old).faults (S.state spool.new).faults)
-        (Rises (T.state tree.old).faults (T.state tree.new).faults)))) }
+    ensures cause { IfErr result (DrainEnds D.state S.state T.state stanza.now repo.old repo.new spool.old spool.new
+        tree.old tree.new) }
 {
     let id = match id_of(info, known) {
         Ok(id) => id,

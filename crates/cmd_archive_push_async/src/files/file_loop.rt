@@ -1,15 +1,9 @@
 // Stores files one after the other.
-ghost use Rattle.std.specs.Prelude.{◌≡◌, ◌+◌, ◌<◌, ◌^◌, Some, IfErr};
-ghost use Rattle.base_devices.specs.Cause.{Rises};
+ghost use Rattle.std.specs.Prelude.{◌≡◌, ◌+◌, ◌<◌, ◌^◌, IfErr};
 ghost use Rattle.base_devices.specs.States.{CallsProperly, OnlyReadsFolder};
-ghost use Rattle.base_devices.specs.DataFolder.{Nodes};
 ghost use Rattle.archive_lookup.specs.Stored.{ChangesArchive};
-ghost use Rattle.cmd_types.specs.Halts.{HaltCause};
-ghost use Rattle.cmd_types.specs.Risen.{rose_in};
-ghost use Rattle.cmd_archive_push_async.specs.Draining.{Drains, end_of};
 ghost use Rattle.cmd_archive_push_async.specs.Paired.{KeepsPair};
-ghost use Rattle.cmd_archive_push_async.specs.Ends.{EndCauseOf, three};
-ghost use Rattle.cmd_archive_push_async.specs.Whole.{DrainsNamed};
+ghost use Rattle.cmd_archive_push_async.specs.Between.{DrainsFiles, DrainsCleared, EndsAmong};
 
 use crate::files::marked_store::store_file;
 use crate::files::push_marks::{Drained, of_spool};
@@ -46,20 +40,16 @@ pub(crate) fn drain_files<D: Disk, S: Disk, T: DataFolder>(
     system: u64,
     names: &[ArchiveName],
 ) -> Result<Drained, Halt<PushFault>>
-    ensures drains { (f : Nodes) → (T.state tree.old).nodes ≡ Some f → Drains stanza.now id system f names.now
-        (end_of result) (D.state repo.old).view (D.state repo.new).view (S.state spool.old).view
-        (S.state spool.new).view }
+    ensures drains { DrainsFiles D.state S.state T.state stanza.now id system names.now result
+        repo.old repo.new spool.old spool.new tree.old }
     ensures pair { KeepsPair stanza.now (D.state repo.old).view (D.state repo.new).view }
     ensures repo_only { ChangesArchive stanza.now (D.state repo.old).view (D.state repo.new).view }
     ensures spool_only { ChangesArchive stanza.now (S.state spool.old).view (S.state spool.new).view }
     ensures repo_frame { CallsProperly (D.state repo.old) (D.state repo.new) }
     ensures spool_frame { CallsProperly (S.state spool.old) (S.state spool.new) }
     ensures looks { OnlyReadsFolder (T.state tree.old) (T.state tree.new) }
-    ensures cause { IfErr result (HaltCause
-        (EndCauseOf stanza.now id (T.state tree.old).nodes (D.state repo.new).view.now names.now)
-        (rose_in (three (Rises (D.state repo.old).faults (D.state repo.new).faults)
-        (Rises (S.state spool.old).faults (S.state spool.new).faults)
-        (Rises (T.state tree.old).faults (T.state tree.new).faults)))) }
+    ensures cause { IfErr result (EndsAmong D.state S.state T.state stanza.now id names.now repo.old repo.new spool.old spool.new
+        tree.old tree.new) }
 {
     let mut drained = Drained {
         pushed: 0,
@@ -87,21 +77,16 @@ pub(crate) fn drain_named<D: Disk, S: Disk, T: DataFolder>(
     system: u64,
     names: &[ArchiveName],
 ) -> Result<Drained, Halt<PushFault>>
-    ensures drains { (f : Nodes) → (T.state tree.old).nodes ≡ Some f
-        → DrainsNamed stanza.now id system f names.now
-        (end_of result) (D.state repo.old).view (D.state repo.new).view (S.state spool.old).view
-        (S.state spool.new).view }
+    ensures drains { DrainsCleared D.state S.state T.state stanza.now id system names.now result
+        repo.old repo.new spool.old spool.new tree.old }
     ensures pair { KeepsPair stanza.now (D.state repo.old).view (D.state repo.new).view }
     ensures repo_only { ChangesArchive stanza.now (D.state repo.old).view (D.state repo.new).view }
     ensures spool_only { ChangesArchive stanza.now (S.state spool.old).view (S.state spool.new).view }
     ensures repo_frame { CallsProperly (D.state repo.old) (D.state repo.new) }
     ensures spool_frame { CallsProperly (S.state spool.old) (S.state spool.new) }
     ensures looks { OnlyReadsFolder (T.state tree.old) (T.state tree.new) }
-    ensures cause { IfErr result (HaltCause
-        (EndCauseOf stanza.now id (T.state tree.old).nodes (D.state repo.new).view.now names.now)
-        (rose_in (three (Rises (D.state repo.old).faults (D.state repo.new).faults)
-        (Rises (S.state spool.old).faults (S.state spool.new).faults)
-        (Rises (T.state tree.old).faults (T.state tree.new).faults)))) }
+    ensures cause { IfErr result (EndsAmong D.state S.state T.state stanza.now id names.now repo.old repo.new spool.old spool.new
+        tree.old tree.new) }
 {
     match clear_marks(alloc, spool, stanza, names) {
         Ok(()) => drain_files(alloc, repo, spool, tree, stanza, id, system, names),

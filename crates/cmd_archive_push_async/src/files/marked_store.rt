@@ -1,17 +1,13 @@
 // One file of the log is stored, and marked in the spool.
-ghost use Rattle.std.specs.Prelude.{◌≡◌, ◌≤◌, ◌+◌, ◌∷◌, [], Some, IfOk, IfErr};
-ghost use Rattle.base_devices.specs.Cause.{Rises};
+ghost use Rattle.std.specs.Prelude.{◌≡◌, ◌≤◌, ◌+◌, IfOk, IfErr};
 ghost use Rattle.base_devices.specs.States.{CallsProperly, OnlyReadsFolder};
-ghost use Rattle.base_devices.specs.DataFolder.{Nodes};
 ghost use Rattle.base_model.specs.Names.{wal_text};
 ghost use Rattle.archive_lookup.specs.Stored.{ChangesArchive};
-ghost use Rattle.cmd_types.specs.Halts.{HaltCause};
-ghost use Rattle.cmd_types.specs.Risen.{rose_in};
 ghost use Rattle.cmd_archive_push.specs.LogFile.{IsOpened};
 ghost use Rattle.cmd_archive_push.specs.WalPath.{wal_path};
-ghost use Rattle.cmd_archive_push_async.specs.Draining.{Drains, end_of};
 ghost use Rattle.cmd_archive_push_async.specs.Paired.{KeepsPair};
-ghost use Rattle.cmd_archive_push_async.specs.Ends.{EndCause, SkipsMissing, is_missing, three};
+ghost use Rattle.cmd_archive_push_async.specs.Ends.{SkipsMissing, is_missing};
+ghost use Rattle.cmd_archive_push_async.specs.Between.{DrainsOne, EndsAtFile};
 
 use crate::files::push_marks::{Drained, mark_tried};
 use crate::files::pushing::push_log;
@@ -69,9 +65,8 @@ fn store_log<D: Disk, S: Disk, T: DataFolder>(
     log: &LogFile,
 ) -> Result<Drained, Halt<PushFault>>
     requires opened { IsOpened (T.state tree.old).nodes (wal_path (wal_text name)) log.now }
-    ensures drains { (f : Nodes) → (T.state tree.old).nodes ≡ Some f → Drains stanza.now id system f (name ∷ [])
-        (end_of result) (D.state repo.old).view (D.state repo.new).view (S.state spool.old).view
-        (S.state spool.new).view }
+    ensures drains { DrainsOne D.state S.state T.state stanza.now id system name result
+        repo.old repo.new spool.old spool.new tree.old }
     ensures few { IfOk result (λ drained. drained.pushed + drained.refused ≤ 1) }
     ensures pair { KeepsPair stanza.now (D.state repo.old).view (D.state repo.new).view }
     ensures repo_only { ChangesArchive stanza.now (D.state repo.old).view (D.state repo.new).view }
@@ -79,11 +74,8 @@ fn store_log<D: Disk, S: Disk, T: DataFolder>(
     ensures repo_frame { CallsProperly (D.state repo.old) (D.state repo.new) }
     ensures spool_frame { CallsProperly (S.state spool.old) (S.state spool.new) }
     ensures looks { OnlyReadsFolder (T.state tree.old) (T.state tree.new) }
-    ensures cause { IfErr result (HaltCause
-        (EndCause stanza.now id (T.state tree.old).nodes (D.state repo.new).view.now name)
-        (rose_in (three (Rises (D.state repo.old).faults (D.state repo.new).faults)
-        (Rises (S.state spool.old).faults (S.state spool.new).faults)
-        (Rises (T.state tree.old).faults (T.state tree.new).faults)))) }
+    ensures cause { IfErr result (EndsAtFile D.state S.state T.state stanza.now id name repo.old repo.new spool.old spool.new
+        tree.old tree.new) }
 {
     match push_log(alloc, repo, tree, stanza, id, name, system, log) {
         Ok(tried) => mark_tried(alloc, spool, stanza, name, &tried),
@@ -102,9 +94,8 @@ pub(crate) fn store_file<D: Disk, S: Disk, T: DataFolder>(
     name: ArchiveName,
     system: u64,
 ) -> Result<Drained, Halt<PushFault>>
-    ensures drains { (f : Nodes) → (T.state tree.old).nodes ≡ Some f → Drains stanza.now id system f (name ∷ [])
-        (end_of result) (D.state repo.old).view (D.state repo.new).view (S.state spool.old).view
-        (S.state spool.new).view }
+    ensures drains { DrainsOne D.state S.state T.state stanza.now id system name result
+        repo.old repo.new spool.old spool.new tree.old }
     ensures few { IfOk result (λ drained. drained.pushed + drained.refused ≤ 1) }
     ensures pair { KeepsPair stanza.now (D.state repo.old).view (D.state repo.new).view }
     ensures repo_only { ChangesArchive stanza.now (D.state repo.old).view (D.state repo.new).view }
@@ -112,11 +103,8 @@ pub(crate) fn store_file<D: Disk, S: Disk, T: DataFolder>(
     ensures repo_frame { CallsProperly (D.state repo.old) (D.state repo.new) }
     ensures spool_frame { CallsProperly (S.state spool.old) (S.state spool.new) }
     ensures looks { OnlyReadsFolder (T.state tree.old) (T.state tree.new) }
-    ensures cause { IfErr result (HaltCause
-        (EndCause stanza.now id (T.state tree.old).nodes (D.state repo.new).view.now name)
-        (rose_in (three (Rises (D.state repo.old).faults (D.state repo.new).faults)
-        (Rises (S.state spool.old).faults (S.state spool.new).faults)
-        (Rises (T.state tree.old).faults (T.state tree.new).faults)))) }
+    ensures cause { IfErr result (EndsAtFile D.state S.state T.state stanza.now id name repo.old repo.new spool.old spool.new
+        tree.old tree.new) }
 {
     let Ok(text) = archive_name_text(alloc, &name) else {
         return Err(Halt::NoMemory);

@@ -1,17 +1,13 @@
 // Marks the result of a push in the spool.
 ghost use Rattle.std.specs.Prelude.{◌≡◌, ◌≤◌, ◌+◌, IfOk, IfErr, IsErrOf, OnOk};
 ghost use Rattle.base_devices.specs.Cause.{Rises};
-ghost use Rattle.base_devices.specs.Crash.{NowChanges, AllOf, FirstOf};
 ghost use Rattle.base_devices.specs.States.{CallsProperly};
-ghost use Rattle.base_model.specs.Represents.{IsWalName};
 ghost use Rattle.base_model.specs.Text.{Text};
 ghost use Rattle.archive_lookup.specs.Stored.{ChangesArchive};
-ghost use Rattle.cmd_types.specs.declared.stages.object.Object.TheVariants.{Spool as TheSpool};
-ghost use Rattle.cmd_types.specs.Halts.{HaltCause, Never, Only};
-ghost use Rattle.archive_spool.specs.Marks.{GivesMarks};
 ghost use Rattle.cmd_archive_push_async.specs.Ends.{halt_of_spool};
-ghost use Rattle.cmd_archive_push_async.specs.Fates.{kept_of, marks_of, IsCountOf};
-ghost use Rattle.cmd_archive_push_async.specs.Pushing.{fate_of, ShowsSum};
+ghost use Rattle.cmd_archive_push_async.specs.Fates.{IsCountOf};
+ghost use Rattle.cmd_archive_push_async.specs.Pushing.{fate_of};
+ghost use Rattle.cmd_archive_push_async.specs.Between.{SpoolEnds, GivesMarkOf, MayMark, IsMarkedAs};
 
 use crate::files::pushing::Tried;
 use archive_spool::{put_receipt, put_refusal};
@@ -47,15 +43,9 @@ fn put_mark<S: Disk>(
     name: ArchiveName,
     tried: &Tried,
 ) -> Result<(), StoreFault>
-    ensures marks { (bytes : Text) → ShowsSum tried.now bytes → IsWalName name
-        → GivesMarks stanza.now (kept_of name (fate_of tried.now bytes)) (S.state spool.old).view
-        (S.state spool.new).view }
-    ensures part { (bytes : Text) → ShowsSum tried.now bytes
-        → NowChanges (FirstOf (marks_of stanza.now name (fate_of tried.now bytes))) (S.state spool.old).view.now
-        (S.state spool.new).view.now }
-    ensures whole { OnOk result ((bytes : Text) → ShowsSum tried.now bytes
-        → NowChanges (AllOf (marks_of stanza.now name (fate_of tried.now bytes))) (S.state spool.old).view.now
-        (S.state spool.new).view.now) }
+    ensures marks { GivesMarkOf stanza.now name tried.now (S.state spool.old) (S.state spool.new) }
+    ensures part { MayMark stanza.now name tried.now (S.state spool.old) (S.state spool.new) }
+    ensures whole { OnOk result (IsMarkedAs stanza.now name tried.now (S.state spool.old) (S.state spool.new)) }
     ensures only { ChangesArchive stanza.now (S.state spool.old).view (S.state spool.new).view }
     ensures frame { CallsProperly (S.state spool.old) (S.state spool.new) }
     ensures cause { IsErrOf result StoreFault.Disk → Rises (S.state spool.old).faults (S.state spool.new).faults }
@@ -98,19 +88,12 @@ pub(crate) fn mark_tried<S: Disk>(
 ) -> Result<Drained, Halt<PushFault>>
     ensures counted { IfOk result (λ drained. (bytes : Text) → IsCountOf (fate_of tried.now bytes) drained) }
     ensures few { IfOk result (λ drained. drained.pushed + drained.refused ≤ 1) }
-    ensures marks { (bytes : Text) → ShowsSum tried.now bytes → IsWalName name
-        → GivesMarks stanza.now (kept_of name (fate_of tried.now bytes)) (S.state spool.old).view
-        (S.state spool.new).view }
-    ensures part { (bytes : Text) → ShowsSum tried.now bytes
-        → NowChanges (FirstOf (marks_of stanza.now name (fate_of tried.now bytes))) (S.state spool.old).view.now
-        (S.state spool.new).view.now }
-    ensures whole { OnOk result ((bytes : Text) → ShowsSum tried.now bytes
-        → NowChanges (AllOf (marks_of stanza.now name (fate_of tried.now bytes))) (S.state spool.old).view.now
-        (S.state spool.new).view.now) }
+    ensures marks { GivesMarkOf stanza.now name tried.now (S.state spool.old) (S.state spool.new) }
+    ensures part { MayMark stanza.now name tried.now (S.state spool.old) (S.state spool.new) }
+    ensures whole { OnOk result (IsMarkedAs stanza.now name tried.now (S.state spool.old) (S.state spool.new)) }
     ensures only { ChangesArchive stanza.now (S.state spool.old).view (S.state spool.new).view }
     ensures frame { CallsProperly (S.state spool.old) (S.state spool.new) }
-    ensures cause { IfErr result (HaltCause Never
-        (Only TheSpool (Rises (S.state spool.old).faults (S.state spool.new).faults))) }
+    ensures cause { IfErr result (SpoolEnds (S.state spool.old) (S.state spool.new)) }
 {
     match put_mark(alloc, spool, stanza, name, tried) {
         Ok(()) => Ok(tried.drained()),

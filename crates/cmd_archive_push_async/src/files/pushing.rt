@@ -1,24 +1,15 @@
 // Pushes one file of the log.
-ghost use Rattle.std.specs.Prelude.{◌≡◌, Some, IfOk, IfErr, IsSome};
-ghost use Rattle.base_devices.specs.Cause.{Rises};
+ghost use Rattle.std.specs.Prelude.{IfOk, IfErr};
 ghost use Rattle.base_devices.specs.States.{CallsProperly, OnlyReadsFolder};
 ghost use Rattle.base_text.specs.Sum.{IsSum};
 ghost use Rattle.base_model.specs.Names.{wal_text};
-ghost use Rattle.base_model.specs.Now.{NowRepresents};
-ghost use Rattle.base_model.specs.Repository.{Stanza};
 ghost use Rattle.base_model.specs.Represents.{IsArchivePlace};
-ghost use Rattle.base_model.specs.Text.{Text};
 ghost use Rattle.archive_lookup.specs.Stored.{ChangesArchive};
-ghost use Rattle.cmd_types.specs.Halts.{HaltCause};
-ghost use Rattle.cmd_types.specs.Risen.{rose_in};
-ghost use Rattle.cmd_archive_push.specs.LogFile.{known_file, IsOpened};
+ghost use Rattle.cmd_archive_push.specs.LogFile.{IsOpened};
 ghost use Rattle.cmd_archive_push.specs.WalPath.{wal_path};
-ghost use Rattle.archive_spool.specs.Marks.{named};
-ghost use Rattle.cmd_archive_push_async.specs.Ends.{EndCause, three};
-ghost use Rattle.cmd_archive_push_async.specs.Fates.{IsFateOf};
 ghost use Rattle.cmd_archive_push_async.specs.Paired.{KeepsPair};
-ghost use Rattle.cmd_archive_push_async.specs.Pushing.{stored_of, tried_of, fate_of, ShowsSum, IsHaltedBy};
-ghost use Rattle.cmd_archive_push_async.specs.Storing.{GoesByStores};
+ghost use Rattle.cmd_archive_push_async.specs.Pushing.{IsHaltedBy};
+ghost use Rattle.cmd_archive_push_async.specs.Between.{ShowsSumOf, GoesByPush, HasFate, PushStops};
 
 use archive_store::push_from;
 use base_devices::{DataFolder, Disk};
@@ -62,23 +53,14 @@ pub(crate) fn push_log<D: Disk, T: DataFolder>(
     log: &LogFile,
 ) -> Result<Tried, Halt<PushFault>>
     requires opened { IsOpened (T.state tree.old).nodes (wal_path (wal_text name)) log.now }
-    ensures goes { (bytes : Text) → known_file (T.state tree.old).nodes (wal_path (wal_text name)) ≡ Some bytes
-        → GoesByStores stanza.now id (stored_of result (named name bytes)) (tried_of result (named name bytes))
-        (D.state repo.old).view (D.state repo.new).view }
-    ensures sum { IfOk result (λ tried. (bytes : Text)
-        → known_file (T.state tree.old).nodes (wal_path (wal_text name)) ≡ Some bytes → ShowsSum tried bytes) }
-    ensures fate { IfOk result (λ tried. (bytes : Text)
-        → known_file (T.state tree.old).nodes (wal_path (wal_text name)) ≡ Some bytes → (s : Stanza)
-        → IsSome (D.state repo.old).view.now → NowRepresents stanza.now (Some s) (D.state repo.old).view.now
-        → IsFateOf s id system name bytes (fate_of tried bytes)) }
+    ensures goes { GoesByPush D.state T.state stanza.now id name result repo.old repo.new tree.old }
+    ensures sum { IfOk result (ShowsSumOf name (T.state tree.old)) }
+    ensures fate { IfOk result (HasFate D.state T.state stanza.now id system name repo.old tree.old) }
     ensures pair { KeepsPair stanza.now (D.state repo.old).view (D.state repo.new).view }
     ensures only { ChangesArchive stanza.now (D.state repo.old).view (D.state repo.new).view }
     ensures frame { CallsProperly (D.state repo.old) (D.state repo.new) }
     ensures looks { OnlyReadsFolder (T.state tree.old) (T.state tree.new) }
-    ensures cause { IfErr result (HaltCause
-        (EndCause stanza.now id (T.state tree.old).nodes (D.state repo.new).view.now name)
-        (rose_in (three (Rises (D.state repo.old).faults (D.state repo.new).faults) ⊥
-        (Rises (T.state tree.old).faults (T.state tree.new).faults)))) }
+    ensures cause { IfErr result (PushStops D.state T.state stanza.now id name repo.old repo.new tree.old tree.new) }
 {
     match push_from(
         alloc,

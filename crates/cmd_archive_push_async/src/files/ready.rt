@@ -1,11 +1,9 @@
 // The files of the log that are ready.
 ghost use Rattle.std.specs.Prelude.{◌≡◌, IfOk, IfErr, IfSome, IfNone};
-ghost use Rattle.base_devices.specs.Cause.{Rises};
 ghost use Rattle.base_devices.specs.States.{OnlyReadsFolder};
 ghost use Rattle.archive_lookup.specs.Listing.{Picks};
-ghost use Rattle.cmd_types.specs.declared.stages.object.Object.TheVariants.{TheDataFolder as TheFolder};
-ghost use Rattle.cmd_types.specs.Halts.{HaltCause, Never, Only};
 ghost use Rattle.cmd_archive_push_async.specs.Ready.{AreReady, ShowsReady, PassesReady, is_file};
+ghost use Rattle.cmd_archive_push_async.specs.Between.{FolderFails};
 
 use archive_spool::name_between;
 use base_devices::{DataFolder, FolderEntry, Node};
@@ -59,8 +57,7 @@ pub(crate) fn ready_names<T: DataFolder>(
 ) -> Result<Vec<ArchiveName>, Halt<PushFault>>
     ensures ready { IfOk result (λ names. IfSome (T.state tree.old).nodes (λ f. AreReady f names.items)) }
     ensures looks { OnlyReadsFolder (T.state tree.old) (T.state tree.new) }
-    ensures cause { IfErr result (HaltCause Never
-        (Only TheFolder (Rises (T.state tree.old).faults (T.state tree.new).faults))) }
+    ensures cause { IfErr result (FolderFails (T.state tree.old) (T.state tree.new)) }
 {
     let seen = match tree.list(alloc) {
         Ok(seen) => seen,

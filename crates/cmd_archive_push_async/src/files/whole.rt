@@ -1,15 +1,10 @@
 // Stores all files of the log that are ready.
-ghost use Rattle.std.specs.Prelude.{◌≡◌, Some, IfErr, OnOk};
-ghost use Rattle.base_devices.specs.Cause.{Rises};
+ghost use Rattle.std.specs.Prelude.{IfErr, OnOk};
 ghost use Rattle.base_devices.specs.States.{CallsProperly, OnlyReadsFolder};
-ghost use Rattle.base_devices.specs.DataFolder.{Nodes};
 ghost use Rattle.archive_lookup.specs.Stored.{ChangesArchive};
-ghost use Rattle.cmd_types.specs.Halts.{HaltCause};
-ghost use Rattle.cmd_types.specs.Risen.{rose_in};
-ghost use Rattle.cmd_archive_push_async.specs.Draining.{end_of};
 ghost use Rattle.cmd_archive_push_async.specs.Paired.{KeepsPair};
-ghost use Rattle.cmd_archive_push_async.specs.Ends.{three};
-ghost use Rattle.cmd_archive_push_async.specs.Whole.{DrainsReady, EndCauseReady, HasMarksOf};
+ghost use Rattle.cmd_archive_push_async.specs.Whole.{HasMarksOf};
+ghost use Rattle.cmd_archive_push_async.specs.Between.{DrainsLogs, EndsAtReady};
 
 use crate::files::file_loop::drain_named;
 use crate::files::mark_sync::sync_marks;
@@ -33,9 +28,8 @@ pub fn drain<D: Disk, S: Disk, T: DataFolder>(
     system: u64,
 ) -> Result<Drained, Halt<PushFault>>
     // Each file has its mark, and under that id the two disks change by the command that stores these files.
-    ensures drains { (f : Nodes) → (T.state tree.old).nodes ≡ Some f → DrainsReady stanza.now id system f
-        (end_of result) (D.state repo.old).view (D.state repo.new).view (S.state spool.old).view
-        (S.state spool.new).view }
+    ensures drains { DrainsLogs D.state S.state T.state stanza.now id system result
+        repo.old repo.new spool.old spool.new tree.old }
     // At Ok a crash leaves the marks unchanged.
     ensures lasts { OnOk result (HasMarksOf stanza.now (S.state spool.old).view (S.state spool.new).view) }
     ensures pair { KeepsPair stanza.now (D.state repo.old).view (D.state repo.new).view }
@@ -44,11 +38,8 @@ pub fn drain<D: Disk, S: Disk, T: DataFolder>(
     ensures repo_frame { CallsProperly (D.state repo.old) (D.state repo.new) }
     ensures spool_frame { CallsProperly (S.state spool.old) (S.state spool.new) }
     ensures looks { OnlyReadsFolder (T.state tree.old) (T.state tree.new) }
-    ensures cause { IfErr result (HaltCause
-        (EndCauseReady stanza.now id (T.state tree.old).nodes (D.state repo.new).view.now)
-        (rose_in (three (Rises (D.state repo.old).faults (D.state repo.new).faults)
-        (Rises (S.state spool.old).faults (S.state spool.new).faults)
-        (Rises (T.state tree.old).faults (T.state tree.new).faults)))) }
+    ensures cause { IfErr result (EndsAtReady D.state S.state T.state stanza.now id repo.old repo.new spool.old spool.new
+        tree.old tree.new) }
 {
     let names = match ready_names(alloc, tree) {
         Ok(names) => names,
