@@ -1,5 +1,5 @@
 -- Which link has which job, and what changes that. Own.
-use Rattle.std.specs.Prelude.{ℕ, Bool, true, false, ◌≡◌, ◌^◌, ◌<◌, List, length, Some, slice_get, slice_set, replicate, ◌⊎◌}
+use Rattle.std.specs.Prelude.{ℕ, Bool, true, false, ◌≡◌, ◌^◌, ◌<◌, List, length, Some, slice_get, slice_set, replicate, ◌⊎◌, if◌then◌else◌}
 use Rattle.worker_pool.specs.declared.jobs.JobPlace.{JobPlace}
 use Rattle.worker_pool.specs.declared.jobs.JobPlace.TheVariants.{Waiting, With, Ended}
 use Rattle.worker_pool.specs.declared.jobs.LinkPlace.{LinkPlace}
@@ -38,6 +38,10 @@ after_give s link job = record { jobs = slice_set s.jobs job (With link); links 
 -- the last frame of a reply ends the job
 abbrev pub after_end : Dispatch → ℕ → ℕ → Dispatch
 after_end s link job = record { jobs = slice_set s.jobs job Ended; links = slice_set s.links link Idle }
+
+-- a frame of a reply, which may be the last, leaves this
+abbrev pub after_frame : Bool → Dispatch → ℕ → ℕ → Dispatch
+after_frame ended s link job = if ended then after_end s link job else s
 
 -- the job of a lost link waits again
 abbrev pub after_drop : Dispatch → ℕ → ℕ → Dispatch
@@ -84,6 +88,10 @@ IsFirst jobs job = (slice_get jobs job ≡ Some Waiting) × ((k : ℕ) → k < j
 -- the link of this number has this job
 abbrev pub HasJob : List LinkPlace → ℕ → ℕ → Type 0
 HasJob links link job = slice_get links link ≡ Some (Busy job)
+
+-- the number is one of these
+abbrev pub IsAmong : List ℕ → ℕ → Type 0
+IsAmong numbers n = (k : ℕ) × (slice_get numbers k ≡ Some n)
 
 -- each job has ended
 abbrev pub AllEnded : List JobPlace → Type 0

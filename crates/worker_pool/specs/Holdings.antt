@@ -1,7 +1,8 @@
 -- What a keeper in memory holds. Own.
-use Rattle.std.specs.Prelude.{ℕ, ◌≡◌, [], List, length, Some, map}
+use Rattle.std.specs.Prelude.{ℕ, ◌≡◌, ◌<◌, [], List, length, Some, map, IsSomeAnd, slice_get}
+use Rattle.worker_protocol.specs.Frames.{Job}
 use Rattle.worker_protocol.specs.Views.{job_of}
-use Rattle.worker_protocol.specs.PartSinkState.{Held, Done, JobItems, PartSinkState}
+use Rattle.worker_protocol.specs.PartSinkState.{Held, Done, JobItems, PartSinkState, IsFresh}
 use Rattle.worker_pool.specs.declared.digest_runs.memory_keeper.ReadItem.{ReadItem}
 use Rattle.worker_pool.specs.declared.digest_runs.memory_keeper.HeldJob.{HeldJob}
 use Rattle.worker_pool.specs.declared.digest_runs.memory_keeper.Holder.{Holder}
@@ -23,3 +24,7 @@ state_of k = record { faults = 0; jobs = map job_of k.jobs.now; kept = map held_
 -- nothing was received of the job yet
 abbrev pub IsEmpty : HeldJob → Type 0
 IsEmpty j = (j.ended.items ≡ []) × (j.bytes.items ≡ [])
+
+-- a keeper holds nothing of any of these jobs yet
+abbrev pub HoldsNothing : List Job → PartSinkState → Type 0
+HoldsNothing jobs s = (j : ℕ) → j < length jobs → IsSomeAnd (slice_get s.kept j) IsFresh

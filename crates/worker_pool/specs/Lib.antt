@@ -13,3 +13,6 @@ pub mod Left
 pub mod Holdings
 pub mod Digests
 pub mod Twins
+pub mod Frames
+pub mod Running
+pub mod Pools

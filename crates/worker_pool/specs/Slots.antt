@@ -1,5 +1,5 @@
 -- What calls leave of the links in their slots. Own.
-use Rattle.std.specs.Prelude.{ℕ, ◌≡◌, List, Option, Some, None, Result, Ok, Err, slice_get, slice_set}
+use Rattle.std.specs.Prelude.{ℕ, ◌≡◌, List, Option, Some, None, Result, Ok, Err, map, option_map, slice_get, slice_set, ◌∷◌, []}
 use Rattle.base_devices.specs.Links.{LinkState, Sends, Fails, last_five}
 use Rattle.base_devices.specs.declared.device_error.DeviceError.{DeviceError}
 use Rattle.base_devices.specs.declared.device_error.DeviceError.TheVariants.{Failed, NoMemory}
@@ -7,6 +7,8 @@ use Rattle.base_model.specs.Text.{Text}
 use Rattle.worker_protocol.specs.Frames.{Job, spell}
 use Rattle.worker_protocol.specs.Frames.Frame.{Unread}
 use Rattle.worker_protocol.specs.PartSinkState.{PartSinkState}
+use Rattle.worker_protocol.specs.Lists.{ChangesAt}
+use Rattle.worker_pool.specs.declared.dispatch.job_run.Slots as links
 use Rattle.worker_pool.specs.declared.replies.receiving.Receiving.{Receiving}
 use Rattle.worker_pool.specs.declared.replies.reply.Verdict.{Verdict}
 use Rattle.worker_pool.specs.declared.replies.fault.ReplyFault.{ReplyFault}
@@ -68,3 +70,32 @@ pub record ReceivedAt (R : Receiving → Receiving → Option LinkState → Opti
   pub receivings_are : newer ≡ slice_set receivings i next
   pub slots_are : after ≡ slice_set slots i then_slot
   pub by : R receive_reply next slot then_slot
+
+-- the links in these slots
+abbrev pub slot_states : {L : Type 0} → (L → LinkState) → List (Option L) → List (Option LinkState)
+slot_states of slots = map (option_map of) slots
+
+-- a frame was sent over the link in the slot of this number
+abbrev pub SendsAt : {L : Type 0} → Result (Unit {0}) DeviceError → (L → LinkState) → Text → ℕ → List (Option L)
+    → List (Option L) → Type 0
+SendsAt result of frame i old new = ChangesAt (SlotSends result frame) (slot_states of old) (slot_states of new) i
+
+-- the link in this slot replies to the job
+abbrev pub SlotReplies : {L : Type 0} → (L → LinkState) → Option L → Job → ℕ → Receiving → PartSinkState → Type 0
+SlotReplies of slot job number h s = IsReceiving (option_map of slot) job number h s
+
+-- the link of this number replies to the job
+abbrev pub IsReceivingAt : {L : Type 0} → (L → LinkState) → ℕ → Job → ℕ → links.Slots L → PartSinkState → Type 0
+IsReceivingAt of i job number links s = (h : Receiving) (slot : Option LinkState)
+    → slice_get links.receivings.items i ≡ Some h → slice_get (slot_states of links.slots.items) i ≡ Some slot
+    → IsReceiving slot job number h s
+
+-- the link of this number, and what was received of it, changed by R
+abbrev pub LinkChanges : {L : Type 0} → (L → LinkState) → ℕ → links.Slots L → links.Slots L
+    → (Receiving → Receiving → Option LinkState → Option LinkState → Type 0) → Type 0
+LinkChanges of i old new R = ReceivedAt R i (slot_states of old.slots.items) (slot_states of new.slots.items)
+    old.receivings.items new.receivings.items
+
+-- only the slot of this number is left
+abbrev pub LeavesOne : ℕ → List (Option LinkState) → List (Option LinkState) → Type 0
+LeavesOne i old new = (slot : Option LinkState) → slice_get old i ≡ Some slot → new ≡ slot ∷ []

@@ -24,6 +24,7 @@
 mod dispatch_run;
 mod fault;
 mod job_handout;
+mod job_run;
 mod jobs;
 mod receiving;
 mod root_setup;

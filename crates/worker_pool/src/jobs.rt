@@ -2,12 +2,12 @@
 //!
 //! What is proved, by the contract of the function that is named:
 //!
-//! - `JobTable::new`, `give`, `receive_reply`, `drop_worker`: the four events, each by the definition. The lowest
-//!   waiting job is given first, and the job of a lost worker waits again.
+//! - `JobTable::new`, `give`, `note_frame`, `drop_worker`: the four events, each by the definition. The lowest waiting
+//!   job is given first, and the job of a lost worker waits again.
 //! - `busy`, `job`, `is_idle`, `finished`: what is there.
 
-ghost use Rattle.std.specs.Prelude.{false, ◌≡◌, ℕ, ◌^◌, ◌<◌, ◌≤◌, [], length, IfOk, IfSome, IfNone, IsTrue, ◌↔◌, if◌then◌else◌, slice_get, Some};
-ghost use Rattle.worker_pool.specs.Dispatch.{start, Waits, IsIdle, Has, IsLowest, after_give, after_end, after_drop, after_drop_idle, IsBusy, IsLive, Step, NoneWaits, NoneIsWith, IsFirst, HasJob, AllEnded};
+ghost use Rattle.std.specs.Prelude.{false, ◌≡◌, ℕ, ◌^◌, ◌<◌, ◌≤◌, [], length, IfOk, IfSome, IfNone, IsTrue, ◌↔◌, slice_get, Some};
+ghost use Rattle.worker_pool.specs.Dispatch.{start, Waits, IsIdle, Has, IsLowest, after_give, after_frame, after_drop, after_drop_idle, IsBusy, IsLive, Step, NoneWaits, NoneIsWith, IsFirst, HasJob, IsAmong, AllEnded};
 ghost use Rattle.worker_pool.specs.Dispatch.Event.{Give, Receive, DropWorker};
 
 use std::alloc::{AllocError, Global};
@@ -77,11 +77,10 @@ impl JobTable {
         Some(job)
     }
 
-    /// Takes a frame from a busy link. The one that ends the reply ends the job.
-    pub fn receive_reply(&mut self, link: u32, ended: bool)
+    /// Notes that a frame came from a busy link. The one that ends the reply ends the job.
+    pub fn note_frame(&mut self, link: u32, ended: bool)
         requires { IsBusy self.old link }
-        ensures ends { (job : ℕ) → Has self.old link job → self.new ≡
-            (if ended then after_end self.old link job else self.old) }
+        ensures ends { (job : ℕ) → Has self.old link job → self.new ≡ after_frame ended self.old link job }
         ensures step { Step self.old (Receive link ended) self.new }
     {
         if !ended {
@@ -209,8 +208,7 @@ fn busy_links(alloc: Global, holders: &Vec<LinkPlace>) -> Result<Vec<u32>, Alloc
     requires { length holders.now.items < 2 ^ 32 }
     ensures all { IfOk result
         (λ v. (k l : ℕ) → slice_get v.items k ≡ Some l → (j : ℕ) × HasJob holders.now.items l j) }
-    ensures each { IfOk result
-        (λ v. (l j : ℕ) → HasJob holders.now.items l j → (k : ℕ) × (slice_get v.items k ≡ Some l)) }
+    ensures each { IfOk result (λ v. (l j : ℕ) → HasJob holders.now.items l j → IsAmong v.items l) }
 {
     let mut busy = Vec::new(alloc);
     for i in 0..holders.len() {

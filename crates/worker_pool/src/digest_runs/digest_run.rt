@@ -3,13 +3,14 @@ ghost use Rattle.std.specs.Prelude.{◌≡◌, ◌<◌, ◌≤◌, ◌^◌, All,
 ghost use Rattle.base_model.specs.Values.{file_entry_of};
 ghost use Rattle.worker_protocol.specs.Frames.{FitsJob};
 ghost use Rattle.worker_protocol.specs.Views.{job_of};
-ghost use Rattle.worker_pool.specs.Run.{AreReady, JobsFault};
+ghost use Rattle.worker_pool.specs.Pools.{links_in, LeavesLinks, JobsEndEarly};
+ghost use Rattle.worker_pool.specs.Run.{AreReady};
 ghost use Rattle.worker_pool.specs.Holdings.{done_item, state_of};
 ghost use Rattle.worker_pool.specs.Digests.{first_end, end_of, is_equal, AreDigests, AreEnds};
-ghost use Rattle.worker_pool.specs.Left.{IsLeft};
 
 use crate::digest_runs::memory_keeper::{Holder, ReadItem};
-use crate::dispatch::{DispatchFault, Lost, run_jobs};
+use crate::dispatch::{DispatchFault, run_jobs};
+use crate::pool::Pool;
 use base_devices::{Link, Scheduler};
 use base_model::FileEntry;
 use std::alloc::{AllocError, Global};
@@ -55,23 +56,18 @@ pub fn is_equal(file: &FileEntry, end: &Option<ItemEnd>) -> bool
 pub fn run_digests<L: Link, U: Scheduler>(
     alloc: Global,
     jobs: &[Job],
-    links: &mut Vec<L>,
-    scheduler: &mut U,
-    lost: &mut Vec<Lost>,
+    pool: &mut Pool<L, U>,
 ) -> Result<Vec<Option<ItemEnd>>, DispatchFault>
-    requires few { vec_len links.old < 2 ^ 32 }
+    requires few { vec_len pool.old.links < 2 ^ 32 }
     requires few_jobs { length jobs.now < 2 ^ 32 }
     requires fits { All (λ j. FitsJob (job_of j)) jobs.now }
-    requires ready { AreReady (map L.link_state links.old.items) }
+    requires ready { AreReady (links_in L.link_state pool.old) }
     requires digests { AreDigests (map job_of jobs.now) }
-    ensures ends { IfOk result (λ ends. AreEnds (map L.link_state links.old.items) (map job_of jobs.now) ends.items) }
-    ensures left { OnOk result
-        (IsLeft (map L.link_state links.old.items) (map L.link_state links.new.items) lost.old.items lost.new.items) }
-    ensures fault { IfErr result
-        (λ e. JobsFault (map job_of jobs.now) e (map L.link_state links.old.items) lost.old.items lost.new.items 0 0
-        (map L.link_state links.new.items)) }
+    ensures ends { IfOk result (λ ends. AreEnds (links_in L.link_state pool.old) (map job_of jobs.now) ends.items) }
+    ensures left { OnOk result (LeavesLinks L.link_state pool.old pool.new) }
+    ensures fault { IfErr result (JobsEndEarly (map job_of jobs.now) L.link_state pool.old pool.new 0 0) }
 {
     let mut keep = Holder::new(alloc, jobs)?;
-    run_jobs(alloc, jobs, links, scheduler, &mut keep, &mut (), lost)?;
+    run_jobs(alloc, jobs, pool, &mut keep, &mut ())?;
     Ok(ends_of(alloc, &keep, jobs.len())?)
 }

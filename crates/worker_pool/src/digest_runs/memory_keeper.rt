@@ -1,10 +1,10 @@
 // A keeper in memory: it holds the bytes of its jobs, and how their items ended.
-ghost use Rattle.std.specs.Prelude.{◌≡◌, ◌<◌, ℕ, None, [], ⊤, length, map, slice_get, All, IfOk, OnOk, IfErr, IfSome, IsSomeAnd};
+ghost use Rattle.std.specs.Prelude.{◌≡◌, ◌<◌, None, [], ⊤, length, map, slice_get, All, IfOk, OnOk, IfErr, IfSome};
 ghost use Rattle.std.proofs.Common.{refl, ◌∙◌};
 ghost use Rattle.worker_protocol.specs.Views.{job_of};
-ghost use Rattle.worker_protocol.specs.PartSinkState.{KeepLeaves, Adds, Ends, Clears, IsFresh, IsNext, HasRoom};
+ghost use Rattle.worker_protocol.specs.PartSinkState.{KeepLeaves, Adds, Ends, Clears, IsNext, HasRoom};
 ghost use Rattle.base_devices.specs.declared.device_error.DeviceError.TheVariants.{NoMemory};
-ghost use Rattle.worker_pool.specs.Holdings.{held_job, done_item, state_of, IsEmpty};
+ghost use Rattle.worker_pool.specs.Holdings.{held_job, done_item, state_of, IsEmpty, HoldsNothing};
 
 use base_devices::DeviceError;
 use std::alloc::{AllocError, Global};
@@ -58,8 +58,7 @@ impl<'a> Holder<'a> {
     /// It is for these jobs, and holds nothing of them yet.
     pub fn new(alloc: Global, jobs: &'a [Job]) -> Result<Self, AllocError>
         ensures jobs { IfOk result (λ k. (state_of k).jobs ≡ map job_of jobs.now) }
-        ensures empty { IfOk result (λ k. (j : ℕ) → j < length (map job_of jobs.now)
-            → IsSomeAnd (slice_get (state_of k).kept j) IsFresh) }
+        ensures empty { IfOk result (λ k. HoldsNothing (map job_of jobs.now) (state_of k)) }
     {
         Ok(Holder {
             alloc,

@@ -1,15 +1,16 @@
 // Gives jobs to idle links.
-ghost use Rattle.std.specs.Prelude.{◌≡◌, ◌<◌, ◌^◌, ℕ, All, map, length, vec_len, IfErr, OnOk, OnErr};
+ghost use Rattle.std.specs.Prelude.{◌≡◌, ◌<◌, ◌^◌, ℕ, All, length, vec_len, IfErr, OnOk};
 ghost use Rattle.worker_protocol.specs.Frames.{FitsJob};
 ghost use Rattle.worker_protocol.specs.Views.{job_of};
 ghost use Rattle.worker_pool.specs.Dispatch.{IsIdle, NoneWaits};
 ghost use Rattle.worker_pool.specs.DispatchFaults.{IsQuiet};
-ghost use Rattle.worker_pool.specs.Run.{Runs, GoesOn, Gave, Settles, ShowsLosses, state};
+ghost use Rattle.worker_pool.specs.Run.{Settles};
+ghost use Rattle.worker_pool.specs.Running.{IsRunning, RunGoesOn, GivesJobs, RunShowsLosses};
 
-use crate::dispatch::fault::{DispatchFault, Lost};
+use crate::dispatch::fault::DispatchFault;
+use crate::dispatch::job_run::Run;
 use crate::dispatch::receiving::drop_link;
 use crate::dispatch::slots::send_at;
-use crate::jobs::JobTable;
 use crate::replies::Receiving;
 use base_devices::{DeviceError, Link};
 use std::alloc::Global;
@@ -19,56 +20,37 @@ use worker_protocol::{Job, LostCause, PartSink, encode_job};
 fn give_job<L: Link, W, K: PartSink<W>>(
     alloc: Global,
     jobs: &[Job],
-    slots: &mut Vec<Option<L>>,
-    job_table: &mut JobTable,
-    receivings: &mut Vec<Receiving>,
+    run: &mut Run<L>,
     i: u32,
     keep: &mut K,
     on: &mut W,
-    lost: &mut Vec<Lost>,
 ) -> Result<(), DispatchFault>
-    requires idle { IsIdle job_table.old i }
-    requires runs { Runs (map job_of jobs.now)
-        (state L.link_state job_table.old slots.old.items receivings.old.items (K.kept keep.old on.old) lost.old.items) }
+    requires idle { IsIdle run.old.job_table i }
+    requires runs { IsRunning L.link_state K.kept jobs.now run.old keep.old on.old }
     requires fits { All (λ j. FitsJob (job_of j)) jobs.now }
     requires agrees { K.agrees keep.old on.old }
     ensures later { K.later keep.old on.old keep.new on.new }
     ensures agrees { OnOk result (K.agrees keep.new on.new) }
     ensures quiet { IfErr result (λ e. IsQuiet e (K.kept keep.old on.old).faults (K.kept keep.new on.new).faults) }
-    ensures length { vec_len slots.new ≡ vec_len slots.old }
-    ensures going { OnOk result (GoesOn (map job_of jobs.now)
-        (state L.link_state job_table.old slots.old.items receivings.old.items (K.kept keep.old on.old) lost.old.items)
-        (state L.link_state job_table.new slots.new.items receivings.new.items (K.kept keep.new on.new) lost.new.items)) }
-    ensures gave { OnOk result (Gave (map job_of jobs.now)
-        (state L.link_state job_table.old slots.old.items receivings.old.items (K.kept keep.old on.old) lost.old.items)
-        (state L.link_state job_table.new slots.new.items receivings.new.items (K.kept keep.new on.new) lost.new.items)) }
-    ensures settles { OnOk result (Settles job_table.old job_table.new i) }
-    ensures known { OnErr result (ShowsLosses (map job_of jobs.now)
-        (state L.link_state job_table.old slots.old.items receivings.old.items (K.kept keep.old on.old) lost.old.items)
-        lost.new.items) }
+    ensures length { vec_len run.new.links.slots ≡ vec_len run.old.links.slots }
+    ensures going { RunGoesOn result L.link_state K.kept jobs.now run.old keep.old on.old run.new keep.new on.new }
+    ensures gave { GivesJobs result L.link_state K.kept jobs.now run.old keep.old on.old run.new keep.new on.new }
+    ensures settles { OnOk result (Settles run.old.job_table run.new.job_table i) }
+    ensures known { RunShowsLosses result L.link_state K.kept jobs.now run.old keep.old on.old run.new }
 {
-    let Some(job) = job_table.give(i) else {
+    let Some(job) = run.job_table.give(i) else {
         return Ok(());
     };
     let Ok(frame) = encode_job(alloc, &jobs[job as usize]) else {
         return Err(DispatchFault::NoMemory);
     };
-    match send_at(slots, i, &frame) {
+    match send_at(&mut run.links.slots, i, &frame) {
         Ok(()) => {
-            receivings[i as usize] = Receiving::new();
+            run.links.receivings[i as usize] = Receiving::new();
             Ok(())
         }
         Err(DeviceError::NoMemory) => Err(DispatchFault::NoMemory),
-        Err(DeviceError::Failed) => drop_link(
-            job_table,
-            slots,
-            i,
-            job,
-            keep,
-            on,
-            lost,
-            LostCause::Device,
-        ),
+        Err(DeviceError::Failed) => drop_link(run, i, job, keep, on, LostCause::Device),
     }
 }
 
@@ -76,36 +58,26 @@ fn give_job<L: Link, W, K: PartSink<W>>(
 pub(crate) fn give_idle<L: Link, W, K: PartSink<W>>(
     alloc: Global,
     jobs: &[Job],
-    slots: &mut Vec<Option<L>>,
-    job_table: &mut JobTable,
-    receivings: &mut Vec<Receiving>,
+    run: &mut Run<L>,
     i: u32,
     keep: &mut K,
     on: &mut W,
-    lost: &mut Vec<Lost>,
 ) -> Result<(), DispatchFault>
-    requires within { i < length job_table.old.links }
-    requires runs { Runs (map job_of jobs.now)
-        (state L.link_state job_table.old slots.old.items receivings.old.items (K.kept keep.old on.old) lost.old.items) }
+    requires within { i < length run.old.job_table.links }
+    requires runs { IsRunning L.link_state K.kept jobs.now run.old keep.old on.old }
     requires fits { All (λ j. FitsJob (job_of j)) jobs.now }
     requires agrees { K.agrees keep.old on.old }
     ensures later { K.later keep.old on.old keep.new on.new }
     ensures agrees { OnOk result (K.agrees keep.new on.new) }
     ensures quiet { IfErr result (λ e. IsQuiet e (K.kept keep.old on.old).faults (K.kept keep.new on.new).faults) }
-    ensures length { vec_len slots.new ≡ vec_len slots.old }
-    ensures going { OnOk result (GoesOn (map job_of jobs.now)
-        (state L.link_state job_table.old slots.old.items receivings.old.items (K.kept keep.old on.old) lost.old.items)
-        (state L.link_state job_table.new slots.new.items receivings.new.items (K.kept keep.new on.new) lost.new.items)) }
-    ensures gave { OnOk result (Gave (map job_of jobs.now)
-        (state L.link_state job_table.old slots.old.items receivings.old.items (K.kept keep.old on.old) lost.old.items)
-        (state L.link_state job_table.new slots.new.items receivings.new.items (K.kept keep.new on.new) lost.new.items)) }
-    ensures settles { OnOk result (Settles job_table.old job_table.new i) }
-    ensures known { OnErr result (ShowsLosses (map job_of jobs.now)
-        (state L.link_state job_table.old slots.old.items receivings.old.items (K.kept keep.old on.old) lost.old.items)
-        lost.new.items) }
+    ensures length { vec_len run.new.links.slots ≡ vec_len run.old.links.slots }
+    ensures going { RunGoesOn result L.link_state K.kept jobs.now run.old keep.old on.old run.new keep.new on.new }
+    ensures gave { GivesJobs result L.link_state K.kept jobs.now run.old keep.old on.old run.new keep.new on.new }
+    ensures settles { OnOk result (Settles run.old.job_table run.new.job_table i) }
+    ensures known { RunShowsLosses result L.link_state K.kept jobs.now run.old keep.old on.old run.new }
 {
-    if job_table.is_idle(i) {
-        return give_job(alloc, jobs, slots, job_table, receivings, i, keep, on, lost);
+    if run.job_table.is_idle(i) {
+        return give_job(alloc, jobs, run, i, keep, on);
     }
     Ok(())
 }
@@ -114,37 +86,25 @@ pub(crate) fn give_idle<L: Link, W, K: PartSink<W>>(
 pub(crate) fn give_all<L: Link, W, K: PartSink<W>>(
     alloc: Global,
     jobs: &[Job],
-    slots: &mut Vec<Option<L>>,
-    job_table: &mut JobTable,
-    receivings: &mut Vec<Receiving>,
+    run: &mut Run<L>,
     keep: &mut K,
     on: &mut W,
-    lost: &mut Vec<Lost>,
 ) -> Result<(), DispatchFault>
-    requires few { vec_len slots.old < 2 ^ 32 }
-    requires runs { Runs (map job_of jobs.now)
-        (state L.link_state job_table.old slots.old.items receivings.old.items (K.kept keep.old on.old) lost.old.items) }
+    requires few { vec_len run.old.links.slots < 2 ^ 32 }
+    requires runs { IsRunning L.link_state K.kept jobs.now run.old keep.old on.old }
     requires fits { All (λ j. FitsJob (job_of j)) jobs.now }
     requires agrees { K.agrees keep.old on.old }
     ensures later { K.later keep.old on.old keep.new on.new }
     ensures agrees { OnOk result (K.agrees keep.new on.new) }
     ensures quiet { IfErr result (λ e. IsQuiet e (K.kept keep.old on.old).faults (K.kept keep.new on.new).faults) }
-    ensures length { vec_len slots.new ≡ vec_len slots.old }
-    ensures going { OnOk result (GoesOn (map job_of jobs.now)
-        (state L.link_state job_table.old slots.old.items receivings.old.items (K.kept keep.old on.old) lost.old.items)
-        (state L.link_state job_table.new slots.new.items receivings.new.items (K.kept keep.new on.new) lost.new.items)) }
-    ensures gave { OnOk result (Gave (map job_of jobs.now)
-        (state L.link_state job_table.old slots.old.items receivings.old.items (K.kept keep.old on.old) lost.old.items)
-        (state L.link_state job_table.new slots.new.items receivings.new.items (K.kept keep.new on.new) lost.new.items)) }
-    ensures idle { OnOk result ((k : ℕ) → IsIdle job_table.new k → NoneWaits job_table.new) }
-    ensures known { OnErr result (ShowsLosses (map job_of jobs.now)
-        (state L.link_state job_table.old slots.old.items receivings.old.items (K.kept keep.old on.old) lost.old.items)
-        lost.new.items) }
+    ensures length { vec_len run.new.links.slots ≡ vec_len run.old.links.slots }
+    ensures going { RunGoesOn result L.link_state K.kept jobs.now run.old keep.old on.old run.new keep.new on.new }
+    ensures gave { GivesJobs result L.link_state K.kept jobs.now run.old keep.old on.old run.new keep.new on.new }
+    ensures idle { OnOk result ((k : ℕ) → IsIdle run.new.job_table k → NoneWaits run.new.job_table) }
+    ensures known { RunShowsLosses result L.link_state K.kept jobs.now run.old keep.old on.old run.new }
 {
-    for i in 0..slots.len() {
-        give_idle(
-            alloc, jobs, slots, job_table, receivings, i as u32, keep, on, lost,
-        )?;
+    for i in 0..run.links.slots.len() {
+        give_idle(alloc, jobs, run, i as u32, keep, on)?;
     }
     Ok(())
 }

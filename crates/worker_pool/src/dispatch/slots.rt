@@ -1,11 +1,10 @@
 // The links of a run, each in its slot until it is lost.
-ghost use Rattle.std.specs.Prelude.{◌≡◌, ◌<◌, Option, Some, None, option_map, map, vec_len, slice_get, IfOk, IfErr, OnOk};
-ghost use Rattle.base_devices.specs.Links.{LinkState};
+ghost use Rattle.std.specs.Prelude.{◌≡◌, ◌<◌, option_map, vec_len, IfOk, IfErr, OnOk};
 ghost use Rattle.worker_protocol.specs.Frames.{FitsJob};
 ghost use Rattle.worker_protocol.specs.Views.{job_of};
-ghost use Rattle.worker_protocol.specs.Lists.{ChangesAt};
-ghost use Rattle.worker_pool.specs.Slots.{SlotSends, Receives, ReceiveFails, IsReceiving, ReceivedAt};
+ghost use Rattle.worker_pool.specs.Slots.{SlotSends, SendsAt, Receives, ReceiveFails, SlotReplies, IsReceivingAt, LinkChanges};
 
+use crate::dispatch::job_run::Slots;
 use crate::replies::{Receiving, ReplyFault, Verdict, receive_reply};
 use base_devices::{DeviceError, Link};
 use std::alloc::Global;
@@ -30,8 +29,7 @@ pub(crate) fn send_at<L: Link>(
 ) -> Result<(), DeviceError>
     requires { i < vec_len slots.old }
     ensures length { vec_len slots.new ≡ vec_len slots.old }
-    ensures states { ChangesAt (SlotSends result frame.now) (map (option_map L.link_state) slots.old.items)
-        (map (option_map L.link_state) slots.new.items) i }
+    ensures states { SendsAt result L.link_state frame.now i slots.old.items slots.new.items }
 {
     send_slot(&mut slots[i as usize], frame)
 }
@@ -46,8 +44,7 @@ fn receive_slot<L: Link, W, K: PartSink<W>>(
     keep: &mut K,
     on: &mut W,
 ) -> Result<Verdict, ReplyFault>
-    requires at { IsReceiving (option_map L.link_state slot.old) (job_of job.now) number receiving.old
-        (K.kept keep.old on.old) }
+    requires at { SlotReplies L.link_state slot.old (job_of job.now) number receiving.old (K.kept keep.old on.old) }
     requires fits { FitsJob (job_of job.now) }
     requires agrees { K.agrees keep.old on.old }
     ensures later { K.later keep.old on.old keep.new on.new }
@@ -70,44 +67,32 @@ fn receive_slot<L: Link, W, K: PartSink<W>>(
 #[tactic(auto, using(crate::proofs::Changes::received_at))]
 pub(crate) fn receive_at<L: Link, W, K: PartSink<W>>(
     alloc: Global,
-    slots: &mut Vec<Option<L>>,
+    links: &mut Slots<L>,
     i: u32,
     job: &Job,
     number: u32,
-    receivings: &mut Vec<Receiving>,
     keep: &mut K,
     on: &mut W,
 ) -> Result<Verdict, ReplyFault>
-    requires within { i < vec_len slots.old }
-    requires within_receivings { i < vec_len receivings.old }
-    requires at { (h : Receiving) (slot : Option LinkState) → slice_get receivings.old.items i ≡ Some h
-        → slice_get (map (option_map L.link_state) slots.old.items) i ≡ Some slot
-        → IsReceiving slot (job_of job.now) number h (K.kept keep.old on.old) }
+    requires within { i < vec_len links.old.slots }
+    requires within_receivings { i < vec_len links.old.receivings }
+    requires at { IsReceivingAt L.link_state i (job_of job.now) number links.old (K.kept keep.old on.old) }
     requires fits { FitsJob (job_of job.now) }
     requires agrees { K.agrees keep.old on.old }
     ensures later { K.later keep.old on.old keep.new on.new }
     ensures agrees { OnOk result (K.agrees keep.new on.new) }
-    ensures length { vec_len slots.new ≡ vec_len slots.old }
-    ensures verdict { IfOk result
-        (λ v. ReceivedAt (λ h n. Receives v (job_of job.now) number h n (K.kept keep.old on.old) (K.kept keep.new
-        on.new)) i
-        (map (option_map L.link_state) slots.old.items) (map (option_map L.link_state) slots.new.items)
-        receivings.old.items
-        receivings.new.items) }
-    ensures fault { IfErr result
-        (λ e. ReceivedAt (λ h n. ReceiveFails e (job_of job.now) number h (K.kept keep.old on.old) (K.kept keep.new
-        on.new))
-        i
-        (map (option_map L.link_state) slots.old.items) (map (option_map L.link_state) slots.new.items)
-        receivings.old.items
-        receivings.new.items) }
+    ensures length { vec_len links.new.slots ≡ vec_len links.old.slots }
+    ensures verdict { IfOk result (λ v. LinkChanges L.link_state i links.old links.new
+        (λ h n. Receives v (job_of job.now) number h n (K.kept keep.old on.old) (K.kept keep.new on.new))) }
+    ensures fault { IfErr result (λ e. LinkChanges L.link_state i links.old links.new
+        (λ h _. ReceiveFails e (job_of job.now) number h (K.kept keep.old on.old) (K.kept keep.new on.new))) }
 {
     receive_slot(
         alloc,
-        &mut slots[i as usize],
+        &mut links.slots[i as usize],
         job,
         number,
-        &mut receivings[i as usize],
+        &mut links.receivings[i as usize],
         keep,
         on,
     )

@@ -5,8 +5,8 @@ ghost use Rattle.worker_protocol.specs.Frames.{FitsJob, spell, part_size};
 ghost use Rattle.worker_protocol.specs.Frames.Frame.{Part, End, Vanished, Unread};
 ghost use Rattle.worker_protocol.specs.Views.{job_of};
 ghost use Rattle.worker_protocol.specs.Receives.{IsFullyReceived, frame_of};
-ghost use Rattle.worker_pool.specs.Going.{IsAt, IsGiving, FrameLeaves, FrameFails, ItemFails, ReplyLeaves, ReplyFails};
-ghost use Rattle.worker_pool.specs.Going.{IsUnread, KeepsCounts, CountsFrame, ReceivedOf, after_end};
+ghost use Rattle.worker_pool.specs.Going.{IsAt, FrameLeaves, ReplyLeaves, ReplyFails, IsUnread, KeepsCounts, after_end};
+ghost use Rattle.worker_pool.specs.Frames.{IsReplying, CountsMore, ItemRefused, NotTaken, ReceivedBy};
 
 use crate::replies::checks::{end_fault, may_be_absent, may_follow};
 use crate::replies::fault::ReplyFault;
@@ -45,10 +45,8 @@ fn take_part<W, K: PartSink<W>>(
     ensures agrees { OnOk result (K.agrees keep.new on.new) }
     ensures verdict { IfOk result (λ v. FrameLeaves v (spell (Part bytes.now)) (job_of job.now) number
         receiving.old receiving.new (K.kept keep.old on.old) (K.kept keep.new on.new)) }
-    ensures counts { IfOk result (λ v. CountsFrame v receiving.old.received_reply (5 + length bytes.now)
-        receiving.new.received_reply) }
-    ensures fault { IfErr result (λ e. ItemFails e (job_of job.now) receiving.old.item
-        (K.kept keep.old on.old) (K.kept keep.new on.new)) }
+    ensures counts { CountsMore result receiving.old (5 + length bytes.now) receiving.new }
+    ensures fault { ItemRefused result K.kept job.now receiving.old keep.old on.old keep.new on.new }
     ensures kept { IfErr result (λ e. ¬ IsUnread e) }
 {
     let received_reply = receiving
@@ -79,9 +77,8 @@ fn take_end<W, K: PartSink<W>>(
     ensures agrees { OnOk result (K.agrees keep.new on.new) }
     ensures verdict { IfOk result (λ v. FrameLeaves v (spell (End length sum.0)) (job_of job.now) number
         receiving.old receiving.new (K.kept keep.old on.old) (K.kept keep.new on.new)) }
-    ensures counts { IfOk result (λ v. CountsFrame v receiving.old.received_reply 33 receiving.new.received_reply) }
-    ensures fault { IfErr result (λ e. ItemFails e (job_of job.now) receiving.old.item
-        (K.kept keep.old on.old) (K.kept keep.new on.new)) }
+    ensures counts { CountsMore result receiving.old 33 receiving.new }
+    ensures fault { ItemRefused result K.kept job.now receiving.old keep.old on.old keep.new on.new }
     ensures kept { IfErr result (λ e. ¬ IsUnread e) }
 {
     let item = receiving.item;
@@ -110,9 +107,8 @@ fn take_absent<W, K: PartSink<W>>(
     ensures agrees { OnOk result (K.agrees keep.new on.new) }
     ensures verdict { IfOk result (λ v. FrameLeaves v (spell Vanished) (job_of job.now) number
         receiving.old receiving.new (K.kept keep.old on.old) (K.kept keep.new on.new)) }
-    ensures counts { IfOk result (λ v. CountsFrame v receiving.old.received_reply 5 receiving.new.received_reply) }
-    ensures fault { IfErr result (λ e. ItemFails e (job_of job.now) receiving.old.item
-        (K.kept keep.old on.old) (K.kept keep.new on.new)) }
+    ensures counts { CountsMore result receiving.old 5 receiving.new }
+    ensures fault { ItemRefused result K.kept job.now receiving.old keep.old on.old keep.new on.new }
     ensures kept { IfErr result (λ e. ¬ IsUnread e) }
 {
     let item = receiving.item;
@@ -142,10 +138,8 @@ fn take_frame<W, K: PartSink<W>>(
     ensures agrees { OnOk result (K.agrees keep.new on.new) }
     ensures verdict { IfOk result (λ v. FrameLeaves v (spell (frame_of frame)) (job_of job.now) number
         receiving.old receiving.new (K.kept keep.old on.old) (K.kept keep.new on.new)) }
-    ensures counts { IfOk result (λ v. CountsFrame v receiving.old.received_reply (length (spell (frame_of frame)))
-        receiving.new.received_reply) }
-    ensures fault { IfErr result (λ e. FrameFails e (spell (frame_of frame)) (job_of job.now) number
-        receiving.old (K.kept keep.old on.old) (K.kept keep.new on.new)) }
+    ensures counts { CountsMore result receiving.old (length (spell (frame_of frame))) receiving.new }
+    ensures fault { NotTaken result K.kept frame job.now number receiving.old keep.old on.old keep.new on.new }
     ensures unread { IfErr result (λ e. IsUnread e → frame_of frame ≡ Unread) }
 {
     match frame {
@@ -169,7 +163,7 @@ pub fn receive_reply<L: Link, W, K: PartSink<W>>(
     keep: &mut K,
     on: &mut W,
 ) -> Result<Verdict, ReplyFault>
-    requires at { IsGiving (L.link_state link.old).known (job_of job.now) number receiving.old (K.kept keep.old on.old) }
+    requires at { IsReplying (L.link_state link.old) (job_of job.now) number receiving.old (K.kept keep.old on.old) }
     requires fits { FitsJob (job_of job.now) }
     requires agrees { K.agrees keep.old on.old }
     ensures later { K.later keep.old on.old keep.new on.new }
@@ -178,8 +172,7 @@ pub fn receive_reply<L: Link, W, K: PartSink<W>>(
         (K.kept keep.old on.old) (K.kept keep.new on.new) (L.link_state link.old) (L.link_state link.new)) }
     ensures counts { IfOk result (λ v. KeepsCounts v (L.link_state link.old) (L.link_state link.new)) }
     // How many bytes of the reply are received, and why the link is lost.
-    ensures received_reply { IfOk result (λ v. ReceivedOf v receiving.old.received_reply receiving.new.received_reply
-        (L.link_state link.old) (L.link_state link.new)) }
+    ensures received_reply { ReceivedBy result L.link_state receiving.old link.old receiving.new link.new }
     ensures fault { IfErr result (λ e. ReplyFails e (job_of job.now) number receiving.old
         (K.kept keep.old on.old) (K.kept keep.new on.new) (L.link_state link.old)) }
     // After Unread the last five bytes that the link gave are that frame.

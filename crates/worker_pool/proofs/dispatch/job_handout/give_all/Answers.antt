@@ -9,8 +9,8 @@ use Rattle.worker_pool.proofs.dispatch.job_handout.give_all.Goals as goal
 pub give_idle-requires-clause-within : goal.give_idle-requires-clause-within
 give_idle-requires-clause-within g c =
     let n = c.requires.runs.going.link_count in
-    let m = length-map c.args.slots.now.items (option_map g.L.Link.link_state) in
-    omega (arith, n, m, c.args.slots.now.ok, c.loop-i.invariant.gave.links, c.loop-i.invariant.same, c.loop-i.invariant.was, c.loop-i-test.true)
+    let m = length-map c.args.run.now.links.slots.items (option_map g.L.Link.link_state) in
+    omega (arith, n, m, c.args.run.now.links.slots.ok, c.loop-i.invariant.gave.links, c.loop-i.invariant.same, c.loop-i.invariant.was, c.loop-i-test.true)
 
 pub give_idle-requires-clause-runs : goal.give_idle-requires-clause-runs
 give_idle-requires-clause-runs g c = record {
@@ -31,7 +31,7 @@ loop-i-preserved g c = record {
 
 pub returns-clause-idle : goal.returns-clause-idle
 returns-clause-idle g c = λ k idle.
-    let w : k < length c.loop-i.job_table.links = within c.loop-i.job_table.links k Idle idle in
+    let w : k < length c.loop-i.run.job_table.links = within c.loop-i.run.job_table.links k Idle idle in
     let n = c.requires.runs.going.link_count in
-    let m = length-map c.args.slots.now.items (option_map g.L.Link.link_state) in
-    c.loop-i.invariant.idle k (omega (arith, w, n, m, c.args.slots.now.ok, c.loop-i.invariant.gave.links, c.loop-i.invariant.same, c.loop-i.invariant.was, c.loop-i-test.false)) idle
+    let m = length-map c.args.run.now.links.slots.items (option_map g.L.Link.link_state) in
+    c.loop-i.invariant.idle k (omega (arith, w, n, m, c.args.run.now.links.slots.ok, c.loop-i.invariant.gave.links, c.loop-i.invariant.same, c.loop-i.invariant.was, c.loop-i-test.false)) idle

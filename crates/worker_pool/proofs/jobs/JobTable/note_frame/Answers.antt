@@ -2,7 +2,7 @@ use Rattle.std.proofs.Common.{◌≡◌, ◌<◌, length, Some, slice_get, lengt
 use Rattle.worker_pool.specs.declared.jobs.LinkPlace.TheVariants.{Busy}
 use Rattle.worker_pool.specs.declared.jobs.JobPlace.TheVariants.{Waiting, Ended}
 use Rattle.worker_pool.proofs.Places.{pairs_after, get_set_cases, within}
-use Rattle.worker_pool.proofs.jobs.JobTable.receive_reply.Goals as goal
+use Rattle.worker_pool.proofs.jobs.JobTable.note_frame.Goals as goal
 
 pub index_mut-requires : goal.index_mut-requires
 index_mut-requires c = let h : c.in-Some.job < length c.self.inside.places.items = within _ _ _ (c.self.invariant.pairs.to_job _ _ c.in-Some.ensures.some) in search rules
