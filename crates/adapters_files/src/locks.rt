@@ -1,8 +1,9 @@
 // The locks, as files of the system.
 ghost use Rattle.std.specs.Prelude.{◌≡◌, ◌≤◌, ◌∷◌, [], None, IfOk, OnErr, map, string_bytes};
 ghost use Rattle.base_devices.specs.Cause.{Rises};
-ghost use Rattle.base_devices.specs.Locking.{with_lock, without};
+ghost use Rattle.base_devices.specs.Locking.{without};
 ghost use Rattle.base_devices.specs.declared.locks.LockAnswer.TheVariants.{Busy};
+ghost use Rattle.adapters_files.specs.Reported.{AddsLock};
 
 use crate::lock_files::{Hold, hold_file, hold_folder};
 use crate::place::no_memory;
@@ -90,9 +91,7 @@ impl RealLocks {
     }
 
     fn take_file(&mut self, folder: &str, name: &str) -> io::Result<LockAnswer>
-        ensures taken { IfOk result
-            (λ t. map (λ x. string_bytes x.name) self.new.taken.items ≡ with_lock t name.now
-            (map (λ x. string_bytes x.name) self.old.taken.items)) }
+        ensures taken { IfOk result (AddsLock name.now self.old.taken.items self.new.taken.items) }
         ensures err { OnErr result (self.new.taken.items ≡ self.old.taken.items) }
         ensures held { IfOk result (λ t. t ≡ Busy → Rises self.old.refusals self.new.refusals) }
         ensures later { self.old.refusals ≤ self.new.refusals }

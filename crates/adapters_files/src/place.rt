@@ -1,7 +1,8 @@
 // A folder of the system's files, and what is below it by name.
-ghost use Rattle.std.specs.Prelude.{◌≡◌, ◌≢◌, ◌⊎◌, ◌∷◌, ◌++◌, Result, Ok, Err, None, Some, IfErr, IfOk, map, string_bytes};
+ghost use Rattle.std.specs.Prelude.{◌≡◌, Result, Ok, Err, None, Some, IfErr, IfOk, map, string_bytes};
 ghost use Rattle.std.specs.IoError.{error_kind};
-ghost use Rattle.base_devices.specs.States.{last_opened, Opens};
+ghost use Rattle.base_devices.specs.States.{Opens};
+ghost use Rattle.adapters_files.specs.Reported.{places_of, IsPathBelow, IsAbsence, WhereNoAbsence};
 
 use adapters_process::Call;
 use std::fs::{DirBuilder, File, Metadata, OpenOptions};
@@ -63,8 +64,7 @@ impl Place {
 
     // Takes a folder as the root, and returns whether it is there.
     fn take(&mut self, path: &str) -> io::Result<bool>
-        ensures { Opens result path.now (map string_bytes self.old.opened.items)
-            (map string_bytes self.new.opened.items) }
+        ensures { Opens result path.now (places_of self.old.opened.items) (places_of self.new.opened.items) }
     {
         let root = String::from_str(self.rt.alloc(), path)?;
         self.opened.insert(0, root).map_err(no_memory)?;
@@ -73,8 +73,7 @@ impl Place {
 
     /// Takes a folder as the root, and makes it where it is absent.
     pub fn open(&mut self, path: &str) -> io::Result<()>
-        ensures { Opens result path.now (map string_bytes self.old.opened.items)
-            (map string_bytes self.new.opened.items) }
+        ensures { Opens result path.now (places_of self.old.opened.items) (places_of self.new.opened.items) }
     {
         if self.take(path)? {
             Ok(())
@@ -85,8 +84,7 @@ impl Place {
 
     /// Takes a folder that is there as the root.
     pub fn enter(&mut self, path: &str) -> io::Result<()>
-        ensures { Opens result path.now (map string_bytes self.old.opened.items)
-            (map string_bytes self.new.opened.items) }
+        ensures { Opens result path.now (places_of self.old.opened.items) (places_of self.new.opened.items) }
     {
         if self.take(path)? {
             Ok(())
@@ -96,8 +94,7 @@ impl Place {
     }
 
     pub fn path_of(&self, name: &str) -> io::Result<String>
-        ensures { IfOk result (λ path. string_bytes path ≡ last_opened
-            (map string_bytes self.now.opened.items) ++ 47 ∷ name.now) }
+        ensures { IfOk result (IsPathBelow self.now.opened.items name.now) }
     {
         let root = self.root();
         Ok(format!(in self.rt.alloc(); "{root}/{name}")?)
@@ -297,11 +294,8 @@ pub fn is_same(a: &Metadata, b: &Metadata) -> bool {
 /// None where a name is absent; a path through a file leads to no name.
 pub fn unless_absent<T: Drop>(done: io::Result<T>) -> io::Result<Option<T>>
     ensures there { IfOk done (λ v. result ≡ Ok (Some v)) }
-    ensures absent { IfErr done (λ e. (error_kind e ≡ ErrorKind.NotFound)
-        ⊎ (error_kind e ≡ ErrorKind.NotADirectory)
-        → result ≡ Ok None) }
-    ensures error { IfErr done (λ e. error_kind e ≢ ErrorKind.NotFound → error_kind e ≢ ErrorKind.NotADirectory
-        → result ≡ Err e) }
+    ensures absent { IfErr done (λ e. IsAbsence (error_kind e) → result ≡ Ok None) }
+    ensures error { IfErr done (λ e. WhereNoAbsence (error_kind e) (result ≡ Err e)) }
 {
     match done {
         Ok(value) => Ok(Some(value)),

@@ -113,9 +113,6 @@ carries_err stanza command e f a m h = record { part = h.part; whole = tt }
 
 -- ---- the same with another value
 
-pub ok_other : {T U E F : Type 0} (stanza : Text) (command : Command) (x : T) (y : U) (a d : View) → Advances {E = E} stanza command (Ok x) a d → Advances {E = F} stanza command (Ok y) a d
-ok_other stanza command x y a d h = record { part = h.part; whole = h.whole; sound = h.sound }
-
 pub err_other : {T U E F : Type 0} (stanza : Text) (command : Command) (e : E) (f : F) (a d : View) → Advances {T = T} stanza command (Err e) a d → Advances {T = U} stanza command (Err f) a d
 err_other stanza command e f a d h = record { part = h.part; whole = tt; sound = tt }
 

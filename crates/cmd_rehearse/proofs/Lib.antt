@@ -6,6 +6,7 @@ pub mod Taken
 pub mod Failing
 pub mod Causing
 pub mod Prefixes
+pub mod Stopping
 pub mod Ends
 pub mod Tallied
 pub mod Spools

@@ -20,11 +20,6 @@ use Rattle.base_sample.specs.Having.{FolderCause, IfFull}
 use Rattle.cmd_rehearse.specs.declared.fault.StepFault.{StepFault}
 use Rattle.cmd_rehearse.specs.declared.fault.RehearseFault.{RehearseFault}
 use Rattle.cmd_rehearse.specs.declared.fault.RehearseFault.TheVariants.{StanzaExists, NotEmpty, Step}
-use Rattle.base_model.specs.declared.labels.BackupKind.{BackupKind}
-use Rattle.cmd_rehearse.specs.declared.backup_totals.Amount.{Amount}
-use Rattle.cmd_rehearse.specs.declared.backup_totals.Counted.{Counted}
-use Rattle.cmd_rehearse.specs.Backups.{IsTakenBy, IsStep}
-use Rattle.cmd_rehearse.specs.Counting.{ShowsLast}
 use Rattle.cmd_rehearse.specs.Advancing.{Advances, Carries, Had}
 use Rattle.cmd_rehearse.specs.Causes.{StepCause, PartCause, PushesCause, IsPrefix, Nothing, Pushing, PrefixCause, ExistsCause, RehearseCause, Fails}
 use Rattle.cmd_rehearse.specs.Commands.{created, pushed, backed_up}
@@ -42,11 +37,6 @@ had_after stanza command x a m P h p = record { now = m.now; done = h.whole.done
 pub on_any : {T E : Type 0} (r : Result T E) (P : Type 0) → P → OnOk r P
 on_any (Ok x) P p = p
 on_any (Err e) P p = tt
-
--- a backup after these commands, with its numbers
-pub step_known : {T E F : Type 0} (stanza : Text) (prefix : Command) (kind : BackupKind) (counted : Counted) (x : T) (a m : View) (d : Option Content) → Advances {E = E} stanza prefix (Ok x) a m → (r : Result Amount F) → OnOk r (IsTakenBy stanza kind m.now d) → IfOk r (ShowsLast stanza counted d) → IfOk r (IsStep stanza prefix kind counted a.now d)
-step_known stanza prefix kind counted x a m d does (Ok y) taken known = record { taken = had_after stanza prefix x a m (λ before. IsTakenBy stanza kind before d) does taken; known = known }
-step_known stanza prefix kind counted x a m d does (Err e) taken known = tt
 
 module _ (stanza : Text) (number : ℕ) where
   -- nothing was done

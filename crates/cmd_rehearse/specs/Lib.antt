@@ -2,6 +2,7 @@ pub mod Advancing
 pub mod Commands
 pub mod Counting
 pub mod Backups
+pub mod Calls
 pub mod Telling
 pub mod Rehearsing
 pub mod Causes

@@ -1,13 +1,11 @@
 // The files and the bytes of a backup.
 ghost use Rattle.std.specs.Prelude.{◌≡◌, ◌<◌, ◌≤◌, ◌^◌, map, IfOk, IfErr};
-ghost use Rattle.base_devices.specs.Cause.{Rises};
 ghost use Rattle.base_devices.specs.States.{OnlyReads};
 ghost use Rattle.base_model.specs.Values.{file_entry_of};
 ghost use Rattle.backup_record.specs.Making.{size_of};
-ghost use Rattle.cmd_types.specs.declared.stages.object.Object.TheVariants.{Repo as TheRepo};
-ghost use Rattle.cmd_types.specs.Halts.{HaltCause, Only};
 ghost use Rattle.cmd_rehearse.specs.Causes.{StepCause};
 ghost use Rattle.cmd_rehearse.specs.Counting.{is_counted, amount_of, ShowsLast};
+ghost use Rattle.cmd_rehearse.specs.Calls.{RepoHalt};
 
 use crate::backup_step::read_backup;
 use crate::fault::{StepFault, of_base};
@@ -72,8 +70,7 @@ pub(crate) fn count_last<D: Disk>(
 ) -> Result<Amount, Halt<StepFault>>
     ensures known { IfOk result (ShowsLast stanza.now counted (D.state repo.old).view.now) }
     ensures looks { OnlyReads (D.state repo.old) (D.state repo.new) }
-    ensures cause { IfErr result (HaltCause (StepCause stanza.now (D.state repo.old).view.now)
-        (Only TheRepo (Rises (D.state repo.old).faults (D.state repo.new).faults))) }
+    ensures cause { IfErr result (RepoHalt (StepCause stanza.now) (D.state repo.old) (D.state repo.new)) }
 {
     let list = read_backup(alloc, repo, stanza)?;
     match load_base(alloc, repo, stanza, BackupKind::Incr, &list) {

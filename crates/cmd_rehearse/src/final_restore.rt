@@ -1,22 +1,21 @@
 // Restores the last backup over a damaged data folder, and verifies the repository.
-ghost use Rattle.std.specs.Prelude.{◌≡◌, true, map, IfOk, IfErr, OnOk};
-ghost use Rattle.base_devices.specs.Cause.{Rises};
+ghost use Rattle.std.specs.Prelude.{◌≡◌, true, IfOk, IfErr, OnOk};
 ghost use Rattle.base_devices.specs.States.{OnlyReads};
 ghost use Rattle.options_table.specs.Values.{is_stanza};
+ghost use Rattle.worker_pool.specs.Pools.{links_in};
 ghost use Rattle.worker_pool.specs.Run.{AreReady};
-ghost use Rattle.cmd_types.specs.declared.stages.object.Object.TheVariants.{Repo as TheRepo};
-ghost use Rattle.cmd_types.specs.Halts.{HaltCause, Only};
 ghost use Rattle.cmd_verify.specs.Verifying.{IsVerified, EndsWithNone};
 ghost use Rattle.cmd_rehearse.specs.declared.backup_totals.Counted.TheVariants.{All as TheAll};
 ghost use Rattle.cmd_rehearse.specs.Advancing.{StaysOpen};
-ghost use Rattle.cmd_rehearse.specs.Causes.{StepCause, FailsBoth};
+ghost use Rattle.cmd_rehearse.specs.Causes.{StepCause};
 ghost use Rattle.cmd_rehearse.specs.Counting.{ShowsLast};
-ghost use Rattle.cmd_rehearse.specs.Rehearsing.{CountsStored, IsRestoredLast, ComesTo, IsEnded};
+ghost use Rattle.cmd_rehearse.specs.Rehearsing.{CountsStored, ComesTo};
+ghost use Rattle.cmd_rehearse.specs.Calls.{RepoHalt, EndHalt, RestoresLast, ComesToEnd};
 
 use crate::backup_step::read_backup;
 use crate::backup_totals::{Amount, Counted, count_last};
 use crate::fault::{StepFault, of_all, of_examine, of_restore};
-use crate::links::take_links;
+use crate::links::deal_links;
 use crate::order::RehearseOrder;
 use archive_lookup::all;
 use base_devices::{DataFolder, Disk, Link, Scheduler};
@@ -25,6 +24,7 @@ use cmd_restore::{RecoverOrder, RecoveryType, restore_backup};
 use cmd_types::{Halt, Object, Outcome, halted};
 use cmd_verify::verify_stanza;
 use std::alloc::Global;
+use worker_pool::Pool;
 
 /// How many files are archived, how many files and bytes are restored, and what a verification reported.
 #[derive(Drop)]
@@ -34,28 +34,24 @@ pub(crate) struct RehearsalEnd {
     pub found: Outcome,
 }
 
-// Restores the last backup by its digests, by links of its own. No recovery is asked for.
+// Restores the last backup by its digests, by links of its own: the others aren't needed any more. No recovery is asked
+// for.
 fn restore_last<D: Disk, T: DataFolder, L: Link, U: Scheduler>(
     alloc: Global,
     repo: &mut D,
     tree: &mut T,
-    links: &mut Vec<L>,
-    scheduler: &mut U,
-    stanza: &str,
+    pool: &mut Pool<L, U>,
     order: &RehearseOrder<'_>,
 ) -> Result<(), Halt<StepFault>>
-    requires ready { AreReady (map L.link_state links.old.items) }
-    requires stanza { is_stanza stanza.now ≡ true }
-    ensures restored { OnOk result
-        (IsRestoredLast stanza.now (D.state repo.old).view.now (T.state tree.new).nodes) }
+    requires ready { AreReady (links_in L.link_state pool.old) }
+    requires stanza { is_stanza order.now.stanza.now ≡ true }
+    ensures restored { OnOk result (RestoresLast order.now (D.state repo.old) (T.state tree.new)) }
     ensures looks { OnlyReads (D.state repo.old) (D.state repo.new) }
     ensures folder { StaysOpen (T.state tree.old) (T.state tree.new) }
-    ensures cause { IfErr result (HaltCause (StepCause stanza.now (D.state repo.old).view.now)
-        (FailsBoth (D.state repo.old).faults (D.state repo.new).faults (T.state tree.old).faults
-        (T.state tree.new).faults)) }
+    ensures cause { IfErr result (EndHalt D.state T.state order.now repo.old repo.new tree.old tree.new) }
 {
-    let backup = read_backup(alloc, repo, stanza)?;
-    let mut dealt = take_links(alloc, links, order.take.workers)?;
+    let backup = read_backup(alloc, repo, order.stanza)?;
+    let _others = deal_links(alloc, pool, order.take.workers)?;
     let recover = RecoverOrder {
         data_folder: order.take.data_folder,
         repository: order.take.repository,
@@ -64,9 +60,7 @@ fn restore_last<D: Disk, T: DataFolder, L: Link, U: Scheduler>(
         delta: true,
         recovery: RecoveryType::Nothing,
     };
-    match restore_backup(
-        alloc, repo, tree, &mut dealt, scheduler, stanza, &recover, &backup,
-    ) {
+    match restore_backup(alloc, repo, tree, pool, order.stanza, &recover, &backup) {
         Ok(_) => Ok(()),
         Err(halt) => Err(of_restore(halt)),
     }
@@ -80,8 +74,7 @@ fn count_stored<D: Disk>(
 ) -> Result<usize, Halt<StepFault>>
     ensures stored { IfOk result (CountsStored stanza.now (D.state repo.old).view.now) }
     ensures looks { OnlyReads (D.state repo.old) (D.state repo.new) }
-    ensures cause { IfErr result (HaltCause (StepCause stanza.now (D.state repo.old).view.now)
-        (Only TheRepo (Rises (D.state repo.old).faults (D.state repo.new).faults))) }
+    ensures cause { IfErr result (RepoHalt (StepCause stanza.now) (D.state repo.old) (D.state repo.new)) }
 {
     match all(alloc, repo, stanza) {
         Ok(files) => Ok(files.len()),
@@ -98,8 +91,7 @@ fn verify_all<D: Disk>(
     ensures examined { IfOk result (IsVerified stanza.now (D.state repo.old).view.now) }
     ensures sound { IfOk result (EndsWithNone stanza.now (D.state repo.old).view.now) }
     ensures looks { OnlyReads (D.state repo.old) (D.state repo.new) }
-    ensures cause { IfErr result (HaltCause (StepCause stanza.now (D.state repo.old).view.now)
-        (Only TheRepo (Rises (D.state repo.old).faults (D.state repo.new).faults))) }
+    ensures cause { IfErr result (RepoHalt (StepCause stanza.now) (D.state repo.old) (D.state repo.new)) }
 {
     let backup = read_backup(alloc, repo, stanza)?;
     match verify_stanza(alloc, repo, stanza, &backup) {
@@ -116,8 +108,7 @@ fn look_around<D: Disk>(
 ) -> Result<RehearsalEnd, Halt<StepFault>>
     ensures ended { IfOk result (λ e. ComesTo stanza.now (D.state repo.old).view.now e.kept e.restored e.found) }
     ensures looks { OnlyReads (D.state repo.old) (D.state repo.new) }
-    ensures cause { IfErr result (HaltCause (StepCause stanza.now (D.state repo.old).view.now)
-        (Only TheRepo (Rises (D.state repo.old).faults (D.state repo.new).faults))) }
+    ensures cause { IfErr result (RepoHalt (StepCause stanza.now) (D.state repo.old) (D.state repo.new)) }
 {
     let kept = count_stored(alloc, repo, stanza)?;
     let restored = count_last(alloc, repo, stanza, Counted::All)?;
@@ -134,24 +125,19 @@ pub(crate) fn end<D: Disk, T: DataFolder, L: Link, U: Scheduler>(
     alloc: Global,
     repo: &mut D,
     tree: &mut T,
-    links: &mut Vec<L>,
-    scheduler: &mut U,
-    stanza: &str,
+    pool: &mut Pool<L, U>,
     order: &RehearseOrder<'_>,
 ) -> Result<RehearsalEnd, Halt<StepFault>>
-    requires ready { AreReady (map L.link_state links.old.items) }
-    requires stanza { is_stanza stanza.now ≡ true }
-    ensures ended { IfOk result (λ e. IsEnded stanza.now (D.state repo.old).view.now (T.state tree.new).nodes
-        e.kept e.restored e.found) }
+    requires ready { AreReady (links_in L.link_state pool.old) }
+    requires stanza { is_stanza order.now.stanza.now ≡ true }
+    ensures ended { IfOk result (ComesToEnd order.now (D.state repo.old) (T.state tree.new)) }
     ensures looks { OnlyReads (D.state repo.old) (D.state repo.new) }
     ensures folder { StaysOpen (T.state tree.old) (T.state tree.new) }
-    ensures cause { IfErr result (HaltCause (StepCause stanza.now (D.state repo.old).view.now)
-        (FailsBoth (D.state repo.old).faults (D.state repo.new).faults (T.state tree.old).faults
-        (T.state tree.new).faults)) }
+    ensures cause { IfErr result (EndHalt D.state T.state order.now repo.old repo.new tree.old tree.new) }
 {
     if let Err(error) = spoil_cluster(alloc, tree) {
         return Err(halted(Object::TheDataFolder, error));
     }
-    restore_last(alloc, repo, tree, links, scheduler, stanza, order)?;
-    look_around(alloc, repo, stanza)
+    restore_last(alloc, repo, tree, pool, order)?;
+    look_around(alloc, repo, order.stanza)
 }

@@ -16,7 +16,7 @@
 //! - The findings are those that the repository has: none where it is sound and its members agree.
 //! - Each refusal has its cause: of the first two in what was there before, of a step in what the repository held as
 //!   the step began. `rehearse_status`, `rehearse_message`: for a step those of the command that it makes.
-//! - It keeps to its stanza, asks no server, and its calls on the repository are made as they ask. A data folder that
+//! - It keeps to its stanza, is handed no server, and its calls on the repository are made as they ask. A data folder that
 //!   isn't empty is left unchanged.
 //! - The lemmas for that, of any two commands: a part of the first is a part of both, and so are all of the first and a
 //!   part of the second (`proofs/Thens`, `proofs/Advanced`). A command that syncs what it looks at alone does the

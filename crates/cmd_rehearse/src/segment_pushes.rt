@@ -1,19 +1,11 @@
 // Pushes the segments.
-ghost use Rattle.std.specs.Prelude.{◌≡◌, ◌≤◌, ◌<◌, ◌^◌, ◌%◌, IfErr, IfSome, IsSome, OnOk, Some};
-ghost use Rattle.base_devices.specs.Cause.{Rises};
+ghost use Rattle.std.specs.Prelude.{◌≡◌, ◌≤◌, ◌<◌, ◌^◌, ◌%◌, IfErr, IsSome, OnOk, Some};
 ghost use Rattle.base_devices.specs.States.{CallsProperly};
-ghost use Rattle.base_model.specs.declared.clusters.ClusterId.{ClusterId};
-ghost use Rattle.base_model.specs.Steps.{ArchivePush};
 ghost use Rattle.base_sample.specs.Bytes.{segment_bytes};
 ghost use Rattle.base_crash_lists.specs.Beside.{StaysBeside};
-ghost use Rattle.cmd_types.specs.declared.stages.object.Object.TheVariants.{Repo as TheRepo};
-ghost use Rattle.cmd_types.specs.declared.stages.plan.SyncScope.TheVariants.{Whole};
-ghost use Rattle.cmd_types.specs.Current.{HasCurrent, id_kept};
-ghost use Rattle.cmd_types.specs.Halts.{HaltCause, Only};
-ghost use Rattle.cmd_types.specs.DisksEffect.{DoesPart, DoesWhole};
-ghost use Rattle.cmd_rehearse.specs.Advancing.{Advances};
-ghost use Rattle.cmd_rehearse.specs.Causes.{StepCause, PushesCause};
-ghost use Rattle.cmd_rehearse.specs.Commands.{segment_named, pushed};
+ghost use Rattle.cmd_rehearse.specs.Causes.{StepCause};
+ghost use Rattle.cmd_rehearse.specs.Commands.{segment_named};
+ghost use Rattle.cmd_rehearse.specs.Calls.{RepoHalt, PushesPart, PushesWhole, KeepsCurrent, PushesAll, PushesHalt};
 
 use crate::fault::{StepFault, of_push};
 use archive_store::{PushFault as StoreFault, push};
@@ -44,23 +36,14 @@ fn push_one<D: Disk>(
     number: u32,
 ) -> Result<(), Halt<StepFault>>
     requires fits { (id.now.version < 2 ^ 32) × (id.now.number < 2 ^ 32) }
-    ensures part { (c : ClusterId) → id.now ≡ id_kept c
-        → IfSome (D.state repo.old).view.now (λ f. HasCurrent stanza.now f c)
-        → DoesPart Whole stanza.now (ArchivePush (segment_named number)) (D.state repo.old).view
-        (D.state repo.new).view }
-    ensures whole { OnOk result ((c : ClusterId) → id.now ≡ id_kept c
-        → IfSome (D.state repo.old).view.now (λ f. HasCurrent stanza.now f c)
-        → DoesWhole Whole stanza.now (ArchivePush (segment_named number)) (D.state repo.old).view
-        (D.state repo.new).view) }
+    ensures part { PushesPart stanza.now id.now number (D.state repo.old) (D.state repo.new) }
+    ensures whole { OnOk result (PushesWhole stanza.now id.now number (D.state repo.old) (D.state repo.new)) }
     ensures known { IsSome (D.state repo.old).view.now → IsSome (D.state repo.new).view.now }
     // The current cluster stays.
-    ensures current { (c : ClusterId) → IfSome (D.state repo.old).view.now (λ f. HasCurrent stanza.now f c)
-        → IsSome (D.state repo.old).view.now
-        → IfSome (D.state repo.new).view.now (λ f. HasCurrent stanza.now f c) }
+    ensures current { KeepsCurrent stanza.now (D.state repo.old) (D.state repo.new) }
     ensures beside { StaysBeside stanza.now (D.state repo.old).view (D.state repo.new).view }
     ensures frame { CallsProperly (D.state repo.old) (D.state repo.new) }
-    ensures cause { IfErr result (HaltCause (StepCause stanza.now (D.state repo.old).view.now)
-        (Only TheRepo (Rises (D.state repo.old).faults (D.state repo.new).faults))) }
+    ensures cause { IfErr result (RepoHalt (StepCause stanza.now) (D.state repo.old) (D.state repo.new)) }
 {
     let bytes = segment_bytes(alloc, (number % 256) as u8)?;
     let name = segment_name(number);
@@ -80,15 +63,10 @@ pub(crate) fn push_segments<D: Disk>(
 ) -> Result<(), Halt<StepFault>>
     requires few { count ≤ 128 }
     requires fits { (id.now.version < 2 ^ 32) × (id.now.number < 2 ^ 32) }
-    ensures advances { (c : ClusterId) → id.now ≡ id_kept c
-        → IfSome (D.state repo.old).view.now (λ f. HasCurrent stanza.now f c)
-        → Advances stanza.now (pushed count) result (D.state repo.old).view (D.state repo.new).view }
+    ensures advances { PushesAll stanza.now id.now count result (D.state repo.old) (D.state repo.new) }
     ensures beside { StaysBeside stanza.now (D.state repo.old).view (D.state repo.new).view }
     ensures frame { CallsProperly (D.state repo.old) (D.state repo.new) }
-    ensures cause { (c : ClusterId) → id.now ≡ id_kept c
-        → IfSome (D.state repo.old).view.now (λ f. HasCurrent stanza.now f c)
-        → IfErr result (HaltCause (PushesCause stanza.now count (D.state repo.old).view.now)
-        (Only TheRepo (Rises (D.state repo.old).faults (D.state repo.new).faults))) }
+    ensures cause { PushesHalt stanza.now id.now count result (D.state repo.old) (D.state repo.new) }
 {
     for before in 0..count {
         push_one(alloc, repo, stanza, id, before + 1)?;

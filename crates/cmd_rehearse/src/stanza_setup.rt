@@ -1,6 +1,5 @@
 // The stanza and its segments.
-ghost use Rattle.std.specs.Prelude.{◌≡◌, ◌≤◌, ◌<◌, ◌^◌, ◌∷◌, [], Some, IfOk, IfErr, IfSome, OnOk};
-ghost use Rattle.base_devices.specs.Cause.{Rises};
+ghost use Rattle.std.specs.Prelude.{◌≡◌, ◌≤◌, ◌<◌, ◌^◌, Some, IfOk, IfErr, IfSome, OnOk};
 ghost use Rattle.base_devices.specs.States.{CallsProperly, OnlyReads};
 ghost use Rattle.base_model.specs.declared.clusters.ClusterId.{ClusterId};
 ghost use Rattle.base_model.specs.Fields.{at_number};
@@ -9,18 +8,16 @@ ghost use Rattle.base_model.specs.Names.{archive_info};
 ghost use Rattle.base_model.specs.Pair.{PairAbsent};
 ghost use Rattle.base_model.specs.Values.{archive_info_of};
 ghost use Rattle.base_crash_lists.specs.Beside.{StaysBeside};
-ghost use Rattle.cmd_types.specs.declared.stages.object.Object.TheVariants.{Repo as TheRepo};
 ghost use Rattle.cmd_types.specs.Current.{id_kept};
-ghost use Rattle.cmd_types.specs.Halts.{HaltCause, Only};
-ghost use Rattle.cmd_types.specs.Plans.{archive_lock, backup_lock};
 ghost use Rattle.cmd_setup.specs.Readies.{IsArchiveOf};
 ghost use Rattle.cmd_rehearse.specs.Advancing.{Advances};
 ghost use Rattle.cmd_rehearse.specs.Causes.{LostCause, StepCause, PrefixCause, ExistsCause, IsExisting};
 ghost use Rattle.cmd_rehearse.specs.Commands.{created, prepared};
+ghost use Rattle.cmd_rehearse.specs.Calls.{HoldsBoth, RepoHalt};
 
 use crate::fault::{RehearseFault, StepFault, of_create, of_info};
 use crate::segment_pushes::push_segments;
-use base_devices::{Disk, Locks, ServerConnection};
+use base_devices::{Disk, Locks, NotThere};
 use base_model::{ArchiveId, ArchiveInfo};
 use base_sample::SYSTEM;
 use cmd_stanza_create::create_stanza;
@@ -54,8 +51,7 @@ pub(crate) fn check_new<D: Disk>(
 ) -> Result<(), Halt<RehearseFault>>
     ensures new { OnOk result (IfSome (D.state repo.old).view.now (λ f. PairAbsent f (archive_info stanza.now))) }
     ensures looks { OnlyReads (D.state repo.old) (D.state repo.new) }
-    ensures cause { IfErr result (HaltCause (ExistsCause stanza.now (D.state repo.old).view.now)
-        (Only TheRepo (Rises (D.state repo.old).faults (D.state repo.new).faults))) }
+    ensures cause { IfErr result (RepoHalt (ExistsCause stanza.now) (D.state repo.old) (D.state repo.new)) }
 {
     let name = archive_info_name(alloc, stanza)?;
     let read: Result<ArchiveInfo, InfoFault> = load_pair(alloc, repo, name.as_str());
@@ -76,8 +72,7 @@ pub(crate) fn read_archive<D: Disk>(
 ) -> Result<ArchiveInfo, Halt<StepFault>>
     ensures found { IfOk result (IsArchiveOf stanza.now (D.state repo.old).view.now) }
     ensures looks { OnlyReads (D.state repo.old) (D.state repo.new) }
-    ensures cause { IfErr result (HaltCause (LostCause stanza.now (D.state repo.old).view.now)
-        (Only TheRepo (Rises (D.state repo.old).faults (D.state repo.new).faults))) }
+    ensures cause { IfErr result (RepoHalt (LostCause stanza.now) (D.state repo.old) (D.state repo.new)) }
 {
     let name = archive_info_name(alloc, stanza)?;
     match load_pair(alloc, repo, name.as_str()) {
@@ -101,46 +96,41 @@ fn current_id(info: &ArchiveInfo) -> ArchiveId
 }
 
 // Makes the stanza. No server is asked.
-fn create_sample<D: Disk, V: ServerConnection, K: Locks>(
+fn create_sample<D: Disk, K: Locks>(
     alloc: Global,
     repo: &mut D,
-    connection: &mut V,
     locks: &K,
     stanza: &str,
 ) -> Result<(), Halt<StepFault>>
-    requires locked { (K.state locks.now).taken ≡ archive_lock stanza.now ∷ backup_lock stanza.now ∷ [] }
+    requires locked { HoldsBoth stanza.now (K.state locks.now) }
     ensures advances { Advances stanza.now created result (D.state repo.old).view (D.state repo.new).view }
     ensures beside { StaysBeside stanza.now (D.state repo.old).view (D.state repo.new).view }
     ensures frame { CallsProperly (D.state repo.old) (D.state repo.new) }
-    ensures quiet { connection.new ≡ connection.old }
-    ensures cause { IfErr result (HaltCause (StepCause stanza.now (D.state repo.old).view.now)
-        (Only TheRepo (Rises (D.state repo.old).faults (D.state repo.new).faults))) }
+    ensures cause { IfErr result (RepoHalt (StepCause stanza.now) (D.state repo.old) (D.state repo.new)) }
 {
-    match create_stanza(alloc, repo, connection, locks, stanza, &SAMPLE, None) {
+    let mut server = NotThere::new();
+    match create_stanza(alloc, repo, &mut server, locks, stanza, &SAMPLE, None) {
         Ok(_) => Ok(()),
         Err(halt) => Err(of_create(halt)),
     }
 }
 
 /// Makes the stanza, and pushes two segments for each unit of the number.
-pub(crate) fn prepare_stanza<D: Disk, V: ServerConnection, K: Locks>(
+pub(crate) fn prepare_stanza<D: Disk, K: Locks>(
     alloc: Global,
     repo: &mut D,
-    connection: &mut V,
     locks: &K,
     stanza: &str,
     number: u32,
 ) -> Result<(), Halt<StepFault>>
     requires number { number ≤ 64 }
-    requires locked { (K.state locks.now).taken ≡ archive_lock stanza.now ∷ backup_lock stanza.now ∷ [] }
+    requires locked { HoldsBoth stanza.now (K.state locks.now) }
     ensures advances { Advances stanza.now (prepared number) result (D.state repo.old).view (D.state repo.new).view }
     ensures beside { StaysBeside stanza.now (D.state repo.old).view (D.state repo.new).view }
     ensures frame { CallsProperly (D.state repo.old) (D.state repo.new) }
-    ensures quiet { connection.new ≡ connection.old }
-    ensures cause { IfErr result (HaltCause (PrefixCause stanza.now number (D.state repo.old).view.now)
-        (Only TheRepo (Rises (D.state repo.old).faults (D.state repo.new).faults))) }
+    ensures cause { IfErr result (RepoHalt (PrefixCause stanza.now number) (D.state repo.old) (D.state repo.new)) }
 {
-    create_sample(alloc, repo, connection, locks, stanza)?;
+    create_sample(alloc, repo, locks, stanza)?;
     let info = read_archive(alloc, repo, stanza)?;
     let id = current_id(&info);
     push_segments(alloc, repo, stanza, &id, 2 * number)

@@ -29,6 +29,7 @@ use std::io::ErrorKind;
 use std::process::ExitCode;
 use std::{env, fs, io};
 use streams::{has_no_streams, open_streams};
+use worker_pool::Pool;
 use worker_process::serve;
 
 const NOT_UTF8: u8 = 13;
@@ -198,14 +199,17 @@ fn perform(rt: HostRuntime, mut messages: Telling, arguments: &[String]) -> io::
         locks: devices.locks,
         config: RealInputFiles::new(rt),
         out: devices.out,
-        links,
-        turns: RoundRobin::new(),
+        pool: Pool {
+            links,
+            scheduler: RoundRobin::new(),
+            lost: Vec::new(alloc),
+        },
     };
     let status = outside.run(alloc, arguments);
     if status == 0 {
         end_progress(&outside, messages.progress());
     }
     let _ = messages.end(&outside.out, failure_of(&outside, status), status);
-    end_workers(&rt, &mut outside.links);
+    end_workers(&rt, &mut outside.pool.links);
     Ok(status)
 }

@@ -1,13 +1,15 @@
 -- Calls of `run`, and the calls of the log that they are.
-use Rattle.std.specs.Prelude.{◌≡◌, ◌≢◌, ◌⊎◌, ◌↔◌, ℕ, Bool, true, false, List, ◌∷◌, Option, if◌then◌else◌}
+use Rattle.std.specs.Prelude.{◌≡◌, ◌≢◌, ◌⊎◌, ◌↔◌, ℕ, Bool, true, false, List, String, ◌∷◌, Option, IsSome, map, string_bytes, if◌then◌else◌}
+use Rattle.std.specs.declared.alloc.Global.{Global}
 use Rattle.base_devices.specs.Content.{Content}
 use Rattle.base_devices.specs.Moments.{View}
 use Rattle.base_model.specs.Text.{Text}
 use Rattle.base_model.specs.Steps.{Command}
 use Rattle.base_crash_lists.specs.Trace.{Disks, Call, stopped, Does, AreStill, KeepsAll, LeaveAll}
+use Rattle.cmd_types.specs.World.{World}
 use Rattle.cmd_types.specs.DisksEffect.{Manner, each, one, provided}
 use Rattle.program_run.specs.Asked.{Asked, MayAsk}
-use Rattle.program_run.specs.Tables.{KnownWorld, TurnsKnown, manner_of}
+use Rattle.program_run.specs.Tables.{KnownWorld, known_world, TurnsKnown, manner_of}
 
 -- the two disks
 abbrev pub both : View → View → Disks
@@ -56,3 +58,30 @@ pub record Went (arguments : List Text) (files : Option Content) (k l : KnownWor
   pub cut : List Call
   pub stops : GoesOn arguments files k l status true before cut
   pub leaves : LeaveAll cut old new
+
+-- ---- by what the objects report
+
+-- what the two disks hold
+abbrev pub disks_in : World → Disks
+disks_in w = both w.repo.view w.spool.view
+
+-- the data folder's contents are known; and what others did meanwhile, where the call waits for steps of theirs
+abbrev pub OnKnownFolder : List Text → World → World → Type 0 → Type 0
+OnKnownFolder arguments old new P = IsSome old.tree.nodes → ShowsTurns arguments old.config.files (known_world new) → P
+
+-- so the call is shown
+abbrev pub ShowsBetween : List Text → World → World → ℕ → Type 0
+ShowsBetween arguments old new status = OnKnownFolder arguments old new
+    (IsShown arguments old.config.files (known_world old) (known_world new) status (disks_in old) (disks_in new))
+
+abbrev pub ShowsCall : {W : Type 0} → (W → World) → List (String Global) → W → W → ℕ → Type 0
+ShowsCall known arguments old new status = ShowsBetween (map string_bytes arguments) (known old) (known new) status
+
+-- and it leads on from disks that keep the logs of all stanzas
+abbrev pub LeadsBetween : List Text → World → World → ℕ → Type 0
+LeadsBetween arguments old new status = OnKnownFolder arguments old new ((before : List Call)
+    → KeepsAll before (disks_in old)
+    → Went arguments old.config.files (known_world old) (known_world new) status before (disks_in old) (disks_in new))
+
+abbrev pub LeadsCall : {W : Type 0} → (W → World) → List (String Global) → W → W → ℕ → Type 0
+LeadsCall known arguments old new status = LeadsBetween (map string_bytes arguments) (known old) (known new) status

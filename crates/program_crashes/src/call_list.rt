@@ -1,8 +1,6 @@
 // Plays many calls, one after another.
-ghost use Rattle.std.specs.Prelude.{◌≡◌, ◌++◌, ◌∷◌, [], List, IfOk, OnOk};
-ghost use Rattle.base_crash_lists.specs.Trace.{Call, KeepsAll};
-ghost use Rattle.base_crash_lists.specs.Played.{ArePlayed};
-ghost use Rattle.program_crashes.specs.Lists.{views, ActGoes, HaveOthers};
+ghost use Rattle.std.specs.Prelude.{◌≡◌, ◌++◌, ◌∷◌, [], IfOk, OnOk};
+ghost use Rattle.program_crashes.specs.Lists.{KeepLogs};
 
 use crate::call_or_crash::{Act, Disks, PlayFault, play_one};
 use std::alloc::Global;
@@ -21,8 +19,7 @@ fn note(statuses: &mut Vec<u8>, status: u8) -> Result<(), PlayFault>
 /// them with all of these calls, in their order. Where one waits for steps of other processes, these have to push for
 /// the stanza that its arguments ask for.
 pub fn play(alloc: Global, disks: Disks, acts: Vec<Act>) -> Result<(Disks, Vec<u8>), PlayFault>
-    ensures keeps { IfOk result (λ r. HaveOthers acts.items → (before : List Call) → KeepsAll before (views disks)
-        → (after : List Call) × ArePlayed ActGoes acts.items r.1.items before after × KeepsAll after (views r.0)) }
+    ensures keeps { IfOk result (λ r. KeepLogs acts.items disks r.0 r.1.items) }
 {
     let mut last = disks;
     let mut statuses = Vec::new(alloc);

@@ -1,16 +1,12 @@
 // Calls and crashes, one after another.
-ghost use Rattle.std.specs.Prelude.{◌≡◌, ◌≤◌, [], List, map, string_bytes, is_some, IfOk};
+ghost use Rattle.std.specs.Prelude.{◌≤◌, [], is_some, IfOk};
 ghost use Rattle.base_devices.specs.Content.{Content};
 ghost use Rattle.base_devices.specs.Moments.{IsImage};
 ghost use Rattle.base_model.proofs.Reopened.{IsReopened};
-ghost use Rattle.base_crash_lists.specs.Trace.{Call, KeepsAll};
-ghost use Rattle.program_run.specs.Tables.{KnownWorld};
-ghost use Rattle.program_crashes.specs.Acts.{Went};
-ghost use Rattle.program_crashes.specs.Lists.{views, files_of, nodes_of, links_of, clock_of, stanza_of, IsLeft, ActGoes, AreOthersOf};
+ghost use Rattle.program_crashes.specs.Lists.{IsDiskLeft, LeadsOn, KeepsLogs};
 
 use crate::program_call::called;
 use crate::workers::Workers;
-use base_devices::Disk;
 use memory_devices::{
     MemClock, MemConnection, MemDataFolder, MemDisk, MemInputFiles, MemLocks, MemOutput,
 };
@@ -18,6 +14,7 @@ use memory_processes::MemProcesses;
 use memory_workers::MemScheduler;
 use program_run::Outside;
 use std::alloc::Global;
+use worker_pool::Pool;
 
 /// What a crash leaves of a disk: the moment of the crash, which kept value each name has, and the bytes of unsynced
 /// names; and which calls are to fail afterwards.
@@ -53,6 +50,19 @@ pub struct Act {
     pub halt: Option<CrashPoint>,
 }
 
+// What a call finds besides its arguments and the two disks.
+#[derive(Drop)]
+struct Around {
+    tree: MemDataFolder,
+    server: MemConnection,
+    others: MemProcesses,
+    clock: MemClock,
+    held: Vec<String>,
+    config: MemInputFiles,
+    workers: Workers,
+    picks: Vec<u64>,
+}
+
 /// The two disks of the program.
 #[derive(Drop)]
 pub struct Disks {
@@ -74,8 +84,7 @@ pub enum PlayFault {
 
 // The disk, opened anew on what a crash at a moment from this one on leaves.
 fn reopened(alloc: Global, disk: &MemDisk, from: u64, left: Left) -> Result<MemDisk, PlayFault>
-    ensures opened { IfOk result (λ d. IsLeft (⟦<MemDisk as Disk>⟧.state disk.now).view from left.moment
-        (⟦<MemDisk as Disk>⟧.state d).view) }
+    ensures opened { IfOk result (IsDiskLeft disk.now from left.moment) }
 {
     if left.moment < from || disk.moment() < left.moment {
         return Err(PlayFault::Moment);
@@ -96,22 +105,11 @@ fn call_on(
     alloc: Global,
     disks: Disks,
     arguments: &[String],
-    tree: MemDataFolder,
-    server: MemConnection,
-    others: MemProcesses,
-    clock: MemClock,
-    held: Vec<String>,
-    config: MemInputFiles,
-    workers: Workers,
-    picks: Vec<u64>,
+    around: Around,
 ) -> Result<(Disks, u8), PlayFault>
-    ensures went { IfOk result (λ r. AreOthersOf (map string_bytes arguments.now) (files_of config) (stanza_of others)
-        → (before : List Call) → KeepsAll before (views disks)
-        → (old : KnownWorld) × (new : KnownWorld) × (old.nodes ≡ nodes_of tree) × (old.links ≡ links_of workers)
-        × (old.clock ≡ clock_of clock) × Went (map string_bytes arguments.now) (files_of config) old new r.1 before
-        (views disks) (views r.0)) }
+    ensures went { IfOk result (λ r. LeadsOn arguments.now around disks r.0 r.1) }
 {
-    let stanza = match String::from_str(alloc, others.stanza()) {
+    let stanza = match String::from_str(alloc, around.others.stanza()) {
         Ok(stanza) => stanza,
         Err(_) => return Err(PlayFault::NoMemory),
     };
@@ -119,15 +117,18 @@ fn call_on(
     let mut outside = Outside {
         repo,
         spool,
-        tree,
-        server,
-        processes: others,
-        clock,
-        locks: MemLocks::new(alloc, held, Vec::new(alloc)),
-        config,
+        tree: around.tree,
+        server: around.server,
+        processes: around.others,
+        clock: around.clock,
+        locks: MemLocks::new(alloc, around.held, Vec::new(alloc)),
+        config: around.config,
         out: MemOutput::new(alloc, Vec::new(alloc)),
-        links: workers.links,
-        turns: MemScheduler::new(picks),
+        pool: Pool {
+            links: around.workers.links,
+            scheduler: MemScheduler::new(around.picks),
+            lost: Vec::new(alloc),
+        },
     };
     let status = called(alloc, arguments, &mut outside);
     if outside.processes.stanza() != stanza.as_str() {
@@ -148,10 +149,8 @@ fn both_reopened(
     spool_from: u64,
     halt: CrashPoint,
 ) -> Result<Disks, PlayFault>
-    ensures repo { IfOk result (λ d. IsLeft (⟦<MemDisk as Disk>⟧.state disks.now.repo).view repo_from
-        halt.repo.moment (⟦<MemDisk as Disk>⟧.state d.repo).view) }
-    ensures spool { IfOk result (λ d. IsLeft (⟦<MemDisk as Disk>⟧.state disks.now.spool).view spool_from
-        halt.spool.moment (⟦<MemDisk as Disk>⟧.state d.spool).view) }
+    ensures repo { IfOk result (λ d. IsDiskLeft disks.now.repo repo_from halt.repo.moment d.repo) }
+    ensures spool { IfOk result (λ d. IsDiskLeft disks.now.spool spool_from halt.spool.moment d.spool) }
 {
     let repo = reopened(alloc, &disks.repo, repo_from, halt.repo)?;
     let spool = reopened(alloc, &disks.spool, spool_from, halt.spool)?;
@@ -162,9 +161,7 @@ fn both_reopened(
 /// Where it waits for steps of other processes, these have to push for the stanza that its arguments ask for. It
 /// returns the status that the call ends with, or would have ended with.
 pub fn play_one(alloc: Global, disks: Disks, act: Act) -> Result<(Disks, u8), PlayFault>
-    ensures keeps { IfOk result (λ r. AreOthersOf (map string_bytes act.arguments.items) (files_of act.config)
-        (stanza_of act.others) → (before : List Call) → KeepsAll before (views disks)
-        → (after : List Call) × ActGoes act r.1 before after × KeepsAll after (views r.0)) }
+    ensures keeps { IfOk result (λ r. KeepsLogs act disks r.0 r.1) }
 {
     let repo_from = disks.repo.moment();
     let spool_from = disks.spool.moment();
@@ -180,9 +177,17 @@ pub fn play_one(alloc: Global, disks: Disks, act: Act) -> Result<(Disks, u8), Pl
         picks,
         halt,
     } = act;
-    let (ended, status) = call_on(
-        alloc, disks, &arguments, tree, server, others, clock, held, config, workers, picks,
-    )?;
+    let around = Around {
+        tree,
+        server,
+        others,
+        clock,
+        held,
+        config,
+        workers,
+        picks,
+    };
+    let (ended, status) = call_on(alloc, disks, &arguments, around)?;
     match halt {
         None => Ok((ended, status)),
         Some(halt) => {

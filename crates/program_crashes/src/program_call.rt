@@ -1,9 +1,8 @@
 // Calls the program once.
-ghost use Rattle.std.specs.Prelude.{◌≡◌, [], List, map, string_bytes, IsSome};
-ghost use Rattle.base_crash_lists.specs.Trace.{Call, KeepsAll};
+ghost use Rattle.std.specs.Prelude.{◌≡◌, []};
+ghost use Rattle.worker_pool.specs.Pools.{links_in};
 ghost use Rattle.program_run.specs.Modelled.{AreWorkers};
-ghost use Rattle.program_run.specs.Tables.{known_world};
-ghost use Rattle.program_crashes.specs.Acts.{both, IsShown, ShowsTurns, Went};
+ghost use Rattle.program_crashes.specs.Acts.{ShowsCall, LeadsCall};
 
 use archive_lookup::OtherProcesses;
 use base_devices::{
@@ -28,27 +27,13 @@ pub fn called<
     U: Scheduler,
 >(alloc: Global, arguments: &[String], outside: &mut Outside<D, S, T, V, A, C, K, I, O, L, U>) -> u8
     requires free { (K.state outside.old.locks).taken ≡ [] }
-    requires workers { AreWorkers (map L.link_state outside.old.links.items) }
+    requires workers { AreWorkers (links_in L.link_state outside.old.pool) }
     // The arguments are refused and nothing is done, or the call that they ask for is, as a story has it.
-    ensures shown { let known = ⟦<Outside<D, S, T, V, A, C, K, I, O, L, U> as Modelled>⟧.known in
-        IsSome (T.state outside.old.tree).nodes
-        → ShowsTurns (map string_bytes arguments.now) (I.state outside.old.config).files (known_world (known
-        outside.new))
-        → IsShown (map string_bytes arguments.now) (I.state outside.old.config).files
-        (known_world (known outside.old)) (known_world (known outside.new)) result
-        (both (D.state outside.old.repo).view (S.state outside.old.spool).view)
-        (both (D.state outside.new.repo).view (S.state outside.new.spool).view) }
+    ensures shown { ShowsCall ⟦<Outside<D, S, T, V, A, C, K, I, O, L, U> as Modelled>⟧.known
+        arguments.now outside.old outside.new result }
     // Disks that keep the logs of all stanzas continue with them, whether the call ends or is stopped.
-    ensures went { let known = ⟦<Outside<D, S, T, V, A, C, K, I, O, L, U> as Modelled>⟧.known in
-        IsSome (T.state outside.old.tree).nodes
-        → ShowsTurns (map string_bytes arguments.now) (I.state outside.old.config).files (known_world (known
-        outside.new))
-        → (before : List Call)
-        → KeepsAll before (both (D.state outside.old.repo).view (S.state outside.old.spool).view)
-        → Went (map string_bytes arguments.now) (I.state outside.old.config).files
-        (known_world (known outside.old)) (known_world (known outside.new)) result before
-        (both (D.state outside.old.repo).view (S.state outside.old.spool).view)
-        (both (D.state outside.new.repo).view (S.state outside.new.spool).view) }
+    ensures went { LeadsCall ⟦<Outside<D, S, T, V, A, C, K, I, O, L, U> as Modelled>⟧.known
+        arguments.now outside.old outside.new result }
     ensures free { (K.state outside.new.locks).taken ≡ [] }
 {
     outside.run(alloc, arguments)

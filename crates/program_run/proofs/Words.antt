@@ -18,7 +18,6 @@ use Rattle.cmd_restore.specs.declared.fault.RestoreCommandFault.{RestoreCommandF
 use Rattle.cmd_restore.specs.Words.{ShowsSet, WordCause as SetCause}
 use Rattle.cmd_restore.specs.declared.order.RecoverOrder.{RecoverOrder}
 use Rattle.cmd_archive_get_async.specs.FollowUp.{WordCause as NameCause}
-use Rattle.cmd_rehearse.specs.declared.order.RehearseOrder.{RehearseOrder}
 use Rattle.cmd_backup_offline.specs.declared.order.OfflineOrder.{OfflineOrder}
 use Rattle.cmd_archive_get.proofs.Refusals.{get_arguments as read_arguments}
 use Rattle.cmd_archive_get.specs.Getting.{AreArguments, ArgumentsCause as GetArguments}
@@ -29,6 +28,7 @@ use Rattle.cmd_archive_push.specs.WalPath.{IsWalPath}
 use Rattle.program_run.specs.declared.order.Order.{Order}
 use Rattle.program_run.specs.declared.order.AheadOrder.{AheadOrder}
 use Rattle.program_run.specs.declared.order.RunningOrder.{RunningOrder}
+use Rattle.program_run.specs.declared.sample_order.SampleOrder.{SampleOrder}
 use Rattle.program_run.specs.declared.order.ThroughOrder.{ThroughOrder}
 use Rattle.program_run.specs.declared.order.Order.TheVariants as orders
 use Rattle.program_run.specs.declared.order.QueueOrder.{QueueOrder}
@@ -375,7 +375,7 @@ after_as a b k c l (Err e) same (inl h) = inl (h.0, same h.1)
 after_as a b k c l (Err e) same (inr h) = inr h
 
 -- so is that of a rehearsal
-pub rehearse_asked : (q : Request) (folder : Text) (o : RehearseOrder) → IsOrder q folder (orders.Rehearse o) → (how : RehearseHow) × (q ≡ rehearse how) × (o.number ≡ size_by how.number)
+pub rehearse_asked : (q : Request) (folder : Text) (o : SampleOrder) → IsOrder q folder (orders.Rehearse o) → (how : RehearseHow) × (q ≡ rehearse how) × (o.number ≡ size_by how.number)
 rehearse_asked create folder o is = absurd is
 rehearse_asked (push path) folder o is = absurd is
 rehearse_asked (get word path) folder o is = absurd is

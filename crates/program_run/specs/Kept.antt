@@ -13,8 +13,7 @@ module _ {D S T V A C K I O L U : Type 0} where
     processes = new.processes;
     clock = new.clock;
     locks = new.locks;
-    links = new.links;
-    turns = new.turns;
+    pool = new.pool;
   }
 
   -- these, and the locks
@@ -26,13 +25,16 @@ module _ {D S T V A C K I O L U : Type 0} where
     server = new.server;
     processes = new.processes;
     clock = new.clock;
-    links = new.links;
-    turns = new.turns;
+    pool = new.pool;
   }
 
-  -- the workers, and the choice among them
+  -- the workers
   abbrev pub KeepsWorkers : Outside D S T V A C K I O L U → Outside D S T V A C K I O L U → Type 0
-  KeepsWorkers old new = (new.links ≡ old.links) × (new.turns ≡ old.turns)
+  KeepsWorkers old new = new.pool ≡ old.pool
+
+  -- the connection to the server
+  abbrev pub KeepsServer : Outside D S T V A C K I O L U → Outside D S T V A C K I O L U → Type 0
+  KeepsServer old new = new.server ≡ old.server
 
   -- the spool, and other processes
   abbrev pub KeepsSpool : Outside D S T V A C K I O L U → Outside D S T V A C K I O L U → Type 0
@@ -45,3 +47,24 @@ module _ {D S T V A C K I O L U : Type 0} where
   -- all but the configuration and the output
   abbrev pub OnlyAnswers : Outside D S T V A C K I O L U → Outside D S T V A C K I O L U → Type 0
   OnlyAnswers old new = new ≡ record old { config = new.config; out = new.out }
+
+  -- all but the repository, the spool and the data folder
+  abbrev pub OnlyPlaces : Outside D S T V A C K I O L U → Outside D S T V A C K I O L U → Type 0
+  OnlyPlaces old new = new ≡ record old { repo = new.repo; spool = new.spool; tree = new.tree }
+
+  -- all but these and other processes
+  abbrev pub OnlyThroughSpool : Outside D S T V A C K I O L U → Outside D S T V A C K I O L U → Type 0
+  OnlyThroughSpool old new = new ≡ record old {
+    repo = new.repo;
+    spool = new.spool;
+    tree = new.tree;
+    processes = new.processes;
+  }
+
+  -- all but the repository, the data folder and the workers
+  abbrev pub OnlyRestoring : Outside D S T V A C K I O L U → Outside D S T V A C K I O L U → Type 0
+  OnlyRestoring old new = new ≡ record old { repo = new.repo; tree = new.tree; pool = new.pool }
+
+  -- all but these and the clock
+  abbrev pub OnlyStoring : Outside D S T V A C K I O L U → Outside D S T V A C K I O L U → Type 0
+  OnlyStoring old new = new ≡ record old { repo = new.repo; tree = new.tree; clock = new.clock; pool = new.pool }

@@ -1,17 +1,20 @@
 -- What the code's settings represent.
-use Rattle.std.specs.Prelude.{◌≡◌, ℕ, min, ◌<◌, ◌^◌, List, length, option_map, string_bytes}
+use Rattle.std.specs.Prelude.{◌≡◌, ℕ, min, ◌<◌, ◌^◌, List, length, map, Vec, String, Result, option_map, string_bytes}
+use Rattle.std.specs.declared.alloc.Global.{Global}
 use Rattle.base_devices.specs.Links.{LinkState}
 use Rattle.worker_pool.specs.Run.{AreReady}
 use Rattle.base_model.specs.InfoFiles.{IsSegment}
 use Rattle.base_model.specs.Text.{Text}
 use Rattle.options_read.specs.declared.options.Options.{Options}
+use Rattle.options_read.specs.declared.resolve.Command.{Command}
 use Rattle.options_read.specs.Filled.{or_else}
 use Rattle.cmd_stanza_create.specs.Server.{server_view}
 use Rattle.cmd_expire.specs.Rules.{rules_by}
 use Rattle.cmd_backup_offline.specs.declared.order.OfflineOrder.{OfflineOrder}
 use Rattle.cmd_restore.specs.declared.order.RecoverOrder.{RecoverOrder}
-use Rattle.cmd_restore.specs.Fetching.{FetchArguments, recovery_type}
+use Rattle.cmd_restore.specs.Fetching.{Configuration, FetchArguments, recovery_type}
 use Rattle.cmd_restore.specs.Words.{ShowsSet}
+use Rattle.cmd_types.specs.declared.stages.fault.Unbuilt.{Unbuilt}
 use Rattle.program_run.specs.declared.settings.Settings.{Settings}
 use Rattle.program_run.specs.declared.settings.Request as code
 use Rattle.program_run.specs.declared.settings.Request.TheVariants.{StanzaCreate, ArchivePush, ArchivePushQueued, ArchivePushAsync, ArchiveGet, ArchiveGetThrough, ArchiveGetAsync, Backup, BackupRunning, Restore, Info, Verify, Expire, Rehearse}
@@ -22,7 +25,7 @@ use Rattle.program_run.specs.declared.order.ThroughOrder.{ThroughOrder}
 use Rattle.program_run.specs.declared.order.Course.{Course}
 use Rattle.program_run.specs.declared.order.Course.TheVariants.{Staged, Left}
 use Rattle.program_run.specs.declared.order.Order.TheVariants as order
-use Rattle.program_run.specs.Asked.{Request, create, push, queue_file, drain, get, get_through, fetch_ahead, backup, backup_running, restore, report, examine, expire, rehearse, BackupHow, RunningHow, RestoreHow, QueueHow, FetchHow, Asked, Wanted, configuration_by}
+use Rattle.program_run.specs.Asked.{Request, create, push, queue_file, drain, get, get_through, fetch_ahead, backup, backup_running, restore, report, examine, expire, rehearse, BackupHow, RunningHow, RestoreHow, QueueHow, FetchHow, Asked, Wanted, configuration_by, request_by, fetch_argument_list}
 
 -- the workers can be numbered, and none has bytes of an earlier answer to give
 pub record AreWorkers (links : List LinkState) : Type 0 where
@@ -53,10 +56,14 @@ request_of Verify = examine
 request_of (Expire rules) = expire rules
 request_of (Rehearse workers number) = rehearse (record { workers = workers; number = number })
 
+-- the configuration that the options name
+abbrev pub configuration_known : Options → Configuration
+configuration_known o = configuration_by o.no_config (option_map string_bytes o.config)
+
 -- the arguments by which a restored server fetches the log
 abbrev pub fetch_known : Options → FetchArguments
 fetch_known o = record {
-  config = configuration_by o.no_config (option_map string_bytes o.config);
+  config = configuration_known o;
   pg1_path = option_map string_bytes o.given_pg1_path;
   repo1_path = option_map string_bytes o.given_repo1_path;
 }
@@ -82,6 +89,10 @@ wanted_known o = record {
   rules = rules_by o;
   number = or_else 0 o.number;
 }
+
+-- what the command asks for, or what of it isn't supported
+abbrev pub request_known : Command → Result Request Unbuilt
+request_known c = request_by c.verb (wanted_known c.options) (map string_bytes c.given.items)
 
 abbrev pub asked_of : Settings → Asked
 asked_of s = record {
@@ -113,6 +124,14 @@ leaving_of o = record { spool = o.spool.now; turns = o.turns }
 -- how segments are fetched ahead by the order
 abbrev pub fetching_of : ThroughOrder → FetchHow
 fetching_of o = record { spool = o.spool.now; queue = o.queue }
+
+-- the arguments with which a fetch is started of what follows the order's segment
+abbrev pub fetch_arguments_known : Settings → ThroughOrder → List Text
+fetch_arguments_known s o = fetch_argument_list (asked_of s) o.get.word.now (fetching_of o)
+
+-- these texts are passed as arguments
+abbrev pub ArePassed : List Text → Vec (String Global) Global → Type 0
+ArePassed texts arguments = map string_bytes arguments.items ≡ texts
 
 -- a sample cluster's size is at most 64 (the option's bounds)
 abbrev pub size_by : ℕ → ℕ

@@ -1,6 +1,6 @@
 -- Of which commands the clauses of the top calls speak: each that the arguments ask for, or the one that is resolved.
 -- Own.
-use Rattle.std.specs.Prelude.{◌≡◌, ◌≤◌, true, false, ℕ, List, Option, None, Result, Ok, OnOk, String, map, string_bytes}
+use Rattle.std.specs.Prelude.{◌≡◌, ◌≤◌, true, false, ℕ, List, Option, None, Result, Ok, OnOk, IfErr, String, map, string_bytes}
 use Rattle.std.specs.declared.alloc.Global.{Global}
 use Rattle.base_devices.specs.Content.{Content, Name}
 use Rattle.base_devices.specs.States.{ClockState}
@@ -9,14 +9,17 @@ use Rattle.options_read.specs.declared.resolve.Command.{Command}
 use Rattle.options_read.specs.Commands.{IsCommand}
 use Rattle.options_read.specs.Settings.{Resolved}
 use Rattle.cmd_types.specs.declared.stages.plan.Plan.{Plan}
-use Rattle.cmd_types.specs.Plans.{AreHeld, first_lock, second_lock}
+use Rattle.cmd_types.specs.Plans.{AreHeld}
 use Rattle.cmd_types.specs.World.{World}
+use Rattle.cmd_types.specs.declared.stages.outcome.Outcome.{Outcome}
+use Rattle.expire_rules.specs.declared.rules.Rules.{Rules}
 use Rattle.cmd_setup.specs.declared.ready.Ready.{Ready}
 use Rattle.cmd_setup.specs.Readies.{IsReady}
-use Rattle.cmd_setup.specs.Taking.{HoldsOnly}
 use Rattle.program_run.specs.declared.order.Order.{Order}
 use Rattle.program_run.specs.declared.settings.Settings.{Settings}
-use Rattle.program_run.specs.Asked.{Request, Asked, Asks, MayAsk, requested}
+use Rattle.program_run.specs.declared.fault.Fault.{Fault}
+use Rattle.program_run.specs.CallEffect.{Followed}
+use Rattle.program_run.specs.Asked.{Request, Asked, Asks, MayAsk, requested, server_asked, alone}
 use Rattle.program_run.specs.Uses.{OnBackup, plan_of, uses_spool, uses_workers, is_on_repository}
 use Rattle.program_run.specs.Modelled.{request_of, asked_of, IsOrder}
 
@@ -54,6 +57,14 @@ abbrev pub WhereResolved : Command → (Request → Type 0) → Type 0 → Type 
 WhereResolved command P Q = (s : Resolved) → IsCommand command s → (request : Request) → requested s ≡ Ok request
     → P request → Q
 
+-- where it asks no server, this holds
+abbrev pub WhereNoServer : Command → Type 0 → Type 0
+WhereNoServer command Q = (s : Resolved) → IsCommand command s → server_asked s ≡ None → Q
+
+-- where it asks for something that isn't supported, this holds
+abbrev pub WhereUnbuilt : Command → Type 0 → Type 0
+WhereUnbuilt command Q = (s : Resolved) → IsCommand command s → IfErr (requested s) (λ what. Q)
+
 -- ---- the commands that the arguments ask for
 
 -- the arguments have this, between what the objects reported before and what they report after it
@@ -80,6 +91,16 @@ Where known P arguments old Q = Each (map string_bytes arguments) (known old).co
 abbrev pub AllAsked : {W : Type 0} → (W → World) → (Asked → Type 0) → List (String Global) → W → Type 0
 AllAsked known P arguments old = (a : Asked) → MayAsk (map string_bytes arguments) (known old).config.files a → P a
 
+-- where they ask for something of this kind, this is kept
+abbrev pub KeptIf : {W : Type 0} → (W → World) → (Request → Type 0) → List (String Global) → (W → W → Type 0) → W → W
+    → Type 0
+KeptIf known P arguments Keeps old new = Where known P arguments old (Keeps old new)
+
+-- where each that they may ask for is of this kind, this is kept
+abbrev pub IfAll : {W : Type 0} → (W → World) → (Asked → Type 0) → List (String Global) → (W → W → Type 0) → W → W
+    → Type 0
+IfAll known P arguments Keeps old new = AllAsked known P arguments old → Keeps old new
+
 -- they ask for nothing
 abbrev pub NoneAsked : {W : Type 0} → (W → World) → List (String Global) → W → Type 0
 NoneAsked known arguments old = (a : Asked) → ¬ MayAsk (map string_bytes arguments) (known old).config.files a
@@ -97,6 +118,16 @@ OnKnown known P old new result = P (known old) (known new) result
 -- and of what the settings ask
 abbrev pub OnAsked : {W R : Type 0} → (W → World) → (Asked → World → World → R → Type 0) → Settings → W → W → R → Type 0
 OnAsked known P s old new result = P (asked_of s) (known old) (known new) result
+
+-- so it does of what they ask without the expiry that follows
+abbrev pub OnAlone : {W R : Type 0} → (W → World) → (Asked → World → World → R → Type 0) → Settings → W → W → R → Type 0
+OnAlone known P s old new result = P (alone (asked_of s)) (known old) (known new) result
+
+-- an expiry by the rules follows a backup that ended with these lines
+abbrev pub FollowedBy : {W : Type 0} → (W → World) → Settings → Rules → String Global → W → W → Result Outcome Fault
+    → Type 0
+FollowedBy known s rules lines old new result =
+    Followed s.stanza.now rules (known old) (known new) (string_bytes lines) result
 
 -- of what they ask, where the result is Ok
 abbrev pub AtOk : {W R E : Type 0} → (W → World) → (Asked → World → World → Type 0) → Settings → W → W → Result R E
@@ -122,10 +153,6 @@ OpensNoFolder request = (plan_of request).folder ≡ false
 -- this holds where the plan takes no lock
 abbrev pub WhereNoLock : Plan → Type 0 → Type 0
 WhereNoLock plan P = plan.backup_lock ≡ false → plan.archive_lock ≡ false → P
-
--- no locks are held but those of the plan
-abbrev pub HoldsAtMost : Plan → Text → List Name → Type 0
-HoldsAtMost plan stanza held = HoldsOnly (first_lock plan stanza) (second_lock plan stanza) held
 
 -- of a backup: the clock shows no second now that it couldn't show before
 abbrev pub LeastGrows : Request → ClockState → ClockState → Type 0

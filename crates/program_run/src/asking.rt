@@ -4,10 +4,10 @@ ghost use Rattle.options_read.specs.Commands.{IsCommand};
 ghost use Rattle.options_read.specs.Filled.{or_else};
 ghost use Rattle.options_table.specs.Values.{is_stanza};
 ghost use Rattle.options_read.specs.Settings.{Resolved};
-ghost use Rattle.program_run.specs.Asked.{request_by, backup_by, push_by, get_by, fetch_ahead, fetching_by, expires_by, restore_by, recovery_for, configuration_by, first_of, second_of, requested, IsAsked};
+ghost use Rattle.program_run.specs.Asked.{backup_by, push_by, get_by, fetch_ahead, fetching_by, expires_by, restore_by, recovery_for, configuration_by, first_of, second_of, requested, IsAsked};
 ghost use Rattle.cmd_restore.specs.Fetching.{recovery_type, configuration_of, arguments_of};
 ghost use Rattle.program_run.specs.Uses.{plan_of, spool_of};
-ghost use Rattle.program_run.specs.Modelled.{request_of, asked_of, fetch_known, wanted_known};
+ghost use Rattle.program_run.specs.Modelled.{request_of, asked_of, fetch_known, wanted_known, configuration_known, request_known};
 
 use crate::server::server_of;
 use crate::settings::{Request, Settings};
@@ -119,8 +119,7 @@ fn ahead_request<'a>(options: &'a Options, name: &'a str) -> Request<'a>
 
 // Which configuration the arguments name.
 fn configuration_by(options: &Options) -> Configuration<'_>
-    ensures { configuration_of result
-        ≡ configuration_by options.now.no_config (option_map string_bytes options.now.config) }
+    ensures { configuration_of result ≡ configuration_known options.now }
 {
     if options.no_config {
         return Configuration::Nowhere;
@@ -176,10 +175,8 @@ fn word_of(word: &Option<String>) -> Option<&str>
 
 // What the command is to do, where that is supported.
 fn request_of(command: &Command) -> Result<Request<'_>, Unbuilt>
-    ensures asked { IfOk result (λ r. request_by command.now.verb (wanted_known command.now.options)
-        (map string_bytes command.now.given.items) ≡ Ok (request_of r)) }
-    ensures unbuilt { IfErr result (λ what. request_by command.now.verb (wanted_known command.now.options)
-        (map string_bytes command.now.given.items) ≡ Err what) }
+    ensures asked { IfOk result (λ r. request_known command.now ≡ Ok (request_of r)) }
+    ensures unbuilt { IfErr result (λ what. request_known command.now ≡ Err what) }
 {
     match command.verb {
         Verb::StanzaCreate => Ok(Request::StanzaCreate),

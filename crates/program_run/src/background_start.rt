@@ -1,7 +1,7 @@
 // With which arguments a drain is started, and a fetch.
-ghost use Rattle.std.specs.Prelude.{◌≡◌, map, IfOk, string_bytes};
+ghost use Rattle.std.specs.Prelude.{IfOk};
 ghost use Rattle.program_run.specs.Asked.{drain_arguments, fetch_argument_list};
-ghost use Rattle.program_run.specs.Modelled.{asked_of, fetching_of};
+ghost use Rattle.program_run.specs.Modelled.{asked_of, fetch_arguments_known, ArePassed};
 
 use crate::order::ThroughOrder;
 use crate::settings::Settings;
@@ -14,8 +14,7 @@ pub(crate) fn drain_arguments(
     settings: &Settings<'_>,
     spool: &str,
 ) -> Result<Vec<String>, AllocError>
-    ensures { IfOk result (λ arguments. map string_bytes arguments.items ≡ drain_arguments (asked_of settings.now)
-        spool.now) }
+    ensures { IfOk result (ArePassed (drain_arguments (asked_of settings.now) spool.now)) }
 {
     let stanza = settings.stanza;
     let folder = settings.pg1_path;
@@ -39,8 +38,7 @@ pub(crate) fn fetch_argument_list(
     settings: &Settings<'_>,
     order: &ThroughOrder<'_>,
 ) -> Result<Vec<String>, AllocError>
-    ensures { IfOk result (λ arguments. map string_bytes arguments.items
-        ≡ fetch_argument_list (asked_of settings.now) order.now.get.word.now (fetching_of order.now)) }
+    ensures { IfOk result (ArePassed (fetch_arguments_known settings.now order.now)) }
 {
     let stanza = settings.stanza;
     let folder = settings.pg1_path;

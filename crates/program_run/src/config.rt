@@ -1,16 +1,13 @@
 // The arguments and their configuration are read.
-ghost use Rattle.std.specs.Prelude.{◌≡◌, ◌≤◌, ◌<◌, ◌+◌, ◌^◌, ℕ, List, Option, option_map, Result, Ok, map, take, length, IfOk, IfErr, IfSome, Vec, string_bytes};
+ghost use Rattle.std.specs.Prelude.{◌≡◌, ◌≤◌, ◌<◌, ◌+◌, ◌^◌, ℕ, List, Option, Result, Ok, take, length, IfOk, IfErr, IfSome, Vec};
 ghost use Rattle.std.specs.declared.alloc.Global.{Global};
-ghost use Rattle.base_devices.specs.Cause.{HasCause, Rises};
-ghost use Rattle.options_read.specs.Commands.{IsCommand};
-ghost use Rattle.options_read.specs.Paths.{Path, path_of_arguments};
-ghost use Rattle.options_read.specs.Settings.{Resolved};
-ghost use Rattle.program_run.specs.Asked.{MayHave, ArgumentsResolve, config_limit};
+ghost use Rattle.base_devices.specs.Cause.{HasCause};
+ghost use Rattle.program_run.specs.Asked.{config_limit};
 ghost use Rattle.cmd_types.specs.declared.stages.object.Object.TheVariants.{Config as TheConfig};
 ghost use Rattle.cmd_types.specs.Halts.{halt_of};
 ghost use Rattle.program_run.specs.declared.fault.Fault.TheVariants.{Stage};
 ghost use Rattle.program_run.specs.Faults.{of_halt};
-ghost use Rattle.program_run.specs.Configuring.{SourceCause, ConfigCause};
+ghost use Rattle.program_run.specs.Configuring.{IsFileOf, IsConfigurationOf, IsCommandOf, FileReadCause, ReadingCause};
 
 use crate::fault::Fault;
 use base_devices::{DeviceError, InputFiles};
@@ -62,11 +59,9 @@ fn read_file<I: InputFiles>(
     limit: usize,
 ) -> Result<Option<Vec<u8>>, Fault>
     requires { limit + 1 < 2 ^ 63 }
-    ensures bytes { IfOk result (λ r.
-        IfSome (I.state config.old).files (λ f. option_map (λ (v : Vec ℕ Global). v.items) r ≡ f path.now)) }
+    ensures bytes { IfOk result (IsFileOf path.now (I.state config.old)) }
     ensures fits { IfOk result (λ r. IfSome r (λ (v : Vec ℕ Global). length v.items ≤ limit)) }
-    ensures cause { IfErr result (SourceCause path.now limit (I.state config.old).files
-        (Rises (I.state config.old).faults (I.state config.new).faults)) }
+    ensures cause { IfErr result (FileReadCause path.now limit (I.state config.old) (I.state config.new)) }
     ensures later { (I.state config.old).faults ≤ (I.state config.new).faults }
     ensures files { (I.state config.new).files ≡ (I.state config.old).files }
 {
@@ -97,11 +92,9 @@ fn configuration<I: InputFiles>(
     limit: usize,
 ) -> Result<Vec<u8>, Fault>
     requires { limit ≡ config_limit }
-    ensures bytes { IfOk result (λ v. (path : Path) × (path_of_arguments (map string_bytes arguments.now) ≡ Ok path)
-        × MayHave (I.state config.old).files path v.items) }
+    ensures bytes { IfOk result (IsConfigurationOf arguments.now (I.state config.old)) }
     ensures fits { IfOk result (λ v. length v.items ≤ limit) }
-    ensures cause { IfErr result (ConfigCause (map string_bytes arguments.now) (I.state config.old).files
-        (Rises (I.state config.old).faults (I.state config.new).faults)) }
+    ensures cause { IfErr result (ReadingCause arguments.now (I.state config.old) (I.state config.new)) }
     ensures later { (I.state config.old).faults ≤ (I.state config.new).faults }
     ensures files { (I.state config.new).files ≡ (I.state config.old).files }
 {
@@ -124,10 +117,8 @@ pub(crate) fn read_command<I: InputFiles>(
     arguments: &[String],
     config: &mut I,
 ) -> Result<Command, Fault>
-    ensures command { IfOk result (λ c. (s : Resolved) ×
-        ArgumentsResolve (map string_bytes arguments.now) (I.state config.old).files (Ok s) × IsCommand c s) }
-    ensures cause { IfErr result (ConfigCause (map string_bytes arguments.now) (I.state config.old).files
-        (Rises (I.state config.old).faults (I.state config.new).faults)) }
+    ensures command { IfOk result (IsCommandOf arguments.now (I.state config.old)) }
+    ensures cause { IfErr result (ReadingCause arguments.now (I.state config.old) (I.state config.new)) }
     ensures later { (I.state config.old).faults ≤ (I.state config.new).faults }
     ensures files { (I.state config.new).files ≡ (I.state config.old).files }
 {

@@ -14,6 +14,7 @@ mod order;
 mod output;
 mod outside;
 mod parts;
+mod sample_order;
 mod server;
 mod settings;
 mod spool_parts;

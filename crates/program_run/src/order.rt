@@ -4,6 +4,7 @@ ghost use Rattle.program_run.specs.CallEffect.{ArgumentsCause};
 ghost use Rattle.program_run.specs.Modelled.{size_by, asked_of, request_of, taking_of, IsCourse};
 
 use crate::fault::Fault;
+use crate::sample_order::SampleOrder;
 use crate::settings::{Request, Settings};
 use backup_plan::PlanSettings;
 use base_model::BackupKind;
@@ -12,7 +13,6 @@ use cmd_archive_get_async::{FetchOrder, fetch_order};
 use cmd_archive_push::{PushOrder, push_order};
 use cmd_backup_common::TakeOrder;
 use cmd_backup_offline::OfflineOrder;
-use cmd_rehearse::RehearseOrder;
 use cmd_restore::{RecoverOrder, restore_order};
 use expire_rules::Rules;
 use options_read::OutputWord;
@@ -67,7 +67,7 @@ pub enum Order<'a> {
     Info(OutputWord),
     Verify,
     Expire(Rules),
-    Rehearse(RehearseOrder<'a>),
+    Rehearse(SampleOrder<'a>),
 }
 
 /// Through which stages a command goes.
@@ -106,12 +106,12 @@ fn offline_order<'a>(
 }
 
 // A rehearsal in the data folder, of as many workers at most for each of its steps. The option's bounds keep its size.
-fn rehearse_order<'a>(settings: &Settings<'a>, workers: u32, number: u32) -> RehearseOrder<'a>
+fn sample_order<'a>(settings: &Settings<'a>, workers: u32, number: u32) -> SampleOrder<'a>
     ensures folder { result.take.data_folder.now ≡ settings.now.pg1_path.now }
     ensures workers { result.take.workers ≡ workers }
     ensures number { result.number ≡ size_by number }
 {
-    RehearseOrder {
+    SampleOrder {
         take: TakeOrder {
             data_folder: settings.pg1_path,
             repository: settings.repo1_path,
@@ -186,7 +186,7 @@ pub(crate) fn course_of<'a>(alloc: Global, settings: &Settings<'a>) -> Result<Co
         Request::Info { form } => Ok(Course::Staged(Order::Info(form))),
         Request::Verify => Ok(Course::Staged(Order::Verify)),
         Request::Expire { rules } => Ok(Course::Staged(Order::Expire(rules))),
-        Request::Rehearse { workers, number } => Ok(Course::Staged(Order::Rehearse(rehearse_order(
+        Request::Rehearse { workers, number } => Ok(Course::Staged(Order::Rehearse(sample_order(
             settings, workers, number,
         )))),
     }

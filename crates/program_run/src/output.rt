@@ -1,9 +1,9 @@
 // Writes the output.
-ghost use Rattle.std.specs.Prelude.{◌≡◌, ◌≤◌, ◌++◌, [], ◌∷◌, map, OnOk, OnErr, IfOk, option_map, string_bytes};
+ghost use Rattle.std.specs.Prelude.{◌≡◌, ◌≤◌, [], ◌∷◌, map, OnOk, OnErr, IfOk, string_bytes};
 ghost use Rattle.std.specs.List.{flat_map};
-ghost use Rattle.base_devices.specs.Cause.{HasCause, Rises};
-ghost use Rattle.program_run.specs.Answers.{Ending, status, ending_of, answer_of, ending_lines, lines_of, unknown_line};
-ghost use Rattle.program_run.specs.Output.{IsPrefixWritten, IsPrinted};
+ghost use Rattle.base_devices.specs.Cause.{HasCause};
+ghost use Rattle.program_run.specs.Answers.{status, ending_of, answer_of, ending_lines, lines_of, unknown_line};
+ghost use Rattle.program_run.specs.Output.{IsPrefixWritten, IsWritten, IsTold};
 
 use crate::fault::{Fault, status};
 use crate::lines::{absent_line, deviating_lines, fault_lines, push_unknown};
@@ -81,10 +81,7 @@ pub(crate) fn answer<O: OutputStream>(
     unknown: &[String],
     ended: Result<Outcome, Fault>,
 ) -> u8
-    ensures known { (ending : Ending) × (result ≡ status ending)
-        × IsPrinted (O.state out.old).written (answer_of (map string_bytes unknown.now) ended)
-        (O.state out.new).written
-        (Rises (O.state out.old).faults (O.state out.new).faults) ending }
+    ensures known { IsTold unknown.now ended (O.state out.old) (O.state out.new) result }
     ensures later { (O.state out.old).faults ≤ (O.state out.new).faults }
 {
     let status = tell(alloc, out, unknown, &ended);
@@ -99,10 +96,7 @@ fn tell<O: OutputStream>(
     unknown: &[String],
     ended: &Result<Outcome, Fault>,
 ) -> u8
-    ensures known { (ending : Ending) × (result ≡ status ending)
-        × IsPrinted (O.state out.old).written (answer_of (map string_bytes unknown.now) ended.now)
-        (O.state out.new).written
-        (Rises (O.state out.old).faults (O.state out.new).faults) ending }
+    ensures known { IsTold unknown.now ended.now (O.state out.old) (O.state out.new) result }
     ensures later { (O.state out.old).faults ≤ (O.state out.new).faults }
 {
     match lines(alloc, unknown, ended) {
@@ -121,8 +115,7 @@ fn tell<O: OutputStream>(
 
 // Writes all of the bytes, or a first part of them where the sink stops.
 fn write_all<O: OutputStream>(out: &mut O, bytes: &[u8]) -> Result<(), DeviceError>
-    ensures ok { OnOk result ((O.state out.new).written ≡ option_map (λ text. text ++ bytes.now)
-        (O.state out.old).written) }
+    ensures ok { OnOk result (IsWritten bytes.now (O.state out.old) (O.state out.new)) }
     ensures err { OnErr result (IsPrefixWritten (O.state out.old).written bytes.now (O.state out.new).written) }
     ensures cause { HasCause (O.state out.old).faults (O.state out.new).faults result }
 {

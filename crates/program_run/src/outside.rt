@@ -1,11 +1,12 @@
 // What is handed to the program.
-ghost use Rattle.std.specs.Prelude.{map};
 ghost use Rattle.cmd_types.specs.World.{World};
+ghost use Rattle.worker_pool.specs.Pools.{links_in};
 
 use archive_lookup::OtherProcesses;
 use base_devices::{
     Clock, DataFolder, Disk, InputFiles, Link, Locks, OutputStream, Scheduler, ServerConnection,
 };
+use worker_pool::Pool;
 
 /// The objects that the program works on: the repository, the spool, the data folder, the connection to the
 /// server, other processes, the clock, the locks, the configuration, the output, and the workers with the choice among
@@ -21,8 +22,7 @@ pub struct Outside<D, S, T, V, A, C, K, I, O, L, U> {
     pub locks: K,
     pub config: I,
     pub out: O,
-    pub links: Vec<L>,
-    pub turns: U,
+    pub pool: Pool<L, U>,
 }
 
 /// What the objects report, as one value.
@@ -57,6 +57,6 @@ impl<
       };
       config = I.state o.config;
       out = O.state o.out;
-      links = map L.link_state o.links.items;
+      links = links_in L.link_state o.pool;
     } };
 }

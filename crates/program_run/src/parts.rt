@@ -1,11 +1,13 @@
 // The commands' own parts, over all that is handed to the program: what the stages made ready goes to each.
-ghost use Rattle.std.specs.Prelude.{◌≡◌, ◌≤◌, ◌∷◌, [], None, OnOk, map, string_bytes};
+ghost use Rattle.std.specs.Prelude.{◌≡◌, ◌≤◌, ◌∷◌, [], None, OnOk};
 ghost use Rattle.cmd_types.specs.Plans.{backup_lock};
-ghost use Rattle.program_run.specs.Asked.{alone, create as asks_create, push as asks_push, get as asks_get, report as asks_report, examine as asks_examine, expire as asks_expire};
-ghost use Rattle.program_run.specs.CallEffect.{Acknowledges, CallEffect, Followed, PartEffect, SamePlaces};
-ghost use Rattle.program_run.specs.Modelled.{request_of, asked_of, AreWorkers, IsLeft};
+ghost use Rattle.worker_pool.specs.Pools.{links_in};
+ghost use Rattle.program_run.specs.Asked.{create as asks_create, push as asks_push, get as asks_get, report as asks_report, examine as asks_examine, expire as asks_expire};
+ghost use Rattle.program_run.specs.CallEffect.{Acknowledges, CallEffect, PartEffect, SamePlaces};
+ghost use Rattle.program_run.specs.Modelled.{request_of, AreWorkers, IsLeft};
 ghost use Rattle.program_run.specs.declared.order.Order.TheVariants.{ArchivePushAsync as DrainOrder, Backup as BackupOrder, BackupRunning as BackupRunningOrder, Restore as RestoreOrder, Rehearse as RehearseOrderOf};
-ghost use Rattle.program_run.specs.Ranges.{AtOk, Between, HoldsLocks, IsOrderFor, IsReadyFor, OnAsked, OnKnown};
+ghost use Rattle.program_run.specs.Ranges.{AtOk, Between, HoldsLocks, IsOrderFor, IsReadyFor, OnAsked, OnAlone, FollowedBy};
+ghost use Rattle.program_run.specs.Kept.{OnlyPlaces, OnlyThroughSpool, OnlyRestoring, OnlyStoring, KeepsLocked};
 
 use crate::background_start::drain_arguments;
 use crate::fault::{
@@ -14,6 +16,7 @@ use crate::fault::{
 };
 use crate::order::{QueueOrder, RunningOrder};
 use crate::outside::{Modelled, Outside};
+use crate::sample_order::SampleOrder;
 use crate::settings::Settings;
 use archive_lookup::OtherProcesses;
 use base_devices::{
@@ -23,8 +26,9 @@ use cmd_archive_get::{GetOrder, get_file};
 use cmd_archive_push::{PushOrder, push_file};
 use cmd_archive_push_async::drain_stanza;
 use cmd_archive_push_wait::queue_push;
-use cmd_backup_offline::{OfflineOrder, back_up_offline};
-use cmd_backup_online::{OnlineOrder, back_up_online};
+use cmd_backup_common::KnownStanza;
+use cmd_backup_offline::{OfflineOrder, OfflineTask, back_up_offline};
+use cmd_backup_online::{OnlineOrder, OnlineTask, back_up_online};
 use cmd_expire::{InfoValues, expire_after, expire_stanza};
 use cmd_info::report_stanza;
 use cmd_rehearse::{RehearseOrder, rehearse};
@@ -60,8 +64,7 @@ impl<
         requires request { request_of settings.now.request ≡ asks_create }
         requires locked { HoldsLocks settings.now (K.state self.old.locks).taken }
         requires ready { IsReadyFor settings.now (⟦<Self as Modelled>⟧.known self.old) ready.now }
-        ensures ran { OnKnown ⟦<Self as Modelled>⟧.known (PartEffect (alone (asked_of settings.now))) self.old self.new
-            result }
+        ensures ran { OnAlone ⟦<Self as Modelled>⟧.known PartEffect settings.now self.old self.new result }
         ensures quiet { settings.now.server ≡ None → self.new.server ≡ self.old.server }
         ensures rest { self.new ≡ record self.old { repo = self.new.repo; server = self.new.server } }
     {
@@ -91,8 +94,7 @@ impl<
         requires locked { HoldsLocks settings.now (K.state self.old.locks).taken }
         requires folder { order.folder.now ≡ settings.now.pg1_path.now }
         requires ready { IsReadyFor settings.now (⟦<Self as Modelled>⟧.known self.old) ready.now }
-        ensures ran { OnKnown ⟦<Self as Modelled>⟧.known (PartEffect (alone (asked_of settings.now))) self.old self.new
-            result }
+        ensures ran { OnAlone ⟦<Self as Modelled>⟧.known PartEffect settings.now self.old self.new result }
         ensures rest { self.new ≡ record self.old { repo = self.new.repo; tree = self.new.tree } }
     {
         let (Some(control), Some(archive)) = (&ready.control, &ready.archive) else {
@@ -121,12 +123,7 @@ impl<
         ensures did { OnAsked ⟦<Self as Modelled>⟧.known CallEffect settings.now self.old self.new result }
         ensures left { AtOk ⟦<Self as Modelled>⟧.known Acknowledges settings.now self.old self.new result }
         ensures places { Between ⟦<Self as Modelled>⟧.known SamePlaces self.old self.new }
-        ensures rest { self.new ≡ record self.old {
-          repo = self.new.repo;
-          spool = self.new.spool;
-          tree = self.new.tree;
-          processes = self.new.processes;
-        } }
+        ensures rest { OnlyThroughSpool self.old self.new }
     {
         let arguments = drain_arguments(alloc, settings, order.spool)?;
         let ended = queue_push(
@@ -153,13 +150,8 @@ impl<
         requires order { IsOrderFor settings.now DrainOrder }
         requires locked { HoldsLocks settings.now (K.state self.old.locks).taken }
         requires ready { IsReadyFor settings.now (⟦<Self as Modelled>⟧.known self.old) ready.now }
-        ensures ran { OnKnown ⟦<Self as Modelled>⟧.known (PartEffect (alone (asked_of settings.now))) self.old self.new
-            result }
-        ensures rest { self.new ≡ record self.old {
-          repo = self.new.repo;
-          spool = self.new.spool;
-          tree = self.new.tree;
-        } }
+        ensures ran { OnAlone ⟦<Self as Modelled>⟧.known PartEffect settings.now self.old self.new result }
+        ensures rest { OnlyPlaces self.old self.new }
     {
         let (Some(control), Some(archive)) = (&ready.control, &ready.archive) else {
             unreachable!();
@@ -187,8 +179,7 @@ impl<
         requires request { request_of settings.now.request ≡ asks_get order.now.word.now order.now.path.now }
         requires folder { order.now.folder.now ≡ settings.now.pg1_path.now }
         requires ready { IsReadyFor settings.now (⟦<Self as Modelled>⟧.known self.old) ready.now }
-        ensures ran { OnKnown ⟦<Self as Modelled>⟧.known (PartEffect (alone (asked_of settings.now))) self.old self.new
-            result }
+        ensures ran { OnAlone ⟦<Self as Modelled>⟧.known PartEffect settings.now self.old self.new result }
         ensures rest { self.new ≡ record self.old { repo = self.new.repo; tree = self.new.tree } }
     {
         let (Some(control), Some(archive)) = (&ready.control, &ready.archive) else {
@@ -215,18 +206,11 @@ impl<
     ) -> Result<Outcome, Fault>
         requires order { IsOrderFor settings.now (BackupOrder order) }
         requires locked { HoldsLocks settings.now (K.state self.old.locks).taken }
-        requires workers { AreWorkers (map L.link_state self.old.links.items) }
+        requires workers { AreWorkers (links_in L.link_state self.old.pool) }
         requires ready { IsReadyFor settings.now (⟦<Self as Modelled>⟧.known self.old) ready }
-        ensures ran { OnKnown ⟦<Self as Modelled>⟧.known (PartEffect (alone (asked_of settings.now))) self.old self.new
-            result }
+        ensures ran { OnAlone ⟦<Self as Modelled>⟧.known PartEffect settings.now self.old self.new result }
         ensures least { (C.state self.old.clock).least ≤ (C.state self.new.clock).least }
-        ensures rest { self.new ≡ record self.old {
-          repo = self.new.repo;
-          tree = self.new.tree;
-          clock = self.new.clock;
-          links = self.new.links;
-          turns = self.new.turns;
-        } }
+        ensures rest { OnlyStoring self.old self.new }
     {
         let (Some(control), Some(archive), Some(backup)) = (
             ready.control,
@@ -235,19 +219,23 @@ impl<
         ) else {
             unreachable!();
         };
+        let task = OfflineTask {
+            order,
+            stanza: KnownStanza {
+                name: settings.stanza,
+                control: &control,
+                archive: &archive,
+                backup,
+            },
+        };
         take_end(back_up_offline(
             alloc,
             &mut self.repo,
             &mut self.tree,
             &mut self.clock,
             &self.locks,
-            &mut self.links,
-            &mut self.turns,
-            settings.stanza,
-            order,
-            &control,
-            &archive,
-            backup,
+            &mut self.pool,
+            task,
         ))
     }
 
@@ -261,22 +249,12 @@ impl<
     ) -> Result<Outcome, Fault>
         requires order { IsOrderFor settings.now (BackupRunningOrder order.now) }
         requires locked { HoldsLocks settings.now (K.state self.old.locks).taken }
-        requires workers { AreWorkers (map L.link_state self.old.links.items) }
+        requires workers { AreWorkers (links_in L.link_state self.old.pool) }
         requires ready { IsReadyFor settings.now (⟦<Self as Modelled>⟧.known self.old) ready }
-        ensures ran { OnKnown ⟦<Self as Modelled>⟧.known (PartEffect (alone (asked_of settings.now))) self.old self.new
-            result }
+        ensures ran { OnAlone ⟦<Self as Modelled>⟧.known PartEffect settings.now self.old self.new result }
         ensures quiet { settings.now.server ≡ None → self.new.server ≡ self.old.server }
         ensures least { (C.state self.old.clock).least ≤ (C.state self.new.clock).least }
-        ensures rest { self.new ≡ record self.old {
-          repo = self.new.repo;
-          spool = self.new.spool;
-          tree = self.new.tree;
-          server = self.new.server;
-          processes = self.new.processes;
-          clock = self.new.clock;
-          links = self.new.links;
-          turns = self.new.turns;
-        } }
+        ensures rest { KeepsLocked self.old self.new }
     {
         let Some(server) = settings.server else {
             unreachable!();
@@ -289,13 +267,21 @@ impl<
             unreachable!();
         };
         let socket = socket_path(alloc, &server)?;
-        let online = OnlineOrder {
-            later: order.later,
-            socket: &socket,
-            user: server.user,
-            database: server.database,
-            fast: order.fast,
-            archive_timeout: order.turns,
+        let task = OnlineTask {
+            order: OnlineOrder {
+                later: order.later,
+                socket: &socket,
+                user: server.user,
+                database: server.database,
+                fast: order.fast,
+                archive_timeout: order.turns,
+            },
+            stanza: KnownStanza {
+                name: settings.stanza,
+                control: &control,
+                archive: &archive,
+                backup,
+            },
         };
         back_up_online_end(back_up_online(
             alloc,
@@ -306,13 +292,8 @@ impl<
             &mut self.processes,
             &mut self.clock,
             &self.locks,
-            &mut self.links,
-            &mut self.turns,
-            settings.stanza,
-            online,
-            &control,
-            &archive,
-            backup,
+            &mut self.pool,
+            task,
         ))
     }
 
@@ -325,16 +306,10 @@ impl<
         ready: &Ready,
     ) -> Result<Outcome, Fault>
         requires order { IsOrderFor settings.now (RestoreOrder order.now) }
-        requires workers { AreWorkers (map L.link_state self.old.links.items) }
+        requires workers { AreWorkers (links_in L.link_state self.old.pool) }
         requires ready { IsReadyFor settings.now (⟦<Self as Modelled>⟧.known self.old) ready.now }
-        ensures ran { OnKnown ⟦<Self as Modelled>⟧.known (PartEffect (alone (asked_of settings.now))) self.old self.new
-            result }
-        ensures rest { self.new ≡ record self.old {
-          repo = self.new.repo;
-          tree = self.new.tree;
-          links = self.new.links;
-          turns = self.new.turns;
-        } }
+        ensures ran { OnAlone ⟦<Self as Modelled>⟧.known PartEffect settings.now self.old self.new result }
+        ensures rest { OnlyRestoring self.old self.new }
     {
         let Some(backup) = &ready.backup else {
             unreachable!();
@@ -343,8 +318,7 @@ impl<
             alloc,
             &mut self.repo,
             &mut self.tree,
-            &mut self.links,
-            &mut self.turns,
+            &mut self.pool,
             settings.stanza,
             order,
             backup,
@@ -361,8 +335,7 @@ impl<
     ) -> Result<Outcome, Fault>
         requires request { request_of settings.now.request ≡ asks_report form }
         requires ready { IsReadyFor settings.now (⟦<Self as Modelled>⟧.known self.old) ready.now }
-        ensures ran { OnKnown ⟦<Self as Modelled>⟧.known (PartEffect (alone (asked_of settings.now))) self.old self.new
-            result }
+        ensures ran { OnAlone ⟦<Self as Modelled>⟧.known PartEffect settings.now self.old self.new result }
         ensures rest { self.new ≡ record self.old { repo = self.new.repo } }
     {
         let (Some(archive), Some(backup)) = (&ready.archive, &ready.backup) else {
@@ -387,8 +360,7 @@ impl<
     ) -> Result<Outcome, Fault>
         requires request { request_of settings.now.request ≡ asks_examine }
         requires ready { IsReadyFor settings.now (⟦<Self as Modelled>⟧.known self.old) ready.now }
-        ensures ran { OnKnown ⟦<Self as Modelled>⟧.known (PartEffect (alone (asked_of settings.now))) self.old self.new
-            result }
+        ensures ran { OnAlone ⟦<Self as Modelled>⟧.known PartEffect settings.now self.old self.new result }
         ensures rest { self.new ≡ record self.old { repo = self.new.repo } }
     {
         let Some(backup) = &ready.backup else {
@@ -402,33 +374,28 @@ impl<
         &mut self,
         alloc: Global,
         settings: &Settings<'_>,
-        order: &RehearseOrder<'_>,
+        order: &SampleOrder<'_>,
     ) -> Result<Outcome, Fault>
         requires order { IsOrderFor settings.now (RehearseOrderOf order.now) }
         requires locked { HoldsLocks settings.now (K.state self.old.locks).taken }
-        requires workers { AreWorkers (map L.link_state self.old.links.items) }
-        ensures ran { OnKnown ⟦<Self as Modelled>⟧.known (PartEffect (alone (asked_of settings.now))) self.old self.new
-            result }
+        requires workers { AreWorkers (links_in L.link_state self.old.pool) }
+        ensures ran { OnAlone ⟦<Self as Modelled>⟧.known PartEffect settings.now self.old self.new result }
         ensures least { (C.state self.old.clock).least ≤ (C.state self.new.clock).least }
-        ensures rest { self.new ≡ record self.old {
-          repo = self.new.repo;
-          tree = self.new.tree;
-          clock = self.new.clock;
-          links = self.new.links;
-          turns = self.new.turns;
-        } }
+        ensures rest { OnlyStoring self.old self.new }
     {
+        let sample = RehearseOrder {
+            stanza: settings.stanza,
+            take: order.take,
+            number: order.number,
+        };
         rehearse_end(rehearse(
             alloc,
             &mut self.repo,
             &mut self.tree,
-            &mut self.server,
             &mut self.clock,
             &self.locks,
-            &mut self.links,
-            &mut self.turns,
-            settings.stanza,
-            order,
+            &mut self.pool,
+            &sample,
         ))
     }
 
@@ -441,8 +408,7 @@ impl<
         lines: String,
     ) -> Result<Outcome, Fault>
         requires locked { (K.state self.old.locks).taken ≡ backup_lock settings.now.stanza.now ∷ [] }
-        ensures followed { let known = ⟦<Self as Modelled>⟧.known in
-            Followed settings.now.stanza.now rules.now (known self.old) (known self.new) (string_bytes lines) result }
+        ensures followed { FollowedBy ⟦<Self as Modelled>⟧.known settings.now rules.now lines self.old self.new result }
         ensures rest { self.new ≡ record self.old { repo = self.new.repo; clock = self.new.clock } }
     {
         let mut lines = lines;
@@ -471,8 +437,7 @@ impl<
         requires request { request_of settings.now.request ≡ asks_expire rules.now }
         requires locked { HoldsLocks settings.now (K.state self.old.locks).taken }
         requires ready { IsReadyFor settings.now (⟦<Self as Modelled>⟧.known self.old) ready }
-        ensures ran { OnKnown ⟦<Self as Modelled>⟧.known (PartEffect (alone (asked_of settings.now))) self.old self.new
-            result }
+        ensures ran { OnAlone ⟦<Self as Modelled>⟧.known PartEffect settings.now self.old self.new result }
         ensures rest { self.new ≡ record self.old { repo = self.new.repo; clock = self.new.clock } }
     {
         let (Some(archive), Some(backup)) = (ready.archive, ready.backup) else {

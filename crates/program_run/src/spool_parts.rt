@@ -1,10 +1,9 @@
 // The own parts of the commands that serve segments through the spool, over all that is handed to the program.
 ghost use Rattle.std.specs.Prelude.{◌≡◌};
-ghost use Rattle.program_run.specs.Asked.{alone};
 ghost use Rattle.program_run.specs.CallEffect.{PartEffect};
-ghost use Rattle.program_run.specs.Ranges.{IsOrderFor, IsReadyFor, OnKnown};
-ghost use Rattle.program_run.specs.Modelled.{asked_of};
+ghost use Rattle.program_run.specs.Ranges.{IsOrderFor, IsReadyFor, OnAlone};
 ghost use Rattle.program_run.specs.declared.order.Order.TheVariants.{ArchiveGetThrough as OfThrough, ArchiveGetAsync as OfAhead};
+ghost use Rattle.program_run.specs.Kept.{OnlyThroughSpool};
 
 use crate::background_start::fetch_argument_list;
 use crate::fault::{Fault, get_end};
@@ -43,14 +42,8 @@ impl<
     ) -> Result<Outcome, Fault>
         requires order { IsOrderFor settings.now (OfThrough order.now) }
         requires ready { IsReadyFor settings.now (⟦<Self as Modelled>⟧.known self.old) ready.now }
-        ensures ran { OnKnown ⟦<Self as Modelled>⟧.known (PartEffect (alone (asked_of settings.now))) self.old self.new
-            result }
-        ensures rest { self.new ≡ record self.old {
-          repo = self.new.repo;
-          spool = self.new.spool;
-          tree = self.new.tree;
-          processes = self.new.processes;
-        } }
+        ensures ran { OnAlone ⟦<Self as Modelled>⟧.known PartEffect settings.now self.old self.new result }
+        ensures rest { OnlyThroughSpool self.old self.new }
     {
         let (Some(control), Some(archive)) = (&ready.control, &ready.archive) else {
             unreachable!();
@@ -80,8 +73,7 @@ impl<
     ) -> Result<Outcome, Fault>
         requires order { IsOrderFor settings.now (OfAhead order.now) }
         requires ready { IsReadyFor settings.now (⟦<Self as Modelled>⟧.known self.old) ready.now }
-        ensures ran { OnKnown ⟦<Self as Modelled>⟧.known (PartEffect (alone (asked_of settings.now))) self.old self.new
-            result }
+        ensures ran { OnAlone ⟦<Self as Modelled>⟧.known PartEffect settings.now self.old self.new result }
         ensures rest { self.new ≡ record self.old { repo = self.new.repo; spool = self.new.spool } }
     {
         let (Some(control), Some(archive)) = (&ready.control, &ready.archive) else {

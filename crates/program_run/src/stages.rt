@@ -1,13 +1,14 @@
 // The stages of a command, over all that is handed to the program.
-ghost use Rattle.std.specs.Prelude.{◌≡◌, true, false, Some, None, OnOk, IfErr, [], ◌⊎◌, map};
+ghost use Rattle.std.specs.Prelude.{◌≡◌, true, false, Some, None, OnOk, IfErr, [], ◌⊎◌};
 ghost use Rattle.cmd_types.specs.Plans.{AreHeld};
 ghost use Rattle.cmd_types.specs.Halts.{HaltCause, Never};
 ghost use Rattle.cmd_types.specs.World.{Failed, AreRead};
-ghost use Rattle.cmd_setup.specs.Taking.{AreNames};
+ghost use Rattle.cmd_setup.specs.Taking.{AreNames, HoldsAtMost};
+ghost use Rattle.worker_pool.specs.Pools.{links_in};
 ghost use Rattle.program_run.specs.Asked.{alone};
 ghost use Rattle.program_run.specs.CallEffect.{Acknowledges, PartEffect, CallEffect, ComesAfter, Brackets, SamePlaces, OpensPlaces, ArePlacesOpened, TakesAll, OnlyLocked};
-ghost use Rattle.program_run.specs.Kept.{KeepsFolder, KeepsInAndOut, KeepsLocked, KeepsSpool, KeepsWorkers};
-ghost use Rattle.program_run.specs.Ranges.{AtOk, Between, HoldsAtMost, HoldsLocks, IsOnRepository, IsOrderFor, IsReadyFor, LeastGrows, OnAsked, OnKnown, OpensNoFolder, UsesNoSpool, UsesNoWorkers, WhereNoLock};
+ghost use Rattle.program_run.specs.Kept.{KeepsFolder, KeepsInAndOut, KeepsLocked, KeepsSpool, KeepsWorkers, OnlyPlaces};
+ghost use Rattle.program_run.specs.Ranges.{AtOk, Between, HoldsLocks, IsOnRepository, IsOrderFor, IsReadyFor, LeastGrows, OnAsked, OnKnown, OpensNoFolder, UsesNoSpool, UsesNoWorkers, WhereNoLock, OnAlone};
 ghost use Rattle.program_run.specs.Modelled.{request_of, asked_of, AreWorkers, IsCourse};
 ghost use Rattle.program_run.specs.Uses.{plan_of, spool_of};
 
@@ -58,11 +59,7 @@ impl<
         ensures places { Between ⟦<Self as Modelled>⟧.known (OpensPlaces (asked_of settings.now)) self.old self.new }
         ensures opened { AtOk ⟦<Self as Modelled>⟧.known ArePlacesOpened settings.now self.old self.new result }
         ensures cause { IfErr result (HaltCause Never (OnKnown ⟦<Self as Modelled>⟧.known Failed self.old self.new)) }
-        ensures rest { self.new ≡ record self.old {
-          repo = self.new.repo;
-          spool = self.new.spool;
-          tree = self.new.tree;
-        } }
+        ensures rest { OnlyPlaces self.old self.new }
         ensures spool { spool_of (request_of settings.now.request) ≡ None → self.new.spool ≡ self.old.spool }
         ensures tree { plan.now.folder ≡ false → self.new.tree ≡ self.old.tree }
     {
@@ -82,7 +79,7 @@ impl<
         plan: &Plan,
         course: Course<'_>,
     ) -> Result<Outcome, Fault>
-        requires workers { AreWorkers (map L.link_state self.old.links.items) }
+        requires workers { AreWorkers (links_in L.link_state self.old.pool) }
         requires free { (K.state self.old.locks).taken ≡ [] }
         requires plan { plan.now ≡ plan_of (request_of settings.now.request) }
         requires course { IsCourse (request_of settings.now.request) settings.now.pg1_path.now course }
@@ -106,7 +103,7 @@ impl<
 
     /// Does what is asked for: the command's arguments are read, and then come its stages.
     pub(crate) fn obey(&mut self, alloc: Global, settings: &Settings<'_>) -> Result<Outcome, Fault>
-        requires workers { AreWorkers (map L.link_state self.old.links.items) }
+        requires workers { AreWorkers (links_in L.link_state self.old.pool) }
         requires free { (K.state self.old.locks).taken ≡ [] }
         ensures did { OnAsked ⟦<Self as Modelled>⟧.known CallEffect settings.now self.old self.new result }
         ensures left { AtOk ⟦<Self as Modelled>⟧.known Acknowledges settings.now self.old self.new result }
@@ -133,7 +130,7 @@ impl<
         plan: &Plan,
         order: Order<'_>,
     ) -> Result<Outcome, Fault>
-        requires workers { AreWorkers (map L.link_state self.old.links.items) }
+        requires workers { AreWorkers (links_in L.link_state self.old.pool) }
         requires plan { plan.now ≡ plan_of (request_of settings.now.request) }
         requires locked { AreHeld plan.now settings.now.stanza.now (K.state self.old.locks).taken }
         requires order { IsOrderFor settings.now order }
@@ -165,7 +162,7 @@ impl<
         names: &LockNames,
         order: Order<'_>,
     ) -> Result<Outcome, Fault>
-        requires workers { AreWorkers (map L.link_state self.old.links.items) }
+        requires workers { AreWorkers (links_in L.link_state self.old.pool) }
         requires free { (K.state self.old.locks).taken ≡ [] }
         requires plan { plan.now ≡ plan_of (request_of settings.now.request) }
         requires names { AreNames names.now plan.now settings.now.stanza.now }
@@ -201,7 +198,7 @@ impl<
         plan: &Plan,
         order: Order<'_>,
     ) -> Result<Outcome, Fault>
-        requires workers { AreWorkers (map L.link_state self.old.links.items) }
+        requires workers { AreWorkers (links_in L.link_state self.old.pool) }
         requires free { (K.state self.old.locks).taken ≡ [] }
         requires plan { plan.now ≡ plan_of (request_of settings.now.request) }
         requires order { IsOrderFor settings.now order }
@@ -231,7 +228,7 @@ impl<
         order: Order<'_>,
         ready: Ready,
     ) -> Result<Outcome, Fault>
-        requires workers { AreWorkers (map L.link_state self.old.links.items) }
+        requires workers { AreWorkers (links_in L.link_state self.old.pool) }
         requires locked { HoldsLocks settings.now (K.state self.old.locks).taken }
         requires order { IsOrderFor settings.now order }
         requires ready { IsReadyFor settings.now (⟦<Self as Modelled>⟧.known self.old) ready }
@@ -261,12 +258,11 @@ impl<
         order: Order<'_>,
         ready: Ready,
     ) -> Result<Outcome, Fault>
-        requires workers { AreWorkers (map L.link_state self.old.links.items) }
+        requires workers { AreWorkers (links_in L.link_state self.old.pool) }
         requires locked { HoldsLocks settings.now (K.state self.old.locks).taken }
         requires order { IsOrderFor settings.now order }
         requires ready { IsReadyFor settings.now (⟦<Self as Modelled>⟧.known self.old) ready }
-        ensures ran { OnKnown ⟦<Self as Modelled>⟧.known (PartEffect (alone (asked_of settings.now))) self.old self.new
-            result }
+        ensures ran { OnAlone ⟦<Self as Modelled>⟧.known PartEffect settings.now self.old self.new result }
         ensures least { LeastGrows (request_of settings.now.request) (C.state self.old.clock) (C.state self.new.clock) }
         ensures tree { OpensNoFolder (request_of settings.now.request) → self.new.tree ≡ self.old.tree }
         ensures quiet { settings.now.server ≡ None → self.new.server ≡ self.old.server }

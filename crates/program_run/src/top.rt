@@ -1,13 +1,13 @@
 // The top call: from arguments to a status.
-ghost use Rattle.std.specs.Prelude.{◌≡◌, true, [], None, IfErr, map, string_bytes};
+ghost use Rattle.std.specs.Prelude.{◌≡◌, true, [], string_bytes};
 ghost use Rattle.options_read.specs.Commands.{IsCommand};
 ghost use Rattle.options_read.specs.Settings.{Resolved};
 ghost use Rattle.options_table.specs.Values.{is_stanza};
-ghost use Rattle.program_run.specs.Asked.{requested, server_asked};
+ghost use Rattle.worker_pool.specs.Pools.{links_in};
 ghost use Rattle.program_run.specs.Causes.{Answers, Obeys, Finishes, PartDone, StaysAt, FulfilsAt, LeavesRest, LeavesOthers, Completes, ClosesTalk};
 ghost use Rattle.program_run.specs.CallEffect.{OpensPlaces, OnlyLocked};
-ghost use Rattle.program_run.specs.Kept.{KeepsFolder, KeepsSpool, KeepsWorkers, OnlyAnswers};
-ghost use Rattle.program_run.specs.Ranges.{AllAsked, AsksNoServer, AsksNoSpool, IsOnRepository, NoneAsked, OnEach, OnResolved, OnArguments, UsesNoSpool, UsesNoWorkers, Where, WhereResolved};
+ghost use Rattle.program_run.specs.Kept.{KeepsFolder, KeepsSpool, KeepsWorkers, OnlyAnswers, KeepsServer};
+ghost use Rattle.program_run.specs.Ranges.{AsksNoServer, AsksNoSpool, IsOnRepository, NoneAsked, OnEach, OnResolved, OnArguments, UsesNoSpool, UsesNoWorkers, WhereResolved, WhereNoServer, WhereUnbuilt, KeptIf, IfAll};
 ghost use Rattle.program_run.specs.Modelled.{AreWorkers};
 
 use crate::asking::settings_of;
@@ -39,19 +39,17 @@ impl<
     /// Does what the command asks for, writes the output, and returns the status that the program ends with.
     pub fn carry(&mut self, alloc: Global, command: &Command) -> u8
         requires free { (K.state self.old.locks).taken ≡ [] }
-        requires workers { AreWorkers (map L.link_state self.old.links.items) }
+        requires workers { AreWorkers (links_in L.link_state self.old.pool) }
         requires settled { (s : Resolved) × IsCommand command.now s }
         requires form { is_stanza (string_bytes command.now.stanza) ≡ true }
         // What was asked for is done and reported.
         ensures obeys { OnResolved ⟦<Self as Modelled>⟧.known Obeys command.now self.old self.new result }
         ensures released { (K.state self.new.locks).taken ≡ [] }
-        ensures quiet { (s : Resolved) → IsCommand command.now s → server_asked s ≡ None
-            → self.new.server ≡ self.old.server }
+        ensures quiet { WhereNoServer command.now (self.new.server ≡ self.old.server) }
         ensures alone { WhereResolved command.now UsesNoWorkers (KeepsWorkers self.old self.new) }
         ensures waits { WhereResolved command.now UsesNoSpool (KeepsSpool self.old self.new) }
         ensures unused { WhereResolved command.now IsOnRepository (KeepsFolder self.old self.new) }
-        ensures unbuilt { (s : Resolved) → IsCommand command.now s → IfErr (requested s)
-            (λ what. self.new ≡ record self.old { out = self.new.out }) }
+        ensures unbuilt { WhereUnbuilt command.now (self.new ≡ record self.old { out = self.new.out }) }
         ensures config { self.new.config ≡ self.old.config }
     {
         let settings = match settings_of(command) {
@@ -69,7 +67,7 @@ impl<
     /// program ends with.
     pub fn run(&mut self, alloc: Global, arguments: &[String]) -> u8
         requires free { (K.state self.old.locks).taken ≡ [] }
-        requires workers { AreWorkers (map L.link_state self.old.links.items) }
+        requires workers { AreWorkers (links_in L.link_state self.old.pool) }
 
         // The arguments are refused, and nothing is done; or what they resolve to is done, with its cause, and
         // reported. What follows of steps, promises and places is a part of this, for each command that the arguments
@@ -108,16 +106,12 @@ impl<
         // Arguments that ask for nothing do nothing. A command that asks no server leaves the connection unchanged, one
         // that uses no worker the workers, and info and verify the data folder and the locks.
         ensures unasked { NoneAsked ⟦<Self as Modelled>⟧.known arguments.now self.old → OnlyAnswers self.old self.new }
-        ensures quiet { AllAsked ⟦<Self as Modelled>⟧.known AsksNoServer arguments.now self.old
-            → self.new.server ≡ self.old.server }
-        ensures alone { Where ⟦<Self as Modelled>⟧.known UsesNoWorkers arguments.now self.old
-            (KeepsWorkers self.old self.new) }
-        ensures unused { Where ⟦<Self as Modelled>⟧.known IsOnRepository arguments.now self.old
-            (KeepsFolder self.old self.new) }
+        ensures quiet { IfAll ⟦<Self as Modelled>⟧.known AsksNoServer arguments.now KeepsServer self.old self.new }
+        ensures alone { KeptIf ⟦<Self as Modelled>⟧.known UsesNoWorkers arguments.now KeepsWorkers self.old self.new }
+        ensures unused { KeptIf ⟦<Self as Modelled>⟧.known IsOnRepository arguments.now KeepsFolder self.old self.new }
 
         // Commands that use neither the spool nor steps of other processes leave both unchanged.
-        ensures untouched { AllAsked ⟦<Self as Modelled>⟧.known AsksNoSpool arguments.now self.old
-            → KeepsSpool self.old self.new }
+        ensures untouched { IfAll ⟦<Self as Modelled>⟧.known AsksNoSpool arguments.now KeepsSpool self.old self.new }
 
         // No lock is held afterwards, and the configuration's files are unchanged.
         ensures released { (K.state self.new.locks).taken ≡ [] }

@@ -14,6 +14,7 @@ use memory_processes::{MemProcesses, OtherPush, OtherTurn};
 use memory_workers::{MemLink, MemScheduler};
 use program_run::Outside;
 use std::alloc::{AllocError, Global};
+use worker_pool::Pool;
 
 /// A call that is to fail, by its device and its number, the first being 0.
 #[derive(Drop)]
@@ -285,8 +286,11 @@ pub(crate) fn run_on(
         locks: MemLocks::new(alloc, others, failing),
         config,
         out,
-        links,
-        turns: MemScheduler::new(Vec::new(alloc)),
+        pool: Pool {
+            links,
+            scheduler: MemScheduler::new(Vec::new(alloc)),
+            lost: Vec::new(alloc),
+        },
     };
     let status = outside.run(alloc, words);
     let ran = Ran {

@@ -28,8 +28,8 @@ returns-in_err-archive-clause-advances g c =
     let a = (g.D.Disk.state c.args.repo.now).view in
     let n = (g.D.Disk.state c.read_archive.new.repo).view in (
       no_files,
-      err_as (λ (r : Result _ _). Advances c.args.stanza.now (backed_up no_files) r a n) c.from_residual.result _ c.from_residual.ensures.1
-          (stays_part c.args.stanza.now (backed_up no_files) _ a n c.read_archive.ensures.looks.time c.read_archive.ensures.looks.now),
+      err_as (λ (r : Result _ _). Advances c.args.step.now.stanza.now (backed_up no_files) r a n) c.from_residual.result _ c.from_residual.ensures.1
+          (stays_part c.args.step.now.stanza.now (backed_up no_files) _ a n c.read_archive.ensures.looks.time c.read_archive.ensures.looks.now),
     )
 
 pub returns-in_err-backup-clause-advances : goal.returns-in_err-backup-clause-advances
@@ -39,8 +39,8 @@ returns-in_err-backup-clause-advances g c =
     let n = (g.D.Disk.state c.read_backup.new.repo).view in
     let s : IsStill a n = still_on a m n (record { now = c.read_archive.ensures.looks.now; time = c.read_archive.ensures.looks.time }) (record { now = c.read_backup.ensures.looks.now; time = c.read_backup.ensures.looks.time }) in (
       no_files,
-      err_as (λ (r : Result _ _). Advances c.args.stanza.now (backed_up no_files) r a n) c.from_residual-in_err-backup.result _ c.from_residual-in_err-backup.ensures.1
-          (stays_part c.args.stanza.now (backed_up no_files) _ a n s.time s.now),
+      err_as (λ (r : Result _ _). Advances c.args.step.now.stanza.now (backed_up no_files) r a n) c.from_residual-in_err-backup.result _ c.from_residual-in_err-backup.ensures.1
+          (stays_part c.args.step.now.stanza.now (backed_up no_files) _ a n s.time s.now),
     )
 
 pub returns-in-Ok-clause-advances : goal.returns-in-Ok-clause-advances
@@ -50,8 +50,8 @@ returns-in-Ok-clause-advances g c =
     let n = (g.D.Disk.state c.read_backup.new.repo).view in
     let d = (g.D.Disk.state c.back_up_offline.new.repo).view in
     let s : IsStill a n = still_on a m n (record { now = c.read_archive.ensures.looks.now; time = c.read_archive.ensures.looks.time }) (record { now = c.read_backup.ensures.looks.now; time = c.read_backup.ensures.looks.time }) in
-    let x = taken_well c.args.kind (take c.args.take.workers (map g.L.Link.link_state c.args.links.now.items)) c.args.stanza.now offline_early n d c.in-Ok.field-0 tt _ _ _ _ c.in-Ok.ensures.taken c.in-Ok.ensures.does in
-    (x.0, after_rests c.args.stanza.now (backed_up x.0) a n d s.time s.now (Ok tt) x.1)
+    let x = taken_well c.args.step.now.kind (take c.args.step.now.take.workers (map g.L.Link.link_state c.args.pool.now.links.items)) c.args.step.now.stanza.now offline_early n d c.in-Ok.field-0 tt _ _ _ _ c.in-Ok.ensures.taken c.in-Ok.ensures.does in
+    (x.0, after_rests c.args.step.now.stanza.now (backed_up x.0) a n d s.time s.now (Ok tt) x.1)
 
 pub returns-clause-advances : goal.returns-clause-advances
 returns-clause-advances g c =
@@ -60,8 +60,8 @@ returns-clause-advances g c =
     let n = (g.D.Disk.state c.read_backup.new.repo).view in
     let d = (g.D.Disk.state c.back_up_offline.new.repo).view in
     let s : IsStill a n = still_on a m n (record { now = c.read_archive.ensures.looks.now; time = c.read_archive.ensures.looks.time }) (record { now = c.read_backup.ensures.looks.now; time = c.read_backup.ensures.looks.time }) in
-    let x = taken_stops c.args.kind (take c.args.take.workers (map g.L.Link.link_state c.args.links.now.items)) c.args.stanza.now offline_early n d c.in-Err.halt c.of_offline.result c.in-Err.ensures.does in
-    (x.0, after_rests c.args.stanza.now (backed_up x.0) a n d s.time s.now (Err c.of_offline.result) x.1)
+    let x = taken_stops c.args.step.now.kind (take c.args.step.now.take.workers (map g.L.Link.link_state c.args.pool.now.links.items)) c.args.step.now.stanza.now offline_early n d c.in-Err.halt c.of_offline.result c.in-Err.ensures.does in
+    (x.0, after_rests c.args.step.now.stanza.now (backed_up x.0) a n d s.time s.now (Err c.of_offline.result) x.1)
 
 pub returns-in-Ok-clause-beside : goal.returns-in-Ok-clause-beside
 returns-in-Ok-clause-beside g c =
@@ -69,7 +69,7 @@ returns-in-Ok-clause-beside g c =
     let m = (g.D.Disk.state c.read_archive.new.repo).view in
     let n = (g.D.Disk.state c.read_backup.new.repo).view in
     let s : IsStill a n = still_on a m n (record { now = c.read_archive.ensures.looks.now; time = c.read_archive.ensures.looks.time }) (record { now = c.read_backup.ensures.looks.now; time = c.read_backup.ensures.looks.time }) in
-    beside_on c.args.stanza.now a n (g.D.Disk.state c.back_up_offline.new.repo).view (rests_beside c.args.stanza.now a n s.time s.now) c.back_up_offline.ensures.beside
+    beside_on c.args.step.now.stanza.now a n (g.D.Disk.state c.back_up_offline.new.repo).view (rests_beside c.args.step.now.stanza.now a n s.time s.now) c.back_up_offline.ensures.beside
 
 pub returns-clause-beside : goal.returns-clause-beside
 returns-clause-beside g c =
@@ -77,11 +77,11 @@ returns-clause-beside g c =
     let m = (g.D.Disk.state c.read_archive.new.repo).view in
     let n = (g.D.Disk.state c.read_backup.new.repo).view in
     let s : IsStill a n = still_on a m n (record { now = c.read_archive.ensures.looks.now; time = c.read_archive.ensures.looks.time }) (record { now = c.read_backup.ensures.looks.now; time = c.read_backup.ensures.looks.time }) in
-    beside_on c.args.stanza.now a n (g.D.Disk.state c.back_up_offline.new.repo).view (rests_beside c.args.stanza.now a n s.time s.now) c.back_up_offline.ensures.beside
+    beside_on c.args.step.now.stanza.now a n (g.D.Disk.state c.back_up_offline.new.repo).view (rests_beside c.args.step.now.stanza.now a n s.time s.now) c.back_up_offline.ensures.beside
 
 pub returns-in_err-archive-clause-cause : goal.returns-in_err-archive-clause-cause
 returns-in_err-archive-clause-cause g c =
-    let stanza = c.args.stanza.now in
+    let stanza = c.args.step.now.stanza.now in
     let a = g.D.Disk.state c.args.repo.now in
     let n = g.D.Disk.state c.read_archive.new.repo in
     let t = (g.T.DataFolder.state c.args.tree.now).faults in
@@ -94,7 +94,7 @@ returns-in_err-archive-clause-cause g c =
 
 pub returns-in_err-backup-clause-cause : goal.returns-in_err-backup-clause-cause
 returns-in_err-backup-clause-cause g c =
-    let stanza = c.args.stanza.now in
+    let stanza = c.args.step.now.stanza.now in
     let a = g.D.Disk.state c.args.repo.now in
     let m = g.D.Disk.state c.read_archive.new.repo in
     let n = g.D.Disk.state c.read_backup.new.repo in
@@ -109,7 +109,7 @@ returns-in_err-backup-clause-cause g c =
 
 pub returns-clause-cause : goal.returns-clause-cause
 returns-clause-cause g c =
-    let stanza = c.args.stanza.now in
+    let stanza = c.args.step.now.stanza.now in
     let a = g.D.Disk.state c.args.repo.now in
     let m = g.D.Disk.state c.read_archive.new.repo in
     let n = g.D.Disk.state c.read_backup.new.repo in
@@ -118,7 +118,7 @@ returns-clause-cause g c =
     let w = (g.T.DataFolder.state c.back_up_offline.new.tree).faults in
     let x = (g.C.Clock.state c.args.clock.now).faults in
     let q = (g.C.Clock.state c.back_up_offline.new.clock).faults in
-    let b : Before = record { stanza = stanza; known = sample; repo = n.view.now; nodes = (g.T.DataFolder.state c.args.tree.now).nodes; least = (g.C.Clock.state c.args.clock.now).least; used = take c.args.take.workers (map g.L.Link.link_state c.args.links.now.items) } in
+    let b : Before = record { stanza = stanza; known = sample; repo = n.view.now; nodes = (g.T.DataFolder.state c.args.tree.now).nodes; least = (g.C.Clock.state c.args.clock.now).least; used = take c.args.step.now.take.workers (map g.L.Link.link_state c.args.pool.now.links.items) } in
     let within : Within a.faults n.faults d.faults d.faults t t w w x x q q = record { repo = omega (arith, c.read_archive.ensures.looks.later, c.read_backup.ensures.looks.later); repo_after = le_refl d.faults; tree = le_refl t; tree_after = le_refl w; clock = le_refl x; clock_behind = le_refl q } in
     let F = Fails n.faults d.faults t w x q in
     subst (HaltCause (StepCause stanza a.view.now) (Fails a.faults d.faults t w x q)) (sym c.of_offline.ensures)
@@ -130,4 +130,4 @@ returns-in-Ok-clause-taken g c =
     let looks = c.read_backup.ensures.looks.now ∙ c.read_archive.ensures.looks.now in
     let d = (g.D.Disk.state c.back_up_offline.new.repo).view.now in
     let x = taken_by _ _ _ _ _ _ c.in-Ok.field-0 c.in-Ok.ensures.taken in
-    subst (λ (o : Option Content). IsTakenBy c.args.stanza.now c.args.kind o d) looks x
+    subst (λ (o : Option Content). IsTakenBy c.args.step.now.stanza.now c.args.step.now.kind o d) looks x

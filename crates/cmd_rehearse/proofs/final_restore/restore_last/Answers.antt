@@ -20,7 +20,7 @@ invariant_of-recover g c = record { short = c.args.order.now.take.short; reposit
 
 pub returns-in_err-backup-clause-cause : goal.returns-in_err-backup-clause-cause
 returns-in_err-backup-clause-cause g c =
-    let stanza = c.args.stanza.now in
+    let stanza = c.args.order.now.stanza.now in
     let a = g.D.Disk.state c.args.repo.now in
     let m = g.D.Disk.state c.read_backup.new.repo in
     let t = (g.T.DataFolder.state c.args.tree.now).faults in
@@ -37,20 +37,20 @@ returns-clause-looks g c = looks_on (g.D.Disk.state c.args.repo.now) (g.D.Disk.s
 
 pub returns-in-Ok-clause-restored : goal.returns-in-Ok-clause-restored
 returns-in-Ok-clause-restored g c =
-    let b : Before = record { stanza = c.args.stanza.now; set = None; repo = (g.D.Disk.state c.read_backup.new.repo).view.now; nodes = (g.T.DataFolder.state c.args.tree.now).nodes; used = take c.args.order.now.take.workers (map g.L.Link.link_state c.in_ok-dealt.dealt.items); options = options_by c.args.stanza.now true Without } in
+    let b : Before = record { stanza = c.args.order.now.stanza.now; set = None; repo = (g.D.Disk.state c.read_backup.new.repo).view.now; nodes = (g.T.DataFolder.state c.args.tree.now).nodes; used = take c.args.order.now.take.workers (map g.L.Link.link_state c.deal_links.new.pool.links.items); options = options_by c.args.order.now.stanza.now true Without } in
     let x = lines_of c.in-Ok.field-0 (Recovers b (g.T.DataFolder.state c.restore_backup.new.tree).nodes) c.in-Ok.ensures.restored in
     record { before = b; stanza_is = refl; set_is = refl; repo_is = c.read_backup.ensures.looks.now; lines = x.0; recovers = x.1 }
 
 pub returns-clause-cause : goal.returns-clause-cause
 returns-clause-cause g c =
-    let stanza = c.args.stanza.now in
+    let stanza = c.args.order.now.stanza.now in
     let a = g.D.Disk.state c.args.repo.now in
     let m = g.D.Disk.state c.read_backup.new.repo in
     let d = g.D.Disk.state c.restore_backup.new.repo in
     let t = (g.T.DataFolder.state c.args.tree.now).faults in
     let w = (g.T.DataFolder.state c.restore_backup.new.tree).faults in
     let F = FailsBoth m.faults d.faults t w in
-    let b : Before = record { stanza = c.args.stanza.now; set = None; repo = (g.D.Disk.state c.read_backup.new.repo).view.now; nodes = (g.T.DataFolder.state c.args.tree.now).nodes; used = take c.args.order.now.take.workers (map g.L.Link.link_state c.in_ok-dealt.dealt.items); options = options_by c.args.stanza.now true Without } in
+    let b : Before = record { stanza = c.args.order.now.stanza.now; set = None; repo = (g.D.Disk.state c.read_backup.new.repo).view.now; nodes = (g.T.DataFolder.state c.args.tree.now).nodes; used = take c.args.order.now.take.workers (map g.L.Link.link_state c.deal_links.new.pool.links.items); options = options_by c.args.order.now.stanza.now true Without } in
     subst (HaltCause (StepCause stanza a.view.now) (FailsBoth a.faults d.faults t w)) (sym c.of_restore.ensures)
     (halt_as (StepCause stanza a.view.now) (StepCause stanza a.view.now) F (FailsBoth a.faults d.faults t w) (λ e h. h)
     (both_on a.faults m.faults d.faults d.faults t t w w c.read_backup.ensures.looks.later (le_refl d.faults) (le_refl t) (le_refl w)) _

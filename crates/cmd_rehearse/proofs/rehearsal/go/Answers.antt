@@ -21,7 +21,7 @@ use Rattle.cmd_rehearse.proofs.Pushes.{err_as}
 use Rattle.cmd_rehearse.proofs.rehearsal.go.Goals as goal
 
 pub tell-requires-clause-known : goal.tell-requires-clause-known
-tell-requires-clause-known g c = examined_known c.args.stanza.now (g.D.Disk.state c.live.new.repo).view.now c.in_ok-ended.ended.found c.in_ok-ended.ensures.ended.comes.examined
+tell-requires-clause-known g c = examined_known c.args.order.now.stanza.now (g.D.Disk.state c.live.new.repo).view.now c.in_ok-ended.ended.found c.in_ok-ended.ensures.ended.comes.examined
 
 pub returns-in_err-lived-clause-lives : goal.returns-in_err-lived-clause-lives
 returns-in_err-lived-clause-lives g c =
@@ -31,16 +31,16 @@ returns-in_err-lived-clause-lives g c =
       x.0,
       x.1,
       x.2,
-      err_as (λ (r : Result _ _). Carries c.args.stanza.now (rehearsed c.args.order.now.number keeps_one x.0 x.1 x.2) r a m) c.from_residual.result _ c.from_residual.ensures.1
-          (carries_err {T = Lived} {U = Outcome} c.args.stanza.now (rehearsed c.args.order.now.number keeps_one x.0 x.1 x.2) c.in_err-lived.field-0.0 _ a m x.3),
-      err_as (λ (r : Result Outcome (Halt StepFault)). IfOk r (IsRehearsed c.args.stanza.now c.args.order.now.number x.0 x.1 x.2 a.now m.now (g.T.DataFolder.state c.live.new.tree).nodes)) c.from_residual.result _ c.from_residual.ensures.1 tt,
+      err_as (λ (r : Result _ _). Carries c.args.order.now.stanza.now (rehearsed c.args.order.now.number keeps_one x.0 x.1 x.2) r a m) c.from_residual.result _ c.from_residual.ensures.1
+          (carries_err {T = Lived} {U = Outcome} c.args.order.now.stanza.now (rehearsed c.args.order.now.number keeps_one x.0 x.1 x.2) c.in_err-lived.field-0.0 _ a m x.3),
+      err_as (λ (r : Result Outcome (Halt StepFault)). IfOk r (IsRehearsed c.args.order.now.stanza.now c.args.order.now.number x.0 x.1 x.2 a.now m.now (g.T.DataFolder.state c.live.new.tree).nodes)) c.from_residual.result _ c.from_residual.ensures.1 tt,
     )
 
 pub returns-in_err-lived-clause-cause : goal.returns-in_err-lived-clause-cause
 returns-in_err-lived-clause-cause g c =
     let a = g.D.Disk.state c.args.repo.now in
     let m = g.D.Disk.state c.live.new.repo in
-    ends_with (HaltCause (PrefixCause c.args.stanza.now c.args.order.now.number a.view.now) (Fails a.faults m.faults (g.T.DataFolder.state c.args.tree.now).faults (g.T.DataFolder.state c.live.new.tree).faults (g.C.Clock.state c.args.clock.now).faults (g.C.Clock.state c.live.new.clock).faults))
+    ends_with (HaltCause (PrefixCause c.args.order.now.stanza.now c.args.order.now.number a.view.now) (Fails a.faults m.faults (g.T.DataFolder.state c.args.tree.now).faults (g.T.DataFolder.state c.live.new.tree).faults (g.C.Clock.state c.args.clock.now).faults (g.C.Clock.state c.live.new.clock).faults))
     c.from_residual.result c.in_err-lived.field-0.0 c.from_residual.ensures.1 c.in_err-lived.ensures.cause
 
 pub returns-in_err-ended-clause-lives : goal.returns-in_err-ended-clause-lives
@@ -53,14 +53,14 @@ returns-in_err-ended-clause-lives g c =
       x.0,
       x.1,
       x.2,
-      err_as (λ (r : Result _ _). Carries c.args.stanza.now (rehearsed c.args.order.now.number keeps_one x.0 x.1 x.2) r a d) r.result _ r.ensures.1
-          (carries_still {E = Halt StepFault} {U = Outcome} c.args.stanza.now (rehearsed c.args.order.now.number keeps_one x.0 x.1 x.2) c.in_ok-lived.lived (Err _) a m d x.3 c.end.ensures.looks.time c.end.ensures.looks.now),
-      err_as (λ (r : Result Outcome (Halt StepFault)). IfOk r (IsRehearsed c.args.stanza.now c.args.order.now.number x.0 x.1 x.2 a.now d.now (g.T.DataFolder.state c.end.new.tree).nodes)) r.result _ r.ensures.1 tt,
+      err_as (λ (r : Result _ _). Carries c.args.order.now.stanza.now (rehearsed c.args.order.now.number keeps_one x.0 x.1 x.2) r a d) r.result _ r.ensures.1
+          (carries_still {E = Halt StepFault} {U = Outcome} c.args.order.now.stanza.now (rehearsed c.args.order.now.number keeps_one x.0 x.1 x.2) c.in_ok-lived.lived (Err _) a m d x.3 c.end.ensures.looks.time c.end.ensures.looks.now),
+      err_as (λ (r : Result Outcome (Halt StepFault)). IfOk r (IsRehearsed c.args.order.now.stanza.now c.args.order.now.number x.0 x.1 x.2 a.now d.now (g.T.DataFolder.state c.end.new.tree).nodes)) r.result _ r.ensures.1 tt,
     )
 
 pub returns-in_err-ended-clause-cause : goal.returns-in_err-ended-clause-cause
 returns-in_err-ended-clause-cause g c =
-    let stanza = c.args.stanza.now in
+    let stanza = c.args.order.now.stanza.now in
     let n = c.args.order.now.number in
     let a = g.D.Disk.state c.args.repo.now in
     let m = g.D.Disk.state c.live.new.repo in
@@ -88,14 +88,14 @@ returns-in_err-tell-clause-lives g c =
       x.0,
       x.1,
       x.2,
-      err_as (λ (r : Result _ _). Carries c.args.stanza.now (rehearsed c.args.order.now.number keeps_one x.0 x.1 x.2) r a d) r.result _ r.ensures.1
-          (carries_still {E = Halt StepFault} {U = Outcome} c.args.stanza.now (rehearsed c.args.order.now.number keeps_one x.0 x.1 x.2) c.in_ok-lived.lived (Err _) a m d x.3 c.end.ensures.looks.time c.end.ensures.looks.now),
-      err_as (λ (r : Result Outcome (Halt StepFault)). IfOk r (IsRehearsed c.args.stanza.now c.args.order.now.number x.0 x.1 x.2 a.now d.now (g.T.DataFolder.state c.end.new.tree).nodes)) r.result _ r.ensures.1 tt,
+      err_as (λ (r : Result _ _). Carries c.args.order.now.stanza.now (rehearsed c.args.order.now.number keeps_one x.0 x.1 x.2) r a d) r.result _ r.ensures.1
+          (carries_still {E = Halt StepFault} {U = Outcome} c.args.order.now.stanza.now (rehearsed c.args.order.now.number keeps_one x.0 x.1 x.2) c.in_ok-lived.lived (Err _) a m d x.3 c.end.ensures.looks.time c.end.ensures.looks.now),
+      err_as (λ (r : Result Outcome (Halt StepFault)). IfOk r (IsRehearsed c.args.order.now.stanza.now c.args.order.now.number x.0 x.1 x.2 a.now d.now (g.T.DataFolder.state c.end.new.tree).nodes)) r.result _ r.ensures.1 tt,
     )
 
 pub returns-clause-lives : goal.returns-clause-lives
 returns-clause-lives g c =
-    let stanza = c.args.stanza.now in
+    let stanza = c.args.order.now.stanza.now in
     let n = c.args.order.now.number in
     let a = (g.D.Disk.state c.args.repo.now).view in
     let m = (g.D.Disk.state c.live.new.repo).view in
@@ -122,16 +122,16 @@ pub returns-in_err-ended-clause-beside : goal.returns-in_err-ended-clause-beside
 returns-in_err-ended-clause-beside g c =
     let m = (g.D.Disk.state c.live.new.repo).view in
     let d = (g.D.Disk.state c.end.new.repo).view in
-    beside_on c.args.stanza.now (g.D.Disk.state c.args.repo.now).view m d c.live.ensures.beside (rests_beside c.args.stanza.now m d c.end.ensures.looks.time c.end.ensures.looks.now)
+    beside_on c.args.order.now.stanza.now (g.D.Disk.state c.args.repo.now).view m d c.live.ensures.beside (rests_beside c.args.order.now.stanza.now m d c.end.ensures.looks.time c.end.ensures.looks.now)
 
 pub returns-in_err-tell-clause-beside : goal.returns-in_err-tell-clause-beside
 returns-in_err-tell-clause-beside g c =
     let m = (g.D.Disk.state c.live.new.repo).view in
     let d = (g.D.Disk.state c.end.new.repo).view in
-    beside_on c.args.stanza.now (g.D.Disk.state c.args.repo.now).view m d c.live.ensures.beside (rests_beside c.args.stanza.now m d c.end.ensures.looks.time c.end.ensures.looks.now)
+    beside_on c.args.order.now.stanza.now (g.D.Disk.state c.args.repo.now).view m d c.live.ensures.beside (rests_beside c.args.order.now.stanza.now m d c.end.ensures.looks.time c.end.ensures.looks.now)
 
 pub returns-clause-beside : goal.returns-clause-beside
 returns-clause-beside g c =
     let m = (g.D.Disk.state c.live.new.repo).view in
     let d = (g.D.Disk.state c.end.new.repo).view in
-    beside_on c.args.stanza.now (g.D.Disk.state c.args.repo.now).view m d c.live.ensures.beside (rests_beside c.args.stanza.now m d c.end.ensures.looks.time c.end.ensures.looks.now)
+    beside_on c.args.order.now.stanza.now (g.D.Disk.state c.args.repo.now).view m d c.live.ensures.beside (rests_beside c.args.order.now.stanza.now m d c.end.ensures.looks.time c.end.ensures.looks.now)

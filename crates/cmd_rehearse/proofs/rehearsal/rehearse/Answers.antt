@@ -29,7 +29,7 @@ use Rattle.cmd_rehearse.proofs.rehearsal.rehearse.Goals as goal
 
 pub returns-in_err-check_new-clause-lives : goal.returns-in_err-check_new-clause-lives
 returns-in_err-check_new-clause-lives g c =
-    let stanza = c.args.stanza.now in
+    let stanza = c.args.order.now.stanza.now in
     let a = (g.D.Disk.state c.args.repo.now).view in
     let n = (g.D.Disk.state c.check_new.new.repo).view in
     let command = rehearsed c.args.order.now.number keeps_one no_files no_files no_files in (
@@ -42,7 +42,7 @@ returns-in_err-check_new-clause-lives g c =
     )
 
 pub returns-in_err-check_new-clause-beside : goal.returns-in_err-check_new-clause-beside
-returns-in_err-check_new-clause-beside g c = rests_beside c.args.stanza.now (g.D.Disk.state c.args.repo.now).view (g.D.Disk.state c.check_new.new.repo).view c.check_new.ensures.looks.time c.check_new.ensures.looks.now
+returns-in_err-check_new-clause-beside g c = rests_beside c.args.order.now.stanza.now (g.D.Disk.state c.args.repo.now).view (g.D.Disk.state c.check_new.new.repo).view c.check_new.ensures.looks.time c.check_new.ensures.looks.now
 
 pub returns-in_err-check_new-clause-nodes : goal.returns-in_err-check_new-clause-nodes
 returns-in_err-check_new-clause-nodes g c =
@@ -51,7 +51,7 @@ returns-in_err-check_new-clause-nodes g c =
 
 pub returns-in_err-check_new-clause-cause : goal.returns-in_err-check_new-clause-cause
 returns-in_err-check_new-clause-cause g c =
-    let stanza = c.args.stanza.now in
+    let stanza = c.args.order.now.stanza.now in
     let number = c.args.order.now.number in
     let a = g.D.Disk.state c.args.repo.now in
     let n = g.D.Disk.state c.check_new.new.repo in
@@ -68,14 +68,14 @@ returns-in_err-check_new-clause-cause g c =
 
 pub returns-in-Err-clause-lives : goal.returns-in-Err-clause-lives
 returns-in-Err-clause-lives g c =
-    let stanza = c.args.stanza.now in
+    let stanza = c.args.order.now.stanza.now in
     let a = (g.D.Disk.state c.args.repo.now).view in
     let n = (g.D.Disk.state c.check_new.new.repo).view in
     let command = rehearsed c.args.order.now.number keeps_one no_files no_files no_files in
     (no_files, no_files, no_files, idle_does stanza command a n c.check_new.ensures.looks.time c.check_new.ensures.looks.now c.of_folder.result, tt)
 
 pub returns-in-Err-clause-beside : goal.returns-in-Err-clause-beside
-returns-in-Err-clause-beside g c = rests_beside c.args.stanza.now (g.D.Disk.state c.args.repo.now).view (g.D.Disk.state c.check_new.new.repo).view c.check_new.ensures.looks.time c.check_new.ensures.looks.now
+returns-in-Err-clause-beside g c = rests_beside c.args.order.now.stanza.now (g.D.Disk.state c.args.repo.now).view (g.D.Disk.state c.check_new.new.repo).view c.check_new.ensures.looks.time c.check_new.ensures.looks.now
 
 pub returns-in-Err-clause-nodes : goal.returns-in-Err-clause-nodes
 returns-in-Err-clause-nodes g c =
@@ -85,7 +85,7 @@ returns-in-Err-clause-nodes g c =
 
 pub returns-in-Err-clause-cause : goal.returns-in-Err-clause-cause
 returns-in-Err-clause-cause g c =
-    let stanza = c.args.stanza.now in
+    let stanza = c.args.order.now.stanza.now in
     let number = c.args.order.now.number in
     let a = g.D.Disk.state c.args.repo.now in
     let n = g.D.Disk.state c.check_new.new.repo in
@@ -100,7 +100,7 @@ returns-in-Err-clause-cause g c =
 
 pub returns-in-Ok-clause-lives : goal.returns-in-Ok-clause-lives
 returns-in-Ok-clause-lives g c =
-    let stanza = c.args.stanza.now in
+    let stanza = c.args.order.now.stanza.now in
     let number = c.args.order.now.number in
     let a = (g.D.Disk.state c.args.repo.now).view in
     let n = (g.D.Disk.state c.check_new.new.repo).view in
@@ -120,11 +120,11 @@ pub returns-in-Ok-clause-beside : goal.returns-in-Ok-clause-beside
 returns-in-Ok-clause-beside g c =
     let a = (g.D.Disk.state c.args.repo.now).view in
     let n = (g.D.Disk.state c.check_new.new.repo).view in
-    beside_on c.args.stanza.now a n (g.D.Disk.state c.go.new.repo).view (rests_beside c.args.stanza.now a n c.check_new.ensures.looks.time c.check_new.ensures.looks.now) c.go.ensures.beside
+    beside_on c.args.order.now.stanza.now a n (g.D.Disk.state c.go.new.repo).view (rests_beside c.args.order.now.stanza.now a n c.check_new.ensures.looks.time c.check_new.ensures.looks.now) c.go.ensures.beside
 
 pub returns-in-Err-go-clause-lives : goal.returns-in-Err-go-clause-lives
 returns-in-Err-go-clause-lives g c =
-    let stanza = c.args.stanza.now in
+    let stanza = c.args.order.now.stanza.now in
     let number = c.args.order.now.number in
     let a = (g.D.Disk.state c.args.repo.now).view in
     let n = (g.D.Disk.state c.check_new.new.repo).view in
@@ -145,7 +145,7 @@ pub returns-in-Err-go-clause-beside : goal.returns-in-Err-go-clause-beside
 returns-in-Err-go-clause-beside g c =
     let a = (g.D.Disk.state c.args.repo.now).view in
     let n = (g.D.Disk.state c.check_new.new.repo).view in
-    beside_on c.args.stanza.now a n (g.D.Disk.state c.go.new.repo).view (rests_beside c.args.stanza.now a n c.check_new.ensures.looks.time c.check_new.ensures.looks.now) c.go.ensures.beside
+    beside_on c.args.order.now.stanza.now a n (g.D.Disk.state c.go.new.repo).view (rests_beside c.args.order.now.stanza.now a n c.check_new.ensures.looks.time c.check_new.ensures.looks.now) c.go.ensures.beside
 
 pub returns-in-Err-go-clause-nodes : goal.returns-in-Err-go-clause-nodes
 returns-in-Err-go-clause-nodes g c =
@@ -154,7 +154,7 @@ returns-in-Err-go-clause-nodes g c =
 
 pub returns-in-Err-go-clause-cause : goal.returns-in-Err-go-clause-cause
 returns-in-Err-go-clause-cause g c =
-    let stanza = c.args.stanza.now in
+    let stanza = c.args.order.now.stanza.now in
     let number = c.args.order.now.number in
     let a = g.D.Disk.state c.args.repo.now in
     let n = g.D.Disk.state c.check_new.new.repo in

@@ -1,4 +1,4 @@
-use Rattle.std.proofs.Common.{subst, sym}
+use Rattle.std.proofs.Common.{None, subst, sym}
 use Rattle.base_devices.specs.Cause.{Rises}
 use Rattle.cmd_types.specs.declared.stages.object.Object.TheVariants.{Repo}
 use Rattle.cmd_types.specs.Halts.{HaltCause, Only}
@@ -18,6 +18,6 @@ returns-clause-cause g c =
     let stanza = c.args.stanza.now in
     let now = (g.D.Disk.state c.args.repo.now).view.now in
     let rose = Rises (g.D.Disk.state c.args.repo.now).faults (g.D.Disk.state c.create_stanza.new.repo).faults in
-    let asked = Rises (g.V.ServerConnection.state c.args.connection.now).faults (g.V.ServerConnection.state c.create_stanza.new.connection).faults in
+    let asked = Rises c.new-server.result.faults c.create_stanza.new.connection.faults in
     subst (HaltCause (StepCause stanza now) (Only Repo rose)) (sym c.of_create.ensures)
-    (create_fails stanza now (g.V.ServerConnection.state c.args.connection.now).pending rose asked c.in-Err.halt c.in-Err.ensures.cause)
+    (create_fails stanza now None rose asked c.in-Err.halt c.in-Err.ensures.cause)

@@ -4,7 +4,7 @@ use Rattle.program_crashes.proofs.call_or_crash.call_on.Goals as goal
 
 pub returns : goal.returns
 returns c =
-    let same : string_bytes c.called-status.new.outside.processes.stanza ≡ string_bytes c.args.others.stanza = search rules in
+    let same : string_bytes c.called-status.new.outside.processes.stanza ≡ string_bytes c.args.around.others.stanza = search rules in
     record {
-      went = λ others before h. (_, _, refl, refl, refl, c.called-status.ensures.went refl (λ a asks. turns_known a a.request _ (string_bytes c.args.others.stanza) (others a asks) same) before h);
+      went = λ others before h. (_, _, refl, refl, refl, c.called-status.ensures.went refl (λ a asks. turns_known a a.request _ (string_bytes c.args.around.others.stanza) (others a asks) same) before h);
     }

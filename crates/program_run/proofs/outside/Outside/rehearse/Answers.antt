@@ -1,4 +1,4 @@
-use Rattle.std.proofs.Common.{ℕ, IfOk, IfErr, refl, ap, arith, subst}
+use Rattle.std.proofs.Common.{ℕ, IfOk, IfErr, refl, arith, subst}
 use Rattle.cmd_types.specs.Plans.{AreHeld}
 use Rattle.cmd_types.specs.declared.stages.plan.SyncScope.TheVariants.{Whole}
 use Rattle.cmd_types.specs.Halts.{HaltCause}
@@ -33,10 +33,10 @@ returns-clause-ran g c =
     let d = g.D.Disk.state c.rehearse.new.repo in
     let t = g.T.DataFolder.state c.args.self.now.tree in
     let failed = Fails a.faults d.faults t.faults (g.T.DataFolder.state c.rehearse.new.tree).faults (g.C.Clock.state c.args.self.now.clock).faults (g.C.Clock.state c.rehearse.new.clock).faults in
-    rehearsed_ran (alone (asked_of s)) _ _ refl (ap (λ w. g.V.ServerConnection.state w) e.quiet) refl x.0 c.rehearse.result c.rehearse_end.result c.rehearse_end.ensures x.1 l.0 l.1 l.2
+    rehearsed_ran (alone (asked_of s)) _ _ refl refl refl x.0 c.rehearse.result c.rehearse_end.result c.rehearse_end.ensures x.1 l.0 l.1 l.2
     (subst (λ (n : ℕ). RepoEffect Whole stanza (rehearsed n keeps_one l.0 l.1 l.2) (reached_by rehearse_early c.rehearse.result) a.view d.view) x.2 l.3)
     (subst (λ (n : ℕ). IfOk c.rehearse.result (IsRehearsed stanza n l.0 l.1 l.2 a.view.now d.view.now (g.T.DataFolder.state c.rehearse.new.tree).nodes)) x.2 l.4)
     e.beside e.nodes e.left failed (λ h. h) (rose_to _ _ _ (λ h. h) (λ h. absurd h) (λ h. h) (λ h. absurd h) (λ h. absurd h) (λ h. h) (λ h. absurd h) (λ h. absurd h) (λ h. absurd h))
     (subst (λ (n : ℕ). IfErr c.rehearse.result (HaltCause (RehearseCause stanza n a.view.now t.nodes) failed)) x.2 e.cause)
     (record { spool = refl; repo = e.frame.opened; tree = e.folder.opened })
-    (all_later _ _ e.frame.later (omega arith) e.folder.later (omega (arith, ap (λ w. (g.V.ServerConnection.state w).faults) e.quiet)) (omega arith) e.later (omega arith) (omega arith) (omega arith))
+    (all_later _ _ e.frame.later (omega arith) e.folder.later (omega arith) (omega arith) e.later (omega arith) (omega arith) (omega arith))

@@ -91,7 +91,7 @@ pub returns-clause-unasked : goal.returns-clause-unasked
 returns-clause-unasked g c = λ none.
     let o = c.args.self.now in
     let e = only_unbuilt (map string_bytes c.args.arguments.now) (g.I.InputFiles.state o.config).files c.in-Ok.command c.in-Ok.ensures.command _ c.carry.ensures.unbuilt none in
-    subst (λ i. c.carry.new.self ≡ record { repo = o.repo; spool = o.spool; tree = o.tree; server = o.server; processes = o.processes; clock = o.clock; locks = o.locks; config = i; out = c.carry.new.self.out; links = o.links; turns = o.turns }) (ap (λ x. x.config) (sym e)) e
+    subst (λ i. c.carry.new.self ≡ record { repo = o.repo; spool = o.spool; tree = o.tree; server = o.server; processes = o.processes; clock = o.clock; locks = o.locks; config = i; out = c.carry.new.self.out; pool = o.pool }) (ap (λ x. x.config) (sym e)) e
 
 pub returns-in-Err-clause-others : goal.returns-in-Err-clause-others
 returns-in-Err-clause-others g c = λ a asks.
