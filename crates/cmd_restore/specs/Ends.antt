@@ -1,5 +1,6 @@
 -- What a restore leaves of the data folder where it is refused.
-use Rattle.std.specs.Prelude.{Bool, true, false}
+use Rattle.std.specs.Prelude.{◌≡◌, Bool, true, false}
+use Rattle.base_devices.specs.States.{DataFolderState}
 use Rattle.cmd_types.specs.declared.stages.halt.Halt.{Halt}
 use Rattle.cmd_types.specs.declared.stages.halt.Halt.TheVariants.{Refused, Failed, NoMemory}
 use Rattle.cmd_types.specs.declared.stages.object.Object.{Object}
@@ -28,3 +29,7 @@ abbrev pub leaves_folder : Halt RestoreCommandFault → Bool
 leaves_folder (Refused fault) = comes_first fault
 leaves_folder (Failed object) = fails_first object
 leaves_folder NoMemory = false
+
+-- where it has, the folder holds what it held
+abbrev pub LeavesFolder : DataFolderState → DataFolderState → Halt RestoreCommandFault → Type 0
+LeavesFolder old new halt = leaves_folder halt ≡ true → new.nodes ≡ old.nodes

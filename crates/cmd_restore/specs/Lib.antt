@@ -8,3 +8,5 @@ pub mod Ends
 pub mod Texts
 pub mod Restoring
 pub mod Causes
+pub mod Putting
+pub mod Commanding

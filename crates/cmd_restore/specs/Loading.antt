@@ -1,6 +1,7 @@
 -- The manifest of the backup that is restored. Own.
 use Rattle.std.specs.Prelude.{◌≡◌, ◌≢◌, ◌⊎◌, codes, Option, IfSome, string_bytes}
 use Rattle.base_devices.specs.Content.{Content}
+use Rattle.base_devices.specs.States.{DiskState, DiskFailed}
 use Rattle.repo_info.specs.declared.fault.MemberFault.{MemberFault}
 use Rattle.repo_info.specs.declared.fault.MemberFault.TheVariants.{Absent, Form}
 use Rattle.base_model.specs.declared.labels.Label.{Label}
@@ -13,6 +14,8 @@ use Rattle.repo_pair.specs.declared.fault.InfoFault.{InfoFault}
 use Rattle.repo_pair.specs.declared.fault.InfoFault.TheVariants.{Missing, Damaged, Disk, NoMemory}
 use Rattle.repo_pair.specs.Causes.{AreDamaged}
 use Rattle.repo_manifest.specs.ManifestForm.{IsManifestForm}
+use Rattle.cmd_types.specs.Halts.{HaltCause, Only}
+use Rattle.cmd_types.specs.declared.stages.halt.Halt.{Halt}
 use Rattle.cmd_types.specs.declared.stages.object.Object.{Object}
 use Rattle.cmd_types.specs.declared.stages.object.Object.TheVariants.{Repo}
 use Rattle.cmd_restore.specs.declared.fault.RestoreCommandFault.{RestoreCommandFault}
@@ -67,3 +70,14 @@ ShowsPair label NoMemory fault = ⊥
 -- the repository failed
 abbrev pub FailsPair : InfoFault → Object → Type 0
 FailsPair fault object = (object ≡ Repo) × (fault ≡ Disk)
+
+-- ---- over the repository's states
+
+-- where the repository is known, it has this manifest, which states the label
+abbrev pub LoadsManifest : Text → Label → DiskState → Manifest → Type 0
+LoadsManifest stanza label repo m = IfSome repo.view.now (HasManifest stanza label m)
+
+-- why it isn't read
+abbrev pub LoadHalts : Text → Label → DiskState → DiskState → Halt RestoreCommandFault → Type 0
+LoadHalts stanza label old new halt =
+    HaltCause (LoadCause stanza label old.view.now) (Only Repo (DiskFailed old new)) halt

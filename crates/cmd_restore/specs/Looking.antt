@@ -1,8 +1,14 @@
 -- Which data folder a backup may be put into. Own.
-use Rattle.std.specs.Prelude.{Bool, true, ◌≡◌, ◌⊎◌, [], ◌∷◌, List, codes, Option, None, IfSome, IsSome, string_bytes}
+use Rattle.std.specs.Prelude.{Bool, true, ◌≡◌, ◌⊎◌, [], ◌∷◌, List, map, codes, Option, None, IfSome, IsSome, string_bytes}
 use Rattle.base_devices.specs.DataFolder.{Nodes, IsTreeListing}
+use Rattle.base_devices.specs.States.{DataFolderState, FolderFailed}
+use Rattle.base_devices.specs.declared.data_folder.FolderEntry.{FolderEntry}
 use Rattle.base_devices.specs.declared.data_folder.Node.{Node}
 use Rattle.base_model.specs.Text.{Text, In}
+use Rattle.restore_steps.specs.Clearing.{seen_of}
+use Rattle.cmd_types.specs.Halts.{HaltCause, Only}
+use Rattle.cmd_types.specs.declared.stages.halt.Halt.{Halt}
+use Rattle.cmd_types.specs.declared.stages.object.Object.TheVariants.{TheDataFolder}
 use Rattle.cmd_restore.specs.declared.fault.RestoreCommandFault.{RestoreCommandFault}
 use Rattle.cmd_restore.specs.declared.fault.RestoreCommandFault.TheVariants.{Running, NotEmpty}
 
@@ -52,3 +58,14 @@ abbrev pub SeenCause : Bool → List (Text × Node) → RestoreCommandFault → 
 SeenCause delta seen Running = IsListed seen server_path
 SeenCause delta seen (NotEmpty path) = ¬ IsListed seen server_path × HoldingCause delta seen (NotEmpty path)
 SeenCause delta seen other = ⊥
+
+-- ---- over the folder's states
+
+-- where the folder is known, these nodes are its listing
+abbrev pub ListsTree : DataFolderState → List FolderEntry → Type 0
+ListsTree tree seen = IfSome tree.nodes (λ f. IsTreeListing f (map seen_of seen))
+
+-- why the folder isn't listed, or may not be restored into
+abbrev pub LookHalts : Bool → DataFolderState → DataFolderState → Halt RestoreCommandFault → Type 0
+LookHalts delta old new halt =
+    HaltCause (FolderCause delta old.nodes) (Only TheDataFolder (FolderFailed old new)) halt

@@ -1,13 +1,10 @@
 // Looks at the data folder.
 ghost use Rattle.std.specs.Prelude.{◌≡◌, bytes_eq, string_bytes, map, IfOk, IfErr, IfSome, OnOk};
 ghost use Rattle.std.specs.List.{list_any};
-ghost use Rattle.base_devices.specs.Cause.{Rises};
 ghost use Rattle.base_devices.specs.States.{OnlyReadsFolder};
-ghost use Rattle.base_devices.specs.DataFolder.{IsTreeListing};
 ghost use Rattle.restore_steps.specs.Clearing.{seen_of};
-ghost use Rattle.cmd_types.specs.declared.stages.object.Object.TheVariants.{TheDataFolder as TheFolder};
-ghost use Rattle.cmd_types.specs.Halts.{HaltCause, Only};
-ghost use Rattle.cmd_restore.specs.Looking.{version_path, IsOpen, IsSeenOpen, FolderCause, HoldingCause, SeenCause};
+ghost use Rattle.cmd_types.specs.Halts.{HaltCause};
+ghost use Rattle.cmd_restore.specs.Looking.{version_path, IsOpen, IsSeenOpen, HoldingCause, SeenCause, ListsTree, LookHalts};
 
 use crate::fault::RestoreCommandFault;
 use backup_plan::is_running;
@@ -65,12 +62,10 @@ pub(crate) fn look<T: DataFolder>(
     delta: bool,
     tree: &mut T,
 ) -> Result<Vec<FolderEntry>, Halt<RestoreCommandFault>>
-    ensures listing { IfOk result (λ seen. IfSome (T.state tree.old).nodes
-        (λ f. IsTreeListing f (map seen_of seen.items))) }
+    ensures listing { IfOk result (λ seen. ListsTree (T.state tree.old) seen.items) }
     ensures open { OnOk result (IfSome (T.state tree.old).nodes (IsOpen delta)) }
     ensures looks { OnlyReadsFolder (T.state tree.old) (T.state tree.new) }
-    ensures cause { IfErr result (HaltCause (FolderCause delta (T.state tree.old).nodes)
-        (Only TheFolder (Rises (T.state tree.old).faults (T.state tree.new).faults))) }
+    ensures cause { IfErr result (LookHalts delta (T.state tree.old) (T.state tree.new)) }
 {
     let seen = match tree.list(alloc) {
         Ok(seen) => seen,

@@ -62,13 +62,13 @@ fn add_config(line: &mut Vec<u8>, config: Configuration<'_>) -> Result<(), Alloc
 }
 
 // Adds an option that is a path, where the arguments have it.
-fn add_path(line: &mut Vec<u8>, option: &str, path: Option<&str>) -> Result<(), AllocError>
+fn add_path(line: &mut Vec<u8>, name: &str, path: Option<&str>) -> Result<(), AllocError>
     ensures { OnOk result (line.new.items
-        ≡ line.old.items ++ path_text option.now (option_map (λ p. p.now) path.entry)) }
+        ≡ line.old.items ++ path_text name.now (option_map (λ p. p.now) path.entry)) }
 {
     match path {
         Some(path) => {
-            line.extend_from_slice(option.as_bytes())?;
+            line.extend_from_slice(name.as_bytes())?;
             add_quoted(line, path.as_bytes())
         }
         None => Ok(()),

@@ -1,13 +1,11 @@
 // Reads the backup's manifest.
-ghost use Rattle.std.specs.Prelude.{◌≡◌, ◌≢◌, IfOk, IfErr, IfSome};
-ghost use Rattle.base_devices.specs.Cause.{Rises};
+ghost use Rattle.std.specs.Prelude.{◌≡◌, ◌≢◌, IfOk, IfErr};
 ghost use Rattle.base_devices.specs.States.{OnlyReads};
 ghost use Rattle.base_model.specs.InfoFiles.{IsLabel};
 ghost use Rattle.base_model.specs.ManifestText.{IsManifest};
 ghost use Rattle.base_model.specs.Values.{manifest_of};
-ghost use Rattle.cmd_types.specs.declared.stages.object.Object.TheVariants.{Repo as TheRepo};
-ghost use Rattle.cmd_types.specs.Halts.{HaltCause, Only};
-ghost use Rattle.cmd_restore.specs.Loading.{HasManifest, ShowsForeign, LoadCause};
+ghost use Rattle.cmd_types.specs.Halts.{HaltCause};
+ghost use Rattle.cmd_restore.specs.Loading.{ShowsForeign, LoadsManifest, LoadHalts};
 
 use crate::fault::{RestoreCommandFault, foreign, of_pair};
 use base_devices::Disk;
@@ -42,12 +40,10 @@ pub(crate) fn load<D: Disk>(
     label: &Label,
 ) -> Result<Manifest, Halt<RestoreCommandFault>>
     requires { IsLabel label.now }
-    ensures found { IfOk result (λ m. IfSome (D.state repo.old).view.now
-        (HasManifest stanza.now label.now (manifest_of m))) }
+    ensures found { IfOk result (λ m. LoadsManifest stanza.now label.now (D.state repo.old) (manifest_of m)) }
     ensures rules { IfOk result (λ m. IsManifest (manifest_of m)) }
     ensures looks { OnlyReads (D.state repo.old) (D.state repo.new) }
-    ensures cause { IfErr result (HaltCause (LoadCause stanza.now label.now (D.state repo.old).view.now)
-        (Only TheRepo (Rises (D.state repo.old).faults (D.state repo.new).faults))) }
+    ensures cause { IfErr result (LoadHalts stanza.now label.now (D.state repo.old) (D.state repo.new)) }
 {
     match load_manifest(alloc, repo, stanza, label) {
         Ok(manifest) => check_label(alloc, manifest, label),

@@ -67,10 +67,11 @@ pub fn restore_order<'a>(
 ) -> Result<RecoverOrder<'a>, Halt<RestoreCommandFault>>
     requires short { length data_folder.now < 2 ^ 16 }
     requires repository_short { length repository.now < 2 ^ 16 }
-    ensures order { IfOk result (λ o. (o.data_folder.now ≡ data_folder.now) × (o.repository.now ≡ repository.now)
-        × (o.workers ≡ workers) × (o.delta ≡ delta)
-        × (recovery_type o.recovery ≡ recovery_type recovery.entry)
-        × ShowsSet (option_map (λ w. w.now) set.entry) o.set) }
+    ensures folders { IfOk result
+        (λ o. (o.data_folder.now ≡ data_folder.now) × (o.repository.now ≡ repository.now)) }
+    ensures options { IfOk result (λ o. (o.workers ≡ workers) × (o.delta ≡ delta)) }
+    ensures recovery { IfOk result (λ o. recovery_type o.recovery ≡ recovery_type recovery.entry) }
+    ensures set { IfOk result (λ o. ShowsSet (option_map (λ w. w.now) set.entry) o.set) }
     ensures cause { IfErr result (HaltCause (WordCause (option_map (λ w. w.now) set.entry)) (λ _. ⊥)) }
 {
     let set = match set {

@@ -49,6 +49,10 @@ ShowsDamage f (faults.Unread path) = ⊥
 ShowsDamage f faults.DataFolder = ⊥
 ShowsDamage f faults.NoMemory = ⊥
 
+-- the file is one of these, and isn't as requested
+abbrev pub IsWrongAmong : List Filed → Filed → Type 0
+IsWrongAmong fs f = (i : ℕ) × (slice_get fs i ≡ Some f) × (is_wanted f.wanted f.end ≡ false)
+
 -- one of these files isn't as requested, and the fault reports it; or memory ran out
 abbrev pub ShowsWrong : List Filed → FillFault → Type 0
 ShowsWrong fs (faults.FileDamaged path known found) = (i : ℕ) × (f : Filed) × (slice_get fs i ≡ Some f)

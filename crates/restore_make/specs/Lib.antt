@@ -7,3 +7,8 @@ pub mod Listed
 pub mod Finished
 pub mod Faults
 pub mod Digested
+pub mod Jobs
+pub mod Selected
+pub mod Candidates
+pub mod Controlled
+pub mod Restorations

@@ -5,9 +5,9 @@ ghost use Rattle.std.specs.Cmp.Lexicographic.{slice_cmp};
 ghost use Rattle.base_devices.specs.Order.{are_in_order};
 ghost use Rattle.base_model.specs.Text.{In};
 ghost use Rattle.base_model.specs.Values.{FileEntry as Entry, file_entry_of};
-ghost use Rattle.restore_steps.specs.Clearing.{seen_of};
 ghost use Rattle.restore_make.specs.Options.{recovery_of};
-ghost use Rattle.restore_make.specs.Digested.{is_like, IsPlaceOf, IsLike, IsCandidateBy, AddsCandidate, AreCandidates, HasCandidates};
+ghost use Rattle.restore_make.specs.Candidates.{IsCandidateFor, IsNoCandidate, AddsCandidateFor, AreCandidatesFor, HasCandidatesFor};
+ghost use Rattle.restore_make.specs.Digested.{is_like, IsPlaceOf};
 
 use crate::options::{Recovery, is_ordinary};
 use base_devices::{FolderEntry, Node};
@@ -59,10 +59,8 @@ fn candidate_of<'a>(
     node: &FolderEntry,
 ) -> Option<Candidate<'a>>
     requires { are_in_order (map (λ e. e.path) (map file_entry_of files.now)) ≡ true }
-    ensures some { IfSome result (λ c. IsCandidateBy (recovery_of recovery.now) (map file_entry_of files.now)
-        (seen_of node.now) c) }
-    ensures none { IfNone result ((e : Entry) → In e (map file_entry_of files.now)
-        → ¬ IsLike (recovery_of recovery.now) (seen_of node.now) e) }
+    ensures some { IfSome result (λ c. IsCandidateFor recovery.now files.now node.now c) }
+    ensures none { IfNone result (IsNoCandidate recovery.now files.now node.now) }
 {
     let place = match place_of(files, &node.path) {
         Some(place) => place,
@@ -83,8 +81,7 @@ fn add_candidate<'a>(
     found: &mut Vec<Candidate<'a>>,
 ) -> Result<(), AllocError>
     requires { are_in_order (map (λ e. e.path) (map file_entry_of files.now)) ≡ true }
-    ensures { OnOk result (AddsCandidate (recovery_of recovery.now) (map file_entry_of files.now) (seen_of node.now)
-        found.old.items found.new.items) }
+    ensures { OnOk result (AddsCandidateFor recovery.now files.now node.now found.old.items found.new.items) }
 {
     match candidate_of(recovery, files, node) {
         Some(candidate) => {
@@ -103,10 +100,8 @@ pub(crate) fn candidates<'a>(
     seen: &[FolderEntry],
 ) -> Result<Vec<Candidate<'a>>, AllocError>
     requires { are_in_order (map (λ e. e.path) (map file_entry_of files.now)) ≡ true }
-    ensures are { IfOk result (λ cs. AreCandidates (recovery_of recovery.now) (map file_entry_of files.now)
-        (map seen_of seen.now) cs.items) }
-    ensures has { IfOk result (λ cs. HasCandidates (recovery_of recovery.now) (map file_entry_of files.now)
-        (map seen_of seen.now) cs.items) }
+    ensures are { IfOk result (λ cs. AreCandidatesFor recovery.now files.now seen.now cs.items) }
+    ensures has { IfOk result (λ cs. HasCandidatesFor recovery.now files.now seen.now cs.items) }
 {
     let mut found = Vec::new(alloc);
     for node in seen {

@@ -1,15 +1,15 @@
 // Has workers digest files of the data folder.
-ghost use Rattle.std.specs.Prelude.{◌≡◌, ◌<◌, ◌^◌, ℕ, map, length, vec_len, IfOk, IfErr, OnOk};
-ghost use Rattle.base_model.specs.Text.{Text, In};
+ghost use Rattle.std.specs.Prelude.{◌≡◌, ◌<◌, ◌^◌, map, length, vec_len, IfOk, OnOk};
+ghost use Rattle.base_model.specs.Text.{In};
 ghost use Rattle.base_model.specs.Values.{FileEntry as Entry, file_entry_of};
-ghost use Rattle.base_model.specs.declared.labels.Label as labels;
 ghost use Rattle.worker_protocol.specs.Views.{job_of};
+ghost use Rattle.worker_pool.specs.Pools.{links_in, LeavesLinks};
 ghost use Rattle.worker_pool.specs.Run.{AreReady};
 ghost use Rattle.restore_steps.specs.Sources.{IsEntry};
 ghost use Rattle.restore_make.specs.Kept.{digesting};
 ghost use Rattle.restore_make.specs.Digested.{file_of, AreEnds, NamesCandidate};
-ghost use Rattle.worker_pool.specs.Left.{IsLeft};
-ghost use Rattle.restore_make.specs.Faults.{FillFails, HasItsFile};
+ghost use Rattle.restore_make.specs.Candidates.{DigestsFail};
+ghost use Rattle.restore_make.specs.Faults.{HasItsFile};
 
 use crate::candidates::Candidate;
 use crate::fault::FillFault;
@@ -17,7 +17,7 @@ use base_devices::{Link, Scheduler};
 use base_model::FileEntry;
 use base_text::NoMemory;
 use std::alloc::{AllocError, Global};
-use worker_pool::{DispatchFault, Lost, run_digests};
+use worker_pool::{DispatchFault, Pool, run_digests};
 use worker_protocol::{Item, ItemEnd, Job, JobKind, Root};
 
 // The job that digests a file of the data folder.
@@ -77,23 +77,17 @@ pub(crate) fn named(
 pub(crate) fn digest<L: Link, U: Scheduler>(
     alloc: Global,
     candidates: &[Candidate<'_>],
-    links: &mut Vec<L>,
-    scheduler: &mut U,
-    lost: &mut Vec<Lost>,
+    pool: &mut Pool<L, U>,
 ) -> Result<Vec<Option<ItemEnd>>, FillFault>
-    requires few { vec_len links.old < 2 ^ 32 }
-    requires ready { AreReady (map L.link_state links.old.items) }
+    requires few { vec_len pool.old.links < 2 ^ 32 }
+    requires ready { AreReady (links_in L.link_state pool.old) }
     requires entries { (e : Entry) → In e (map file_of candidates.now) → IsEntry e }
-    ensures ends { IfOk result
-        (λ ends. AreEnds (map L.link_state links.old.items) candidates.now ends.items) }
-    ensures left { OnOk result
-        (IsLeft (map L.link_state links.old.items) (map L.link_state links.new.items) lost.old.items lost.new.items) }
-    ensures fault { (stanza : Text) (own : labels.Label) (f g : ℕ) → IfErr result
-        (λ e. FillFails e stanza own (map file_of candidates.now) (map L.link_state links.old.items)
-        (map L.link_state links.new.items) lost.old.items lost.new.items f g) }
+    ensures ends { IfOk result (λ ends. AreEnds (links_in L.link_state pool.old) candidates.now ends.items) }
+    ensures left { OnOk result (LeavesLinks L.link_state pool.old pool.new) }
+    ensures fault { DigestsFail result (map file_of candidates.now) L.link_state pool.old pool.new }
 {
     let jobs = digest_jobs(alloc, candidates)?;
-    match run_digests(alloc, &jobs, links, scheduler, lost) {
+    match run_digests(alloc, &jobs, pool) {
         Ok(ends) => Ok(ends),
         Err(fault) => Err(named(alloc, candidates, fault)?),
     }

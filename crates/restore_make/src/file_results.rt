@@ -1,8 +1,7 @@
 // The result of files, by their names.
-ghost use Rattle.std.specs.Prelude.{◌≡◌, ◌<◌, ℕ, Some, true, false, length, slice_get, IfOk, OnOk, IfErr, IfSome, IfNone};
-ghost use Rattle.restore_steps.specs.Files.{is_wanted};
+ghost use Rattle.std.specs.Prelude.{length, IfOk, OnOk, IfErr, IfSome, IfNone};
 ghost use Rattle.restore_make.specs.Written.{AllRight};
-ghost use Rattle.restore_make.specs.Faults.{ShowsDamage, ShowsWrong, HasItsFile, Names};
+ghost use Rattle.restore_make.specs.Faults.{IsWrongAmong, ShowsDamage, ShowsWrong, HasItsFile, Names};
 
 use crate::fault::FillFault;
 use restore_steps::{Filed, Wanted};
@@ -12,8 +11,7 @@ use worker_protocol::ItemEnd;
 
 // The first file whose item didn't end as requested.
 fn first_wrong<'f, 'a>(files: &'f [Filed<'a>]) -> Option<&'f Filed<'a>>
-    ensures some { IfSome result
-        (λ f. (i : ℕ) × (slice_get files.now i ≡ Some f.now) × (is_wanted f.now.wanted f.now.end ≡ false)) }
+    ensures some { IfSome result (λ f. IsWrongAmong files.now f.now) }
     ensures none { IfNone result (AllRight files.now) }
 {
     for file in files {

@@ -1,5 +1,5 @@
 // Puts a backup into a data folder: everything else first, the control file last.
-ghost use Rattle.std.specs.Prelude.{◌≡◌, ◌⊎◌, ◌<◌, ◌≤◌, ◌^◌, Bool, List, Some, true, map, vec_len, OnOk, OnErr, IfErr, IfSome};
+ghost use Rattle.std.specs.Prelude.{◌≡◌, ◌<◌, ◌≤◌, ◌^◌, true, map, vec_len, OnOk, OnErr, IfErr, IfSome};
 ghost use Rattle.std.specs.List.{list_any};
 ghost use Rattle.base_devices.specs.Cause.{HasCause};
 ghost use Rattle.base_devices.specs.Content.{SameBut};
@@ -7,24 +7,22 @@ ghost use Rattle.base_devices.specs.DataFolder.{IsTreeListing};
 ghost use Rattle.base_model.specs.ManifestText.{IsManifest};
 ghost use Rattle.base_model.specs.Values.{manifest_of};
 ghost use Rattle.options_table.specs.Values.{is_stanza};
+ghost use Rattle.worker_pool.specs.Pools.{links_in};
 ghost use Rattle.worker_pool.specs.Run.{AreReady};
 ghost use Rattle.restore_steps.specs.Clearing.{control_path, seen_of, HasNone, StaysNone};
-ghost use Rattle.restore_make.specs.Listed.{is_control_node, IsListedBut, HasFolders};
-ghost use Rattle.restore_make.specs.Options.{Options, options_of};
-ghost use Rattle.restore_make.specs.Finished.{IsFinished, Finishes, Completes, PutsAll, Restores};
-ghost use Rattle.restore_make.specs.Faults.{FillFails};
+ghost use Rattle.restore_make.specs.Listed.{is_control_node, IsListedBut};
+ghost use Rattle.restore_make.specs.Restorations.{ProperInFolders, StopsSafely, FinishesAll, CompletesAll, PutsRest, LeavesFinished, LeavesRestored, FailsToRestore};
 
-use crate::control::{control_of, put_control};
+use crate::control::{BackupFile, control_of, put_control};
 use crate::data_files::rebuild;
 use crate::fault::FillFault;
 use crate::kept_files::find_kept;
-use crate::options::RestoreOptions;
+use crate::options::Restoration;
 use crate::settings::add_settings;
 use base_devices::{DataFolder, DeviceError, FolderEntry, Link, Node, Scheduler};
-use base_model::Manifest;
 use restore_steps::is_control;
 use std::alloc::Global;
-use worker_pool::Lost;
+use worker_pool::Pool;
 
 const CONTROL: &str = "global/pg_control";
 
@@ -61,41 +59,30 @@ fn remove_control<T: DataFolder>(tree: &mut T, seen: &[FolderEntry]) -> Result<(
 // The control file comes last, where there is one.
 fn put_last<T: DataFolder, L: Link, U: Scheduler>(
     alloc: Global,
-    stanza: &str,
-    manifest: &Manifest,
-    links: &mut Vec<L>,
-    scheduler: &mut U,
+    what: &Restoration<'_>,
+    pool: &mut Pool<L, U>,
     tree: &mut T,
-    lost: &mut Vec<Lost>,
 ) -> Result<(), FillFault>
-    requires few { vec_len links.old < 2 ^ 32 }
-    requires ready { AreReady (map L.link_state links.old.items) }
-    requires stanza { is_stanza stanza.now ≡ true }
-    requires rules { IsManifest (manifest_of manifest.now) }
-    ensures finishes { OnOk result ((o : Options) (marks : List Bool)
-        → Finishes stanza.now (map L.link_state links.old.items) o (manifest_of manifest.now) marks
-        (T.state tree.old).nodes (T.state tree.new).nodes) }
+    requires few { vec_len pool.old.links < 2 ^ 32 }
+    requires ready { AreReady (links_in L.link_state pool.old) }
+    requires stanza { is_stanza what.now.stanza.now ≡ true }
+    requires rules { IsManifest (manifest_of what.now.manifest.now) }
+    ensures finishes { OnOk result (FinishesAll what.now L.link_state pool.old T.state tree.old tree.new) }
     ensures none { OnErr result (StaysNone control_path (T.state tree.old).nodes (T.state tree.new).nodes) }
-    ensures proper { HasFolders (manifest_of manifest.now).folders (T.state tree.old).nodes
-        → (T.state tree.new).faulty_calls ≡ (T.state tree.old).faulty_calls }
+    ensures proper { ProperInFolders what.now (T.state tree.old) (T.state tree.new) }
     ensures opened { (T.state tree.new).opened ≡ (T.state tree.old).opened }
     ensures later { (T.state tree.old).faults ≤ (T.state tree.new).faults }
-    ensures fault { IfErr result
-        (λ e. FillFails e stanza.now manifest.now.label (manifest_of manifest.now).files
-        (map L.link_state links.old.items) (map L.link_state links.new.items) lost.old.items lost.new.items
-        (T.state tree.old).faults (T.state tree.new).faults) }
+    ensures fault { IfErr result (FailsToRestore what.now L.link_state pool.old pool.new T.state tree.old tree.new) }
 {
-    match control_of(&manifest.files) {
-        Some(file) => put_control(
-            alloc,
-            stanza,
-            &manifest.label,
-            file,
-            links,
-            scheduler,
-            tree,
-            lost,
-        ),
+    match control_of(&what.manifest.files) {
+        Some(file) => {
+            let control = BackupFile {
+                stanza: what.stanza,
+                own: &what.manifest.label,
+                entry: file,
+            };
+            put_control(alloc, &control, pool, tree)
+        }
         None => Ok(()),
     }
 }
@@ -103,126 +90,75 @@ fn put_last<T: DataFolder, L: Link, U: Scheduler>(
 // Adds the settings, and then the control file.
 fn apply_settings<T: DataFolder, L: Link, U: Scheduler>(
     alloc: Global,
-    stanza: &str,
-    options: &RestoreOptions<'_>,
-    manifest: &Manifest,
-    links: &mut Vec<L>,
-    scheduler: &mut U,
+    what: &Restoration<'_>,
+    pool: &mut Pool<L, U>,
     tree: &mut T,
-    lost: &mut Vec<Lost>,
 ) -> Result<(), FillFault>
-    requires few { vec_len links.old < 2 ^ 32 }
-    requires ready { AreReady (map L.link_state links.old.items) }
-    requires stanza { is_stanza stanza.now ≡ true }
-    requires rules { IsManifest (manifest_of manifest.now) }
-    ensures completes { OnOk result ((marks : List Bool)
-        → Completes stanza.now (map L.link_state links.old.items) (options_of options.now) (manifest_of manifest.now)
-        marks (T.state tree.old).nodes (T.state tree.new).nodes) }
+    requires few { vec_len pool.old.links < 2 ^ 32 }
+    requires ready { AreReady (links_in L.link_state pool.old) }
+    requires stanza { is_stanza what.now.stanza.now ≡ true }
+    requires rules { IsManifest (manifest_of what.now.manifest.now) }
+    ensures completes { OnOk result (CompletesAll what.now L.link_state pool.old T.state tree.old tree.new) }
     ensures none { OnErr result (StaysNone control_path (T.state tree.old).nodes (T.state tree.new).nodes) }
-    ensures proper { HasFolders (manifest_of manifest.now).folders (T.state tree.old).nodes
-        → (T.state tree.new).faulty_calls ≡ (T.state tree.old).faulty_calls }
+    ensures proper { ProperInFolders what.now (T.state tree.old) (T.state tree.new) }
     ensures opened { (T.state tree.new).opened ≡ (T.state tree.old).opened }
     ensures later { (T.state tree.old).faults ≤ (T.state tree.new).faults }
-    ensures fault { IfErr result
-        (λ e. FillFails e stanza.now manifest.now.label (manifest_of manifest.now).files
-        (map L.link_state links.old.items) (map L.link_state links.new.items) lost.old.items lost.new.items
-        (T.state tree.old).faults (T.state tree.new).faults) }
+    ensures fault { IfErr result (FailsToRestore what.now L.link_state pool.old pool.new T.state tree.old tree.new) }
 {
-    add_settings(
-        alloc, stanza, options, manifest, links, scheduler, tree, lost,
-    )?;
-    put_last(alloc, stanza, manifest, links, scheduler, tree, lost)
+    add_settings(alloc, what, pool, tree)?;
+    put_last(alloc, what, pool, tree)
 }
 
 // Puts everything in its place where it is known which files are kept, the control file last.
 fn put_rest<T: DataFolder, L: Link, U: Scheduler>(
     alloc: Global,
-    stanza: &str,
-    options: &RestoreOptions<'_>,
-    manifest: &Manifest,
-    seen: &[FolderEntry],
+    what: &Restoration<'_>,
     marks: &[bool],
-    links: &mut Vec<L>,
-    scheduler: &mut U,
+    pool: &mut Pool<L, U>,
     tree: &mut T,
-    lost: &mut Vec<Lost>,
 ) -> Result<(), FillFault>
-    requires few { vec_len links.old < 2 ^ 32 }
-    requires ready { AreReady (map L.link_state links.old.items) }
-    requires stanza { is_stanza stanza.now ≡ true }
-    requires rules { IsManifest (manifest_of manifest.now) }
-    requires seen { IfSome (T.state tree.old).nodes (λ f. IsListedBut f (map seen_of seen.now)) }
-    ensures puts { OnOk result
-        (PutsAll stanza.now (map L.link_state links.old.items) (options_of options.now) (manifest_of manifest.now)
-        (map seen_of seen.now) marks.now (T.state tree.old).nodes (T.state tree.new).nodes) }
+    requires few { vec_len pool.old.links < 2 ^ 32 }
+    requires ready { AreReady (links_in L.link_state pool.old) }
+    requires stanza { is_stanza what.now.stanza.now ≡ true }
+    requires rules { IsManifest (manifest_of what.now.manifest.now) }
+    requires seen { IfSome (T.state tree.old).nodes (λ f. IsListedBut f (map seen_of what.now.seen.now)) }
+    ensures puts { OnOk result (PutsRest what.now marks.now L.link_state pool.old T.state tree.old tree.new) }
     ensures none { OnErr result (StaysNone control_path (T.state tree.old).nodes (T.state tree.new).nodes) }
     ensures proper { (T.state tree.new).faulty_calls ≡ (T.state tree.old).faulty_calls }
     ensures opened { (T.state tree.new).opened ≡ (T.state tree.old).opened }
     ensures later { (T.state tree.old).faults ≤ (T.state tree.new).faults }
-    ensures fault { IfErr result
-        (λ e. FillFails e stanza.now manifest.now.label (manifest_of manifest.now).files
-        (map L.link_state links.old.items) (map L.link_state links.new.items) lost.old.items lost.new.items
-        (T.state tree.old).faults (T.state tree.new).faults) }
+    ensures fault { IfErr result (FailsToRestore what.now L.link_state pool.old pool.new T.state tree.old tree.new) }
 {
-    rebuild(
-        alloc, stanza, options, manifest, seen, marks, links, scheduler, tree, lost,
-    )?;
-    apply_settings(
-        alloc, stanza, options, manifest, links, scheduler, tree, lost,
-    )
+    rebuild(alloc, what, marks, pool, tree)?;
+    apply_settings(alloc, what, pool, tree)
 }
 
 /// Restores a backup into a data folder that was listed immediately before.
 pub fn restore_files<T: DataFolder, L: Link, U: Scheduler>(
     alloc: Global,
-    stanza: &str,
-    options: &RestoreOptions<'_>,
-    manifest: &Manifest,
-    seen: &[FolderEntry],
-    links: &mut Vec<L>,
-    scheduler: &mut U,
+    what: &Restoration<'_>,
+    pool: &mut Pool<L, U>,
     tree: &mut T,
-    lost: &mut Vec<Lost>,
 ) -> Result<(), FillFault>
-    requires few { vec_len links.old < 2 ^ 32 }
-    requires ready { AreReady (map L.link_state links.old.items) }
-    requires stanza { is_stanza stanza.now ≡ true }
-    requires rules { IsManifest (manifest_of manifest.now) }
-    requires seen { IfSome (T.state tree.old).nodes (λ f. IsTreeListing f (map seen_of seen.now)) }
+    requires few { vec_len pool.old.links < 2 ^ 32 }
+    requires ready { AreReady (links_in L.link_state pool.old) }
+    requires stanza { is_stanza what.now.stanza.now ≡ true }
+    requires rules { IsManifest (manifest_of what.now.manifest.now) }
+    requires seen { IfSome (T.state tree.old).nodes (λ f. IsTreeListing f (map seen_of what.now.seen.now)) }
     // The tree has each file of the manifest, with bytes that a link read at its place, or as delta kept it; it has the
     // settings of the recovery, the folders, and nothing else.
-    ensures finished { OnOk result
-        (IfSome (T.state tree.new).nodes
-        (IsFinished stanza.now (map L.link_state links.old.items) (options_of options.now) (manifest_of manifest.now)
-        (T.state tree.old).nodes)) }
+    ensures finished { OnOk result (LeavesFinished what.now L.link_state pool.old T.state tree.old tree.new) }
     // Over links that read the repository it is the restored tree of the manifest's backup.
-    ensures restored { OnOk result
-        (IfSome (T.state tree.new).nodes
-        (Restores stanza.now (map L.link_state links.old.items) (options_of options.now) (manifest_of manifest.now)
-        (T.state tree.old).nodes)) }
+    ensures restored { OnOk result (LeavesRestored what.now L.link_state pool.old T.state tree.old tree.new) }
     // After a refusal there is no control file, unless nothing was changed.
-    ensures control { OnErr result
-        (((T.state tree.new).nodes ≡ (T.state tree.old).nodes) ⊎ HasNone control_path (T.state tree.new).nodes) }
+    ensures control { OnErr result (StopsSafely (T.state tree.old) (T.state tree.new)) }
     // No call is faulty.
     ensures proper { (T.state tree.new).faulty_calls ≡ (T.state tree.old).faulty_calls }
     ensures opened { (T.state tree.new).opened ≡ (T.state tree.old).opened }
     ensures later { (T.state tree.old).faults ≤ (T.state tree.new).faults }
-    ensures fault { IfErr result
-        (λ e. FillFails e stanza.now manifest.now.label (manifest_of manifest.now).files
-        (map L.link_state links.old.items) (map L.link_state links.new.items) lost.old.items lost.new.items
-        (T.state tree.old).faults (T.state tree.new).faults) }
+    ensures fault { IfErr result (FailsToRestore what.now L.link_state pool.old pool.new T.state tree.old tree.new) }
 {
-    remove_control(tree, seen)?;
-    let marks = find_kept(
-        alloc,
-        options,
-        &manifest.files,
-        seen,
-        links,
-        scheduler,
-        lost,
-    )?;
-    put_rest(
-        alloc, stanza, options, manifest, seen, &marks, links, scheduler, tree, lost,
-    )
+    remove_control(tree, what.seen)?;
+    let marks = find_kept(alloc, &what.options, &what.manifest.files, what.seen, pool)?;
+    put_rest(alloc, what, &marks, pool, tree)
 }

@@ -1,17 +1,13 @@
 // Which files of the data folder are kept.
-ghost use Rattle.std.specs.Prelude.{◌≡◌, ◌<◌, ◌≤◌, ◌^◌, ℕ, Some, true, map, length, vec_len, slice_get, IfOk, IfErr, OnOk};
+ghost use Rattle.std.specs.Prelude.{◌≡◌, ◌<◌, ◌≤◌, ◌^◌, ℕ, Some, true, map, length, vec_len, slice_get, IfOk, OnOk};
 ghost use Rattle.base_devices.specs.Order.{are_in_order};
-ghost use Rattle.base_model.specs.Text.{Text, In};
+ghost use Rattle.base_model.specs.Text.{In};
 ghost use Rattle.base_model.specs.Values.{FileEntry as Entry, file_entry_of};
-ghost use Rattle.base_model.specs.declared.labels.Label as labels;
+ghost use Rattle.worker_pool.specs.Pools.{links_in, LeavesLinks};
 ghost use Rattle.worker_pool.specs.Run.{AreReady};
-ghost use Rattle.restore_steps.specs.Clearing.{seen_of};
 ghost use Rattle.restore_steps.specs.Sources.{IsEntry};
-ghost use Rattle.restore_make.specs.Options.{options_of};
-ghost use Rattle.restore_make.specs.Kept.{AllAlike, MarksAlike};
+ghost use Rattle.restore_make.specs.Candidates.{DigestsFail, OnlyAlike, EachAlike};
 ghost use Rattle.restore_make.specs.Digested.{file_of, marked_one, NoneMarked, AreMarked, IsMarkedBy, MarksEqual};
-ghost use Rattle.worker_pool.specs.Left.{IsLeft};
-ghost use Rattle.restore_make.specs.Faults.{FillFails};
 
 use crate::candidates::{Candidate, candidates};
 use crate::digesting::digest;
@@ -20,7 +16,7 @@ use crate::options::RestoreOptions;
 use base_devices::{FolderEntry, Link, Scheduler};
 use base_model::FileEntry;
 use std::alloc::{AllocError, Global};
-use worker_pool::{Lost, is_equal};
+use worker_pool::{Pool, is_equal};
 use worker_protocol::ItemEnd;
 
 // This many places without a mark.
@@ -69,23 +65,17 @@ fn mark_alike<L: Link, U: Scheduler>(
     alloc: Global,
     count: usize,
     candidates: &[Candidate<'_>],
-    links: &mut Vec<L>,
-    scheduler: &mut U,
-    lost: &mut Vec<Lost>,
+    pool: &mut Pool<L, U>,
 ) -> Result<Vec<bool>, FillFault>
-    requires few { vec_len links.old < 2 ^ 32 }
-    requires ready { AreReady (map L.link_state links.old.items) }
+    requires few { vec_len pool.old.links < 2 ^ 32 }
+    requires ready { AreReady (links_in L.link_state pool.old) }
     requires entries { (e : Entry) → In e (map file_of candidates.now) → IsEntry e }
     requires places { (k : ℕ) (c : Candidate) → slice_get candidates.now k ≡ Some c → c.place < count }
-    ensures marked { IfOk result
-        (λ marks. AreMarked (map L.link_state links.old.items) candidates.now marks.items) }
-    ensures left { OnOk result
-        (IsLeft (map L.link_state links.old.items) (map L.link_state links.new.items) lost.old.items lost.new.items) }
-    ensures fault { (stanza : Text) (own : labels.Label) (f g : ℕ) → IfErr result
-        (λ e. FillFails e stanza own (map file_of candidates.now) (map L.link_state links.old.items)
-        (map L.link_state links.new.items) lost.old.items lost.new.items f g) }
+    ensures marked { IfOk result (λ marks. AreMarked (links_in L.link_state pool.old) candidates.now marks.items) }
+    ensures left { OnOk result (LeavesLinks L.link_state pool.old pool.new) }
+    ensures fault { DigestsFail result (map file_of candidates.now) L.link_state pool.old pool.new }
 {
-    let ends = digest(alloc, candidates, links, scheduler, lost)?;
+    let ends = digest(alloc, candidates, pool)?;
     Ok(mark(alloc, count, candidates, &ends)?)
 }
 
@@ -96,27 +86,22 @@ pub(crate) fn find_kept<L: Link, U: Scheduler>(
     options: &RestoreOptions<'_>,
     files: &[FileEntry],
     seen: &[FolderEntry],
-    links: &mut Vec<L>,
-    scheduler: &mut U,
-    lost: &mut Vec<Lost>,
+    pool: &mut Pool<L, U>,
 ) -> Result<Vec<bool>, FillFault>
-    requires few { vec_len links.old < 2 ^ 32 }
-    requires ready { AreReady (map L.link_state links.old.items) }
+    requires few { vec_len pool.old.links < 2 ^ 32 }
+    requires ready { AreReady (links_in L.link_state pool.old) }
     requires entries { (e : Entry) → In e (map file_entry_of files.now) → IsEntry e }
     requires order { are_in_order (map (λ e. e.path) (map file_entry_of files.now)) ≡ true }
-    ensures alike { IfOk result (λ marks. AllAlike (map L.link_state links.old.items) (options_of options.now)
-        (map seen_of seen.now) (map file_entry_of files.now) marks.items) }
-    ensures all { IfOk result (λ marks. MarksAlike (map L.link_state links.old.items) (options_of options.now)
-        (map seen_of seen.now) (map file_entry_of files.now) marks.items) }
-    ensures left { OnOk result
-        (IsLeft (map L.link_state links.old.items) (map L.link_state links.new.items) lost.old.items lost.new.items) }
-    ensures fault { (stanza : Text) (own : labels.Label) (f g : ℕ) → IfErr result
-        (λ e. FillFails e stanza own (map file_entry_of files.now) (map L.link_state links.old.items)
-        (map L.link_state links.new.items) lost.old.items lost.new.items f g) }
+    ensures alike { IfOk result
+        (λ marks. OnlyAlike options.now files.now seen.now L.link_state pool.old marks.items) }
+    ensures all { IfOk result
+        (λ marks. EachAlike options.now files.now seen.now L.link_state pool.old marks.items) }
+    ensures left { OnOk result (LeavesLinks L.link_state pool.old pool.new) }
+    ensures fault { DigestsFail result (map file_entry_of files.now) L.link_state pool.old pool.new }
 {
     if !options.delta {
         return Ok(Vec::new(alloc));
     }
     let candidates = candidates(alloc, &options.recovery, files, seen)?;
-    mark_alike(alloc, files.len(), &candidates, links, scheduler, lost)
+    mark_alike(alloc, files.len(), &candidates, pool)
 }

@@ -48,6 +48,7 @@ mod restore_plan;
 mod settings;
 
 pub use fault::FillFault;
+pub use file_jobs::FileJobs;
 pub use file_writes::write_files;
 pub use folder_restore::restore_files;
-pub use options::{Recovery, RestoreOptions};
+pub use options::{Recovery, Restoration, RestoreOptions};

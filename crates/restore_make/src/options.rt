@@ -3,7 +3,8 @@ ghost use Rattle.std.specs.Prelude.{◌≡◌};
 ghost use Rattle.base_model.specs.Values.{file_entry_of};
 ghost use Rattle.restore_make.specs.Options.{recovery_of, is_added, is_ordinary};
 
-use base_model::FileEntry;
+use base_devices::FolderEntry;
+use base_model::{FileEntry, Manifest};
 use restore_steps::is_control;
 
 /// The file of a server's own settings.
@@ -28,6 +29,16 @@ pub struct RestoreOptions<'a> {
     /// Whether files that are there stay where they have the backup's bytes.
     pub delta: bool,
     pub recovery: Recovery<'a>,
+}
+
+/// What is restored, and how: the backup of the stanza that the manifest is of, into a data folder.
+#[derive(Clone, Copy)]
+pub struct Restoration<'a> {
+    pub stanza: &'a str,
+    pub manifest: &'a Manifest,
+    pub options: RestoreOptions<'a>,
+    /// The folder's listing immediately before.
+    pub seen: &'a [FolderEntry],
 }
 
 // Whether the path is that of a file with settings of the recovery.

@@ -1,14 +1,15 @@
 // Which jobs a restore has.
-ghost use Rattle.std.specs.Prelude.{◌≡◌, ◌<◌, ◌^◌, ◌++◌, true, map, length, IfOk, OnOk};
+ghost use Rattle.std.specs.Prelude.{◌≡◌, ◌<◌, ◌^◌, true, map, length, IfOk, OnOk};
 ghost use Rattle.base_model.specs.InfoFiles.{IsLabel};
 ghost use Rattle.base_model.specs.Text.{In};
 ghost use Rattle.base_model.specs.Values.{FileEntry as Entry, file_entry_of};
 ghost use Rattle.options_table.specs.Values.{is_stanza};
 ghost use Rattle.worker_protocol.specs.Views.{job_of};
-ghost use Rattle.restore_steps.specs.Sources.{IsEntry, reading};
+ghost use Rattle.restore_steps.specs.Sources.{IsEntry};
 ghost use Rattle.restore_make.specs.Options.{recovery_of};
-ghost use Rattle.restore_make.specs.Kept.{mark_at, marked};
-ghost use Rattle.restore_make.specs.Entries.{is_read, read_one, reads_of, want_of, want_in};
+ghost use Rattle.restore_make.specs.Kept.{mark_at};
+ghost use Rattle.restore_make.specs.Entries.{is_read, want_of, want_in};
+ghost use Rattle.restore_make.specs.Selected.{selected_jobs, selected_wants, one_job, one_want, AddsJobs, AddsWants};
 
 use crate::options::{Recovery, is_ordinary};
 use base_model::{FileEntry, Label};
@@ -16,6 +17,16 @@ use base_text::NoMemory;
 use restore_steps::{Wanted, source_job};
 use std::alloc::Global;
 use worker_protocol::Job;
+
+/// Which files of a backup are read: of these, the ordinary ones that have no mark.
+#[derive(Clone, Copy)]
+pub(crate) struct Selection<'a> {
+    pub(crate) stanza: &'a str,
+    pub(crate) own: &'a Label,
+    pub(crate) recovery: Recovery<'a>,
+    pub(crate) files: &'a [FileEntry],
+    pub(crate) marks: &'a [bool],
+}
 
 // The read jobs of a restore, and the files that they are for.
 #[derive(Drop)]
@@ -55,28 +66,20 @@ fn want<'a>(file: &'a FileEntry) -> Wanted<'a>
 fn add_file<'a>(
     alloc: Global,
     planned: &mut Planned<'a>,
-    stanza: &str,
-    own: &Label,
-    recovery: &Recovery<'_>,
+    chosen: &Selection<'_>,
     file: &'a FileEntry,
     kept: bool,
 ) -> Result<(), NoMemory>
-    requires stanza { is_stanza stanza.now ≡ true }
-    requires own { IsLabel own.now }
+    requires stanza { is_stanza chosen.now.stanza.now ≡ true }
+    requires own { IsLabel chosen.now.own.now }
     requires entry { IsEntry (file_entry_of file.now) }
-    ensures jobs { OnOk result
-        (map job_of planned.new.jobs.items
-        ≡ map job_of planned.old.jobs.items
-        ++ map (reading stanza.now own.now) (read_one (recovery_of recovery.now) (file_entry_of file.now, kept))) }
-    ensures wanted { OnOk result
-        (map want_in planned.new.wanted.items
-        ≡ map want_in planned.old.wanted.items
-        ++ map want_of (read_one (recovery_of recovery.now) (file_entry_of file.now, kept))) }
+    ensures jobs { OnOk result (AddsJobs (one_job chosen.now file.now kept) planned.old planned.new) }
+    ensures wanted { OnOk result (AddsWants (one_want chosen.now file.now kept) planned.old planned.new) }
 {
-    if !is_read(recovery, file, kept) {
+    if !is_read(&chosen.recovery, file, kept) {
         return Ok(());
     }
-    let job = source_job(alloc, stanza, own, file)?;
+    let job = source_job(alloc, chosen.stanza, chosen.own, file)?;
     planned.jobs.push(job)?;
     planned.wanted.push(want(file))?;
     Ok(())
@@ -86,57 +89,36 @@ fn add_file<'a>(
 fn add_files<'a>(
     alloc: Global,
     planned: &mut Planned<'a>,
-    stanza: &str,
-    own: &Label,
-    recovery: &Recovery<'_>,
-    files: &'a [FileEntry],
-    marks: &[bool],
+    chosen: &Selection<'a>,
 ) -> Result<(), NoMemory>
-    requires stanza { is_stanza stanza.now ≡ true }
-    requires own { IsLabel own.now }
-    requires entries { (e : Entry) → In e (map file_entry_of files.now) → IsEntry e }
-    ensures jobs { OnOk result
-        (map job_of planned.new.jobs.items
-        ≡ map job_of planned.old.jobs.items
-        ++ map (reading stanza.now own.now)
-        (reads_of (recovery_of recovery.now) (marked (map file_entry_of files.now) marks.now))) }
-    ensures wanted { OnOk result
-        (map want_in planned.new.wanted.items
-        ≡ map want_in planned.old.wanted.items
-        ++ map want_of (reads_of (recovery_of recovery.now) (marked (map file_entry_of files.now) marks.now))) }
+    requires stanza { is_stanza chosen.now.stanza.now ≡ true }
+    requires own { IsLabel chosen.now.own.now }
+    requires entries { (e : Entry) → In e (map file_entry_of chosen.now.files.now) → IsEntry e }
+    ensures jobs { OnOk result (AddsJobs (selected_jobs chosen.now) planned.old planned.new) }
+    ensures wanted { OnOk result (AddsWants (selected_wants chosen.now) planned.old planned.new) }
 {
+    let files = chosen.files;
     for place in 0..files.len() {
-        let kept = mark_at(marks, place);
-        add_file(alloc, planned, stanza, own, recovery, &files[place], kept)?;
+        let kept = mark_at(chosen.marks, place);
+        add_file(alloc, planned, chosen, &files[place], kept)?;
     }
     Ok(())
 }
 
 /// A job for each ordinary file that isn't kept. A plan of 2^32 jobs or more counts as out of memory.
-pub(crate) fn plan_files<'a>(
-    alloc: Global,
-    stanza: &str,
-    own: &Label,
-    recovery: &Recovery<'_>,
-    files: &'a [FileEntry],
-    marks: &[bool],
-) -> Result<Planned<'a>, NoMemory>
-    requires stanza { is_stanza stanza.now ≡ true }
-    requires own { IsLabel own.now }
-    requires entries { (e : Entry) → In e (map file_entry_of files.now) → IsEntry e }
+pub(crate) fn plan_files<'a>(alloc: Global, chosen: &Selection<'a>) -> Result<Planned<'a>, NoMemory>
+    requires stanza { is_stanza chosen.now.stanza.now ≡ true }
+    requires own { IsLabel chosen.now.own.now }
+    requires entries { (e : Entry) → In e (map file_entry_of chosen.now.files.now) → IsEntry e }
     ensures few { IfOk result (λ p. length p.jobs.items < 2 ^ 32) }
-    ensures jobs { IfOk result
-        (λ p. map job_of p.jobs.items ≡ map (reading stanza.now own.now)
-        (reads_of (recovery_of recovery.now) (marked (map file_entry_of files.now) marks.now))) }
-    ensures wanted { IfOk result
-        (λ p. map want_in p.wanted.items ≡ map want_of
-        (reads_of (recovery_of recovery.now) (marked (map file_entry_of files.now) marks.now))) }
+    ensures jobs { IfOk result (λ p. map job_of p.jobs.items ≡ selected_jobs chosen.now) }
+    ensures wanted { IfOk result (λ p. map want_in p.wanted.items ≡ selected_wants chosen.now) }
 {
     let mut planned = Planned {
         jobs: Vec::new(alloc),
         wanted: Vec::new(alloc),
     };
-    add_files(alloc, &mut planned, stanza, own, recovery, files, marks)?;
+    add_files(alloc, &mut planned, chosen)?;
     if planned.jobs.len() > u32::MAX as usize {
         return Err(NoMemory);
     }

@@ -1,32 +1,29 @@
 // The settings of a recovery.
-ghost use Rattle.std.specs.Prelude.{◌≡◌, ◌≢◌, ◌<◌, ◌≤◌, ◌++◌, ◌^◌, ℕ, Bool, List, Some, [], ◌∷◌, true, false, map, length, vec_len, IfOk, IfErr, IfSome, OnOk};
+ghost use Rattle.std.specs.Prelude.{◌≡◌, ◌<◌, ◌≤◌, ◌++◌, ◌^◌, [], ◌∷◌, true, map, vec_len, IfOk, IfErr, IfSome, OnOk};
 ghost use Rattle.base_devices.specs.Cause.{HasCause};
-ghost use Rattle.base_devices.specs.Content.{at};
 ghost use Rattle.base_devices.specs.Order.{are_in_order};
 ghost use Rattle.base_model.specs.InfoFiles.{IsLabel};
 ghost use Rattle.base_model.specs.ManifestText.{IsManifest};
 ghost use Rattle.base_model.specs.Restored.{conf_path, signal_path, line_end, settings_block};
-ghost use Rattle.base_model.specs.Text.{Text, In};
+ghost use Rattle.base_model.specs.Text.{In};
 ghost use Rattle.base_model.specs.Values.{FileEntry as Entry, file_entry_of, manifest_of};
 ghost use Rattle.options_table.specs.Values.{is_stanza};
+ghost use Rattle.worker_pool.specs.Pools.{links_in, LeavesLinks};
 ghost use Rattle.worker_pool.specs.Run.{AreReady};
 ghost use Rattle.restore_steps.specs.Clearing.{control_path, HasFile, StaysNone};
 ghost use Rattle.restore_steps.specs.Sources.{IsEntry};
-ghost use Rattle.restore_make.specs.Options.{options_of};
-ghost use Rattle.restore_make.specs.Settings.{IsBytesOf, HasSettings, HoldsConf, IsFirstOf, ShowsWrongItem};
-ghost use Rattle.restore_make.specs.Finished.{AppliesSettings};
-ghost use Rattle.worker_pool.specs.Left.{IsLeft};
-ghost use Rattle.restore_make.specs.Faults.{FillFails};
+ghost use Rattle.restore_make.specs.Settings.{IsFirstOf, ShowsWrongItem};
+ghost use Rattle.restore_make.specs.Restorations.{ChangesSettings, ReadsBytes, ReadsConf, ReadsFail, AddsFetch, SettlesAll, FailsToRestore};
 
 use crate::candidates::{Candidate, place_of};
 use crate::digesting::named;
 use crate::fault::FillFault;
-use crate::options::{CONF, Recovery, RestoreOptions, SIGNAL};
+use crate::options::{CONF, Recovery, Restoration, SIGNAL};
 use base_devices::{DataFolder, DeviceError, Link, Scheduler};
-use base_model::{FileEntry, Label, Manifest};
+use base_model::{FileEntry, Label};
 use restore_steps::source_job;
 use std::alloc::{AllocError, Global};
-use worker_pool::{Holder, Lost, ReadItem, is_equal, run_jobs};
+use worker_pool::{Holder, Pool, ReadItem, is_equal, run_jobs};
 use worker_protocol::ItemEnd;
 
 // The bytes that were read of the file, or why they aren't the entry's.
@@ -58,22 +55,17 @@ fn read_file<L: Link, U: Scheduler>(
     stanza: &str,
     own: &Label,
     file: &FileEntry,
-    links: &mut Vec<L>,
-    scheduler: &mut U,
-    lost: &mut Vec<Lost>,
+    pool: &mut Pool<L, U>,
 ) -> Result<Vec<u8>, FillFault>
-    requires few { vec_len links.old < 2 ^ 32 }
-    requires ready { AreReady (map L.link_state links.old.items) }
+    requires few { vec_len pool.old.links < 2 ^ 32 }
+    requires ready { AreReady (links_in L.link_state pool.old) }
     requires stanza { is_stanza stanza.now ≡ true }
     requires own { IsLabel own.now }
     requires entry { IsEntry (file_entry_of file.now) }
-    ensures bytes { IfOk result (λ bytes. IsBytesOf stanza.now own.now (map L.link_state links.old.items)
-        (file_entry_of file.now) bytes.items) }
-    ensures left { OnOk result
-        (IsLeft (map L.link_state links.old.items) (map L.link_state links.new.items) lost.old.items lost.new.items) }
-    ensures fault { (f g : ℕ) → IfErr result
-        (λ e. FillFails e stanza.now own.now (file_entry_of file.now ∷ []) (map L.link_state links.old.items)
-        (map L.link_state links.new.items) lost.old.items lost.new.items f g) }
+    ensures bytes { IfOk result
+        (λ bytes. ReadsBytes stanza.now own.now file.now L.link_state pool.old bytes.items) }
+    ensures left { OnOk result (LeavesLinks L.link_state pool.old pool.new) }
+    ensures fault { ReadsFail result stanza.now own.now (file_entry_of file.now ∷ []) L.link_state pool.old pool.new }
 {
     if file.size == 0 {
         return Ok(Vec::new(alloc));
@@ -81,7 +73,7 @@ fn read_file<L: Link, U: Scheduler>(
     let mut jobs = Vec::new(alloc);
     jobs.push(source_job(alloc, stanza, own, file)?)?;
     let mut keep = Holder::new(alloc, &jobs)?;
-    match run_jobs(alloc, &jobs, links, scheduler, &mut keep, &mut (), lost) {
+    match run_jobs(alloc, &jobs, pool, &mut keep, &mut ()) {
         Ok(()) => checked(alloc, file, keep.ended(0)),
         Err(fault) => Err(named(alloc, &[Candidate { place: 0, file }], fault)?),
     }
@@ -93,26 +85,20 @@ fn read_conf<L: Link, U: Scheduler>(
     stanza: &str,
     own: &Label,
     files: &[FileEntry],
-    links: &mut Vec<L>,
-    scheduler: &mut U,
-    lost: &mut Vec<Lost>,
+    pool: &mut Pool<L, U>,
 ) -> Result<Vec<u8>, FillFault>
-    requires few { vec_len links.old < 2 ^ 32 }
-    requires ready { AreReady (map L.link_state links.old.items) }
+    requires few { vec_len pool.old.links < 2 ^ 32 }
+    requires ready { AreReady (links_in L.link_state pool.old) }
     requires stanza { is_stanza stanza.now ≡ true }
     requires own { IsLabel own.now }
     requires entries { (e : Entry) → In e (map file_entry_of files.now) → IsEntry e }
     requires order { are_in_order (map (λ e. e.path) (map file_entry_of files.now)) ≡ true }
-    ensures conf { IfOk result (λ bytes. HoldsConf stanza.now own.now (map L.link_state links.old.items)
-        (map file_entry_of files.now) bytes.items) }
-    ensures left { OnOk result
-        (IsLeft (map L.link_state links.old.items) (map L.link_state links.new.items) lost.old.items lost.new.items) }
-    ensures fault { (f g : ℕ) → IfErr result
-        (λ e. FillFails e stanza.now own.now (map file_entry_of files.now) (map L.link_state links.old.items)
-        (map L.link_state links.new.items) lost.old.items lost.new.items f g) }
+    ensures conf { IfOk result (λ bytes. ReadsConf stanza.now own.now files.now L.link_state pool.old bytes.items) }
+    ensures left { OnOk result (LeavesLinks L.link_state pool.old pool.new) }
+    ensures fault { ReadsFail result stanza.now own.now (map file_entry_of files.now) L.link_state pool.old pool.new }
 {
     match place_of(files, CONF) {
-        Some(place) => read_file(alloc, stanza, own, &files[place], links, scheduler, lost),
+        Some(place) => read_file(alloc, stanza, own, &files[place], pool),
         None => Ok(Vec::new(alloc)),
     }
 }
@@ -156,8 +142,7 @@ fn with_block(alloc: Global, held: Vec<u8>, fetch: &[u8]) -> Result<Vec<u8>, All
 fn write_settings<T: DataFolder>(tree: &mut T, text: &[u8]) -> Result<(), DeviceError>
     ensures conf { OnOk result (IfSome (T.state tree.new).nodes (HasFile conf_path text.now)) }
     ensures signal { OnOk result (IfSome (T.state tree.new).nodes (HasFile signal_path [])) }
-    ensures others { (q : Text) → q ≢ conf_path → q ≢ signal_path
-        → at q (T.state tree.new).nodes ≡ at q (T.state tree.old).nodes }
+    ensures others { ChangesSettings (T.state tree.old) (T.state tree.new) }
     ensures proper { (T.state tree.new).faulty_calls ≡ (T.state tree.old).faulty_calls }
     ensures opened { (T.state tree.new).opened ≡ (T.state tree.old).opened }
     ensures cause { HasCause (T.state tree.old).faults (T.state tree.new).faults result }
@@ -170,41 +155,29 @@ fn write_settings<T: DataFolder>(tree: &mut T, text: &[u8]) -> Result<(), Device
 // Adds the settings by which a server fetches the log.
 fn add_fetch<T: DataFolder, L: Link, U: Scheduler>(
     alloc: Global,
-    stanza: &str,
+    what: &Restoration<'_>,
     fetch: &[u8],
-    manifest: &Manifest,
-    links: &mut Vec<L>,
-    scheduler: &mut U,
+    pool: &mut Pool<L, U>,
     tree: &mut T,
-    lost: &mut Vec<Lost>,
 ) -> Result<(), FillFault>
-    requires few { vec_len links.old < 2 ^ 32 }
-    requires ready { AreReady (map L.link_state links.old.items) }
-    requires stanza { is_stanza stanza.now ≡ true }
-    requires rules { IsManifest (manifest_of manifest.now) }
-    ensures added { OnOk result (IfSome (T.state tree.new).nodes
-        (HasSettings stanza.now manifest.now.label (map L.link_state links.old.items) (manifest_of manifest.now).files
-        fetch.now)) }
-    ensures others { (q : Text) → q ≢ conf_path → q ≢ signal_path
-        → at q (T.state tree.new).nodes ≡ at q (T.state tree.old).nodes }
-    ensures left { OnOk result
-        (IsLeft (map L.link_state links.old.items) (map L.link_state links.new.items) lost.old.items lost.new.items) }
+    requires few { vec_len pool.old.links < 2 ^ 32 }
+    requires ready { AreReady (links_in L.link_state pool.old) }
+    requires stanza { is_stanza what.now.stanza.now ≡ true }
+    requires rules { IsManifest (manifest_of what.now.manifest.now) }
+    ensures added { OnOk result (AddsFetch what.now fetch.now L.link_state pool.old (T.state tree.new)) }
+    ensures others { ChangesSettings (T.state tree.old) (T.state tree.new) }
+    ensures left { OnOk result (LeavesLinks L.link_state pool.old pool.new) }
     ensures proper { (T.state tree.new).faulty_calls ≡ (T.state tree.old).faulty_calls }
     ensures opened { (T.state tree.new).opened ≡ (T.state tree.old).opened }
     ensures later { (T.state tree.old).faults ≤ (T.state tree.new).faults }
-    ensures fault { IfErr result
-        (λ e. FillFails e stanza.now manifest.now.label (manifest_of manifest.now).files
-        (map L.link_state links.old.items) (map L.link_state links.new.items) lost.old.items lost.new.items
-        (T.state tree.old).faults (T.state tree.new).faults) }
+    ensures fault { IfErr result (FailsToRestore what.now L.link_state pool.old pool.new T.state tree.old tree.new) }
 {
     let held = read_conf(
         alloc,
-        stanza,
-        &manifest.label,
-        &manifest.files,
-        links,
-        scheduler,
-        lost,
+        what.stanza,
+        &what.manifest.label,
+        &what.manifest.files,
+        pool,
     )?;
     let text = with_block(alloc, held, fetch)?;
     write_settings(tree, &text)?;
@@ -214,39 +187,25 @@ fn add_fetch<T: DataFolder, L: Link, U: Scheduler>(
 /// Adds the settings of the recovery, where there is one.
 pub(crate) fn add_settings<T: DataFolder, L: Link, U: Scheduler>(
     alloc: Global,
-    stanza: &str,
-    options: &RestoreOptions<'_>,
-    manifest: &Manifest,
-    links: &mut Vec<L>,
-    scheduler: &mut U,
+    what: &Restoration<'_>,
+    pool: &mut Pool<L, U>,
     tree: &mut T,
-    lost: &mut Vec<Lost>,
 ) -> Result<(), FillFault>
-    requires few { vec_len links.old < 2 ^ 32 }
-    requires ready { AreReady (map L.link_state links.old.items) }
-    requires stanza { is_stanza stanza.now ≡ true }
-    requires rules { IsManifest (manifest_of manifest.now) }
-    ensures settles { OnOk result ((marks : List Bool)
-        → AppliesSettings stanza.now (map L.link_state links.old.items) (options_of options.now) (manifest_of
-        manifest.now)
-        marks (T.state tree.old).nodes (T.state tree.new).nodes) }
-    ensures others { (q : Text) → q ≢ conf_path → q ≢ signal_path
-        → at q (T.state tree.new).nodes ≡ at q (T.state tree.old).nodes }
+    requires few { vec_len pool.old.links < 2 ^ 32 }
+    requires ready { AreReady (links_in L.link_state pool.old) }
+    requires stanza { is_stanza what.now.stanza.now ≡ true }
+    requires rules { IsManifest (manifest_of what.now.manifest.now) }
+    ensures settles { OnOk result (SettlesAll what.now L.link_state pool.old T.state tree.old tree.new) }
+    ensures others { ChangesSettings (T.state tree.old) (T.state tree.new) }
     ensures control { StaysNone control_path (T.state tree.old).nodes (T.state tree.new).nodes }
-    ensures left { OnOk result
-        (IsLeft (map L.link_state links.old.items) (map L.link_state links.new.items) lost.old.items lost.new.items) }
+    ensures left { OnOk result (LeavesLinks L.link_state pool.old pool.new) }
     ensures proper { (T.state tree.new).faulty_calls ≡ (T.state tree.old).faulty_calls }
     ensures opened { (T.state tree.new).opened ≡ (T.state tree.old).opened }
     ensures later { (T.state tree.old).faults ≤ (T.state tree.new).faults }
-    ensures fault { IfErr result
-        (λ e. FillFails e stanza.now manifest.now.label (manifest_of manifest.now).files
-        (map L.link_state links.old.items) (map L.link_state links.new.items) lost.old.items lost.new.items
-        (T.state tree.old).faults (T.state tree.new).faults) }
+    ensures fault { IfErr result (FailsToRestore what.now L.link_state pool.old pool.new T.state tree.old tree.new) }
 {
-    match options.recovery {
+    match what.options.recovery {
         Recovery::Nothing => Ok(()),
-        Recovery::ToTheEnd { fetch } => add_fetch(
-            alloc, stanza, fetch, manifest, links, scheduler, tree, lost,
-        ),
+        Recovery::ToTheEnd { fetch } => add_fetch(alloc, what, fetch, pool, tree),
     }
 }

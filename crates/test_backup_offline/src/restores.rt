@@ -7,8 +7,9 @@ use base_model::Label;
 use memory_devices::{MemDataFolder, MemDisk, MemNode};
 use memory_workers::MemScheduler;
 use repo_manifest::load_manifest;
-use restore_make::{Recovery, RestoreOptions, restore_files};
+use restore_make::{Recovery, Restoration, RestoreOptions, restore_files};
 use std::alloc::{AllocError, Global};
+use worker_pool::Pool;
 
 // The names of a disk with their bytes, except with these bytes at one of them, or without it.
 fn names_of(
@@ -98,7 +99,7 @@ fn restored<T: DataFolder>(
     fail: &[u64],
 ) -> Result<String, AllocError> {
     let names = names_of(alloc, disk, other)?;
-    let mut links = links_to(alloc, asked.files, &names, &[fail])?;
+    let links = links_to(alloc, asked.files, &names, &[fail])?;
     let label = Label {
         full: SECOND,
         later: None,
@@ -111,19 +112,18 @@ fn restored<T: DataFolder>(
         Ok(seen) => seen,
         Err(_) => return format!(in alloc; "no listing"),
     };
-    let mut scheduler = MemScheduler::new(Vec::new(alloc));
-    let mut lost = Vec::new(alloc);
-    let ending = restore_files(
-        alloc,
-        "demo",
-        &asked.options,
-        &manifest,
-        &seen,
-        &mut links,
-        &mut scheduler,
-        tree,
-        &mut lost,
-    );
+    let what = Restoration {
+        stanza: "demo",
+        manifest: &manifest,
+        options: asked.options,
+        seen: &seen,
+    };
+    let mut pool = Pool {
+        links,
+        scheduler: MemScheduler::new(Vec::new(alloc)),
+        lost: Vec::new(alloc),
+    };
+    let ending = restore_files(alloc, &what, &mut pool, tree);
     match ending {
         Ok(()) => format!(in alloc; "restored"),
         Err(fault) => format!(in alloc; "{fault:?}"),

@@ -12,16 +12,16 @@ use Rattle.cmd_restore.proofs.folder_fill.fill.Goals as goal
 
 pub returns-clause-finished : goal.returns-clause-finished
 returns-clause-finished g c =
-    let stanza = c.args.stanza.now in
-    let delta = c.args.order.now.delta in
-    let kind = recovery_type c.args.order.now.recovery in
-    let m = manifest_of c.args.manifest.now in
-    let used = take c.args.order.now.workers (map g.L.Link.link_state c.args.links.now.items) in
-    let now = map g.L.Link.link_state c.start_workers.new.links.items in
+    let stanza = c.args.asked.now.stanza.now in
+    let delta = c.args.asked.now.order.now.delta in
+    let kind = recovery_type c.args.asked.now.order.now.recovery in
+    let m = manifest_of c.args.asked.now.manifest.now in
+    let used = take c.args.asked.now.order.now.workers (map g.L.Link.link_state c.args.pool.now.links.items) in
+    let now = map g.L.Link.link_state c.start_workers.new.pool.links.items in
     let old = (g.T.DataFolder.state c.args.tree.now).nodes in
     let new = (g.T.DataFolder.state c.put_files.new.tree).nodes in
     let is : recovery_of c.recovery_by.result ≡ recovery_by stanza kind = c.recovery_by.ensures ∙ recovery_is stanza kind c.deref.result.now (c.deref.ensures.value ∙ c.in-Ok.ensures) in
     on_ok_weaker c.put_files.result
-    (λ done. finished_used stanza used now c.start_workers.new.lost.items (options_by stanza delta kind) m old new c.in_ok-start_workers.ensures.left
+    (λ done. finished_used stanza used now c.start_workers.new.pool.lost.items (options_by stanza delta kind) m old new c.in_ok-start_workers.ensures.left
     (subst (λ (r : Recovery). let o : Options = (record { delta = delta; recovery = r }) in IfSome new (IsFinished stanza now o m old)) is done))
     c.put_files.ensures.finished

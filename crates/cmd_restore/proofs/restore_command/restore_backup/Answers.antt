@@ -22,7 +22,7 @@ returns-in_err-fill-clause-cause g c =
     let stanza = c.args.stanza.now in
     let set = c.args.order.now.set in
     let repo = (g.D.Disk.state c.args.repo.now).view.now in
-    let b : Before = record { stanza = stanza; set = set; repo = repo; nodes = (g.T.DataFolder.state c.args.tree.now).nodes; used = take c.args.order.now.workers (map g.L.Link.link_state c.args.links.now.items); options = options_by stanza c.args.order.now.delta (recovery_type c.args.order.now.recovery) } in
+    let b : Before = record { stanza = stanza; set = set; repo = repo; nodes = (g.T.DataFolder.state c.args.tree.now).nodes; used = take c.args.order.now.workers (map g.L.Link.link_state c.args.pool.now.links.items); options = options_by stanza c.args.order.now.delta (recovery_type c.args.order.now.recovery) } in
     let label = c.in_ok-label.label in
     let m = manifest_of c.in_ok-manifest.manifest in
     let first = (g.T.DataFolder.state c.args.tree.now).faults in
@@ -43,7 +43,7 @@ returns-clause-given g c = λ s f known now.
     let stanza = c.args.stanza.now in
     let set = c.args.order.now.set in
     let repo = (g.D.Disk.state c.args.repo.now).view.now in
-    let b : Before = record { stanza = stanza; set = set; repo = repo; nodes = (g.T.DataFolder.state c.args.tree.now).nodes; used = take c.args.order.now.workers (map g.L.Link.link_state c.args.links.now.items); options = options_by stanza c.args.order.now.delta (recovery_type c.args.order.now.recovery) } in
+    let b : Before = record { stanza = stanza; set = set; repo = repo; nodes = (g.T.DataFolder.state c.args.tree.now).nodes; used = take c.args.order.now.workers (map g.L.Link.link_state c.args.pool.now.links.items); options = options_by stanza c.args.order.now.delta (recovery_type c.args.order.now.recovery) } in
     let label = c.in_ok-label.label in
     let nodes = (g.T.DataFolder.state c.fill.new.tree).nodes in
     let recovers : Recovers b nodes (string_bytes c.in-Ok.lines) = record {

@@ -24,5 +24,5 @@ pub returns-then-file-eq0-clause-waits : goal.returns-then-file-eq0-clause-waits
 returns-then-file-eq0-clause-waits g c =
     let old = (g.T.DataFolder.state c.args.tree.now).nodes in
     let new = (g.T.DataFolder.state c.begin.new.self).nodes in
-    entry_begun c.args.stanza.now c.args.own.now (map g.L.Link.link_state c.args.links.now.items) (file_entry_of c.args.file.now) waiting_path new c.requires.entry c.if-file-eq0.true
+    entry_begun c.args.file.now.stanza.now c.args.file.now.own.now (map g.L.Link.link_state c.args.pool.now.links.items) (file_entry_of c.args.file.now.entry.now) waiting_path new c.requires.entry c.if-file-eq0.true
     (begun_has {T = Unit {0}} {E = Unit {0}} (Ok tt) waiting_path old new c.in_ok-begin.ensures.nodes)

@@ -18,18 +18,18 @@ run_digests-requires-clause-digests g c = are_digests c.args.candidates.now (map
 pub returns-in-Ok-clause-ends : goal.returns-in-Ok-clause-ends
 returns-in-Ok-clause-ends g c =
     let list = ap (map job_of) c.deref.ensures.value ∙ c.in_ok-jobs.ensures.jobs in
-    are_ends (map g.L.Link.link_state c.args.links.now.items) c.args.candidates.now (map job_of c.deref.result.now) list c.in-Ok.ends.items c.in-Ok.ensures.ends
+    are_ends (map g.L.Link.link_state c.args.pool.now.links.items) c.args.candidates.now (map job_of c.deref.result.now) list c.in-Ok.ends.items c.in-Ok.ensures.ends
 
 pub named-requires : goal.named-requires
 named-requires g c =
     let jobs = map job_of c.deref.result.now in
     let list = ap (map job_of) c.deref.ensures.value ∙ c.in_ok-jobs.ensures.jobs in
-    has_its jobs _ c.in-Err.fault (map g.L.Link.link_state c.args.links.now.items) c.args.lost.now.items c.run_digests.new.lost.items 0 0 (map g.L.Link.link_state c.run_digests.new.links.items) (sym (digest_count c.args.candidates.now jobs list)) c.in-Err.ensures.fault
+    has_its jobs _ c.in-Err.fault (map g.L.Link.link_state c.args.pool.now.links.items) c.args.pool.now.lost.items c.run_digests.new.pool.lost.items 0 0 (map g.L.Link.link_state c.run_digests.new.pool.links.items) (sym (digest_count c.args.candidates.now jobs list)) c.in-Err.ensures.fault
 
 pub returns-clause-fault : goal.returns-clause-fault
 returns-clause-fault g c = λ stanza own f h.
     let cs = c.args.candidates.now in
     let jobs = map job_of c.deref.result.now in
     let list = ap (map job_of) c.deref.ensures.value ∙ c.in_ok-jobs.ensures.jobs in
-    held_fails stanza own (map g.L.Link.link_state c.args.links.now.items) cs jobs in_folder (digest_each cs jobs list) (λ t d u. never_unread t d (source stanza own d) u)
-    (map g.L.Link.link_state c.run_digests.new.links.items) c.args.lost.now.items c.run_digests.new.lost.items 0 0 f h c.in-Err.fault c.in_ok-named-in-Err.field-0 c.in-Err.ensures.fault c.in_ok-named-in-Err.ensures
+    held_fails stanza own (map g.L.Link.link_state c.args.pool.now.links.items) cs jobs in_folder (digest_each cs jobs list) (λ t d u. never_unread t d (source stanza own d) u)
+    (map g.L.Link.link_state c.run_digests.new.pool.links.items) c.args.pool.now.lost.items c.run_digests.new.pool.lost.items 0 0 f h c.in-Err.fault c.in_ok-named-in-Err.field-0 c.in-Err.ensures.fault c.in_ok-named-in-Err.ensures

@@ -13,29 +13,29 @@ put_last-requires-clause-ready g c = λ i s is. (c.in_ok-add_settings.ensures.le
 
 pub returns-clause-completes : goal.returns-clause-completes
 returns-clause-completes g c =
-    let links = map g.L.Link.link_state c.args.links.now.items in
-    let mid = map g.L.Link.link_state c.add_settings.new.links.items in
+    let links = map g.L.Link.link_state c.args.pool.now.links.items in
+    let mid = map g.L.Link.link_state c.add_settings.new.pool.links.items in
     on_ok_weaker c.put_last.result
-    (λ finishes marks first before after start left plain. finishes (options_of c.args.options.now) marks first [] (left.entries ++ c.in_ok-add_settings.ensures.left.entries) start
-    (left_beyond first links mid before after c.args.lost.now.items c.add_settings.new.lost.items left c.in_ok-add_settings.ensures.left)
+    (λ finishes marks first before after start left plain. finishes (options_of c.args.what.now.options) marks first [] (left.entries ++ c.in_ok-add_settings.ensures.left.entries) start
+    (left_beyond first links mid before after c.args.pool.now.lost.items c.add_settings.new.pool.lost.items left c.in_ok-add_settings.ensures.left)
     (c.in_ok-add_settings.ensures.settles marks first before after start left plain))
     c.put_last.ensures.finishes
 
 pub returns-clause-fault : goal.returns-clause-fault
 returns-clause-fault g c =
-    let m = manifest_of c.args.manifest.now in
-    let first = map g.L.Link.link_state c.args.links.now.items in
-    let links = map g.L.Link.link_state c.add_settings.new.links.items in
-    let left = map g.L.Link.link_state c.put_last.new.links.items in
-    let start = c.args.lost.now.items in
-    let before = c.add_settings.new.lost.items in
-    let after = c.put_last.new.lost.items in
+    let m = manifest_of c.args.what.now.manifest.now in
+    let first = map g.L.Link.link_state c.args.pool.now.links.items in
+    let links = map g.L.Link.link_state c.add_settings.new.pool.links.items in
+    let left = map g.L.Link.link_state c.put_last.new.pool.links.items in
+    let start = c.args.pool.now.lost.items in
+    let before = c.add_settings.new.pool.lost.items in
+    let after = c.put_last.new.pool.lost.items in
     let f = (g.T.DataFolder.state c.args.tree.now).faults in
     let k = (g.T.DataFolder.state c.add_settings.new.tree).faults in
     let h = (g.T.DataFolder.state c.put_last.new.tree).faults in
     IfErr-weaker c.put_last.result _ _
-    (λ e x. fails_later c.args.stanza.now m.label m.files first left start after f k h e c.add_settings.ensures.later
-    (fails_before c.args.stanza.now m.label m.files first links left start before after k h e c.in_ok-add_settings.ensures.left x))
+    (λ e x. fails_later c.args.what.now.stanza.now m.label m.files first left start after f k h e c.add_settings.ensures.later
+    (fails_before c.args.what.now.stanza.now m.label m.files first links left start before after k h e c.in_ok-add_settings.ensures.left x))
     c.put_last.ensures.fault
 
 pub returns-in_err-add_settings-clause-none : goal.returns-in_err-add_settings-clause-none
@@ -46,5 +46,5 @@ returns-clause-none g c = on_err_more c.put_last.result _ _ (λ stays was. stays
 
 pub returns-clause-proper : goal.returns-clause-proper
 returns-clause-proper g c = λ there.
-    c.put_last.ensures.proper (folders_beside_settings (manifest_of c.args.manifest.now) c.requires.rules (g.T.DataFolder.state c.args.tree.now).nodes (g.T.DataFolder.state c.add_settings.new.tree).nodes c.add_settings.ensures.others there)
+    c.put_last.ensures.proper (folders_beside_settings (manifest_of c.args.what.now.manifest.now) c.requires.rules (g.T.DataFolder.state c.args.tree.now).nodes (g.T.DataFolder.state c.add_settings.new.tree).nodes c.add_settings.ensures.others there)
     ∙ c.add_settings.ensures.proper

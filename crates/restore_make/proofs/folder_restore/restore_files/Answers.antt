@@ -12,7 +12,7 @@ use Rattle.restore_make.proofs.folder_restore.restore_files.Goals as goal
 
 pub find_kept-requires-clause-entries : goal.find_kept-requires-clause-entries
 find_kept-requires-clause-entries g c = λ e i.
-    let m = manifest_of c.args.manifest.now in
+    let m = manifest_of c.args.what.now.manifest.now in
     (m.folders, c.requires.rules.files e (subst (λ (es : List FileEntry). In e es) (ap (map file_entry_of) c.deref.ensures.value) i))
 
 pub put_rest-requires-clause-ready : goal.put_rest-requires-clause-ready
@@ -20,10 +20,10 @@ put_rest-requires-clause-ready g c = λ i s is. (c.in_ok-marks.ensures.left.each
 
 pub returns-clause-finished : goal.returns-clause-finished
 returns-clause-finished g c =
-    let m = manifest_of c.args.manifest.now in
-    let o = options_of c.args.options.now in
-    let seen = map seen_of c.args.seen.now in
-    let links = map g.L.Link.link_state c.args.links.now.items in
+    let m = manifest_of c.args.what.now.manifest.now in
+    let o = options_of c.args.what.now.options in
+    let seen = map seen_of c.args.what.now.seen.now in
+    let links = map g.L.Link.link_state c.args.pool.now.links.items in
     let old = (g.T.DataFolder.state c.args.tree.now).nodes in
     let mid = (g.T.DataFolder.state c.remove_control.new.tree).nodes in
     let marks = c.deref-2.result.now in
@@ -31,16 +31,16 @@ returns-clause-finished g c =
     let alike = subst (λ (es : List FileEntry). AllAlike links o seen es marks) files (subst (λ (ms : List Bool). AllAlike links o seen (map file_entry_of c.deref.result.now) ms) (sym c.deref-2.ensures.value) c.in_ok-marks.ensures.alike) in
     let all = subst (λ (es : List FileEntry). MarksAlike links o seen es marks) files (subst (λ (ms : List Bool). MarksAlike links o seen (map file_entry_of c.deref.result.now) ms) (sym c.deref-2.ensures.value) c.in_ok-marks.ensures.all) in
     on_ok_weaker c.put_rest.result
-    (λ puts. completed c.args.stanza.now links o m seen marks old mid c.requires.seen c.in_ok-remove_control.ensures.others all (g.T.DataFolder.state c.put_rest.new.tree).nodes
-    (puts links c.args.lost.now.items c.find_kept.new.lost.items c.in_ok-marks.ensures.left alike))
+    (λ puts. completed c.args.what.now.stanza.now links o m seen marks old mid c.requires.seen c.in_ok-remove_control.ensures.others all (g.T.DataFolder.state c.put_rest.new.tree).nodes
+    (puts links c.args.pool.now.lost.items c.find_kept.new.pool.lost.items c.in_ok-marks.ensures.left alike))
     c.put_rest.ensures.puts
 
 pub returns-clause-restored : goal.returns-clause-restored
 returns-clause-restored g c =
-    let m = manifest_of c.args.manifest.now in
-    let o = options_of c.args.options.now in
-    let seen = map seen_of c.args.seen.now in
-    let links = map g.L.Link.link_state c.args.links.now.items in
+    let m = manifest_of c.args.what.now.manifest.now in
+    let o = options_of c.args.what.now.options in
+    let seen = map seen_of c.args.what.now.seen.now in
+    let links = map g.L.Link.link_state c.args.pool.now.links.items in
     let old = (g.T.DataFolder.state c.args.tree.now).nodes in
     let mid = (g.T.DataFolder.state c.remove_control.new.tree).nodes in
     let new = (g.T.DataFolder.state c.put_rest.new.tree).nodes in
@@ -49,23 +49,23 @@ returns-clause-restored g c =
     let alike = subst (λ (es : List FileEntry). AllAlike links o seen es marks) files (subst (λ (ms : List Bool). AllAlike links o seen (map file_entry_of c.deref.result.now) ms) (sym c.deref-2.ensures.value) c.in_ok-marks.ensures.alike) in
     let all = subst (λ (es : List FileEntry). MarksAlike links o seen es marks) files (subst (λ (ms : List Bool). MarksAlike links o seen (map file_entry_of c.deref.result.now) ms) (sym c.deref-2.ensures.value) c.in_ok-marks.ensures.all) in
     on_ok_weaker c.put_rest.result
-    (λ puts. finished_restores c.args.stanza.now links o m old new (completed c.args.stanza.now links o m seen marks old mid c.requires.seen c.in_ok-remove_control.ensures.others all new
-    (puts links c.args.lost.now.items c.find_kept.new.lost.items c.in_ok-marks.ensures.left alike)))
+    (λ puts. finished_restores c.args.what.now.stanza.now links o m old new (completed c.args.what.now.stanza.now links o m seen marks old mid c.requires.seen c.in_ok-remove_control.ensures.others all new
+    (puts links c.args.pool.now.lost.items c.find_kept.new.pool.lost.items c.in_ok-marks.ensures.left alike)))
     c.put_rest.ensures.puts
 
 pub returns-clause-fault : goal.returns-clause-fault
 returns-clause-fault g c =
-    let m = manifest_of c.args.manifest.now in
-    let first = map g.L.Link.link_state c.args.links.now.items in
-    let links = map g.L.Link.link_state c.find_kept.new.links.items in
-    let left = map g.L.Link.link_state c.put_rest.new.links.items in
-    let start = c.args.lost.now.items in
-    let before = c.find_kept.new.lost.items in
-    let after = c.put_rest.new.lost.items in
+    let m = manifest_of c.args.what.now.manifest.now in
+    let first = map g.L.Link.link_state c.args.pool.now.links.items in
+    let links = map g.L.Link.link_state c.find_kept.new.pool.links.items in
+    let left = map g.L.Link.link_state c.put_rest.new.pool.links.items in
+    let start = c.args.pool.now.lost.items in
+    let before = c.find_kept.new.pool.lost.items in
+    let after = c.put_rest.new.pool.lost.items in
     let f = (g.T.DataFolder.state c.args.tree.now).faults in
     let k = (g.T.DataFolder.state c.remove_control.new.tree).faults in
     let h = (g.T.DataFolder.state c.put_rest.new.tree).faults in
     IfErr-weaker c.put_rest.result _ _
-    (λ e x. fails_later c.args.stanza.now m.label m.files first left start after f k h e c.remove_control.ensures.cause.later
-    (fails_before c.args.stanza.now m.label m.files first links left start before after k h e c.in_ok-marks.ensures.left x))
+    (λ e x. fails_later c.args.what.now.stanza.now m.label m.files first left start after f k h e c.remove_control.ensures.cause.later
+    (fails_before c.args.what.now.stanza.now m.label m.files first links left start before after k h e c.in_ok-marks.ensures.left x))
     c.put_rest.ensures.fault

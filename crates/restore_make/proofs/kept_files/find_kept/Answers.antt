@@ -16,13 +16,13 @@ use Rattle.restore_make.proofs.kept_files.find_kept.Goals as goal
 pub returns-then-not-options-clause-alike : goal.returns-then-not-options-clause-alike
 returns-then-not-options-clause-alike g c =
     let o = options_of c.args.options.now in
-    let links = map g.L.Link.link_state c.args.links.now.items in
+    let links = map g.L.Link.link_state c.args.pool.now.links.items in
     let es = map file_entry_of c.args.files.now in
     let seen = map seen_of c.args.seen.now in
     subst (λ (marks : List Bool). AllAlike links o seen es marks) (sym c.new.ensures.items) (none_alike links o seen es)
 
 pub returns-then-not-options-clause-left : goal.returns-then-not-options-clause-left
-returns-then-not-options-clause-left g c = left_all (map g.L.Link.link_state c.args.links.now.items) c.args.lost.now.items c.requires.ready
+returns-then-not-options-clause-left g c = left_all (map g.L.Link.link_state c.args.pool.now.links.items) c.args.pool.now.lost.items c.requires.ready
 
 pub mark_alike-requires-clause-entries : goal.mark_alike-requires-clause-entries
 mark_alike-requires-clause-entries g c = λ e i.
@@ -43,7 +43,7 @@ mark_alike-requires-clause-places g c = λ k x at.
 pub returns-clause-alike : goal.returns-clause-alike
 returns-clause-alike g c =
     let o = options_of c.args.options.now in
-    let links = map g.L.Link.link_state c.args.links.now.items in
+    let links = map g.L.Link.link_state c.args.pool.now.links.items in
     let es = map file_entry_of c.args.files.now in
     let seen = map seen_of c.args.seen.now in
     let are = subst (λ (cs : List Candidate). AreCandidates o.recovery es seen cs) (sym c.deref.ensures.value) c.in_ok-candidates.ensures.are in
@@ -55,7 +55,7 @@ returns-clause-alike g c =
 pub returns-clause-all : goal.returns-clause-all
 returns-clause-all g c =
     let o = options_of c.args.options.now in
-    let links = map g.L.Link.link_state c.args.links.now.items in
+    let links = map g.L.Link.link_state c.args.pool.now.links.items in
     let es = map file_entry_of c.args.files.now in
     let seen = map seen_of c.args.seen.now in
     let are = subst (λ (cs : List Candidate). AreCandidates o.recovery es seen cs) (sym c.deref.ensures.value) c.in_ok-candidates.ensures.are in
@@ -67,11 +67,11 @@ returns-clause-all g c =
 pub returns-clause-fault : goal.returns-clause-fault
 returns-clause-fault g c = λ stanza own f h.
     let r = recovery_of c.args.options.now.recovery in
-    let links = map g.L.Link.link_state c.args.links.now.items in
+    let links = map g.L.Link.link_state c.args.pool.now.links.items in
     let es = map file_entry_of c.args.files.now in
     let seen = map seen_of c.args.seen.now in
     let cs = c.deref.result.now in
     let are = subst (λ (xs : List Candidate). AreCandidates r es seen xs) (sym c.deref.ensures.value) c.in_ok-candidates.ensures.are in
     IfErr-weaker c.mark_alike.result _ _
-    (λ e x. fails_listed stanza own (map file_of cs) es links (map g.L.Link.link_state c.mark_alike.new.links.items) c.args.lost.now.items c.mark_alike.new.lost.items f h e (candidate_in r es seen cs are) x)
+    (λ e x. fails_listed stanza own (map file_of cs) es links (map g.L.Link.link_state c.mark_alike.new.pool.links.items) c.args.pool.now.lost.items c.mark_alike.new.pool.lost.items f h e (candidate_in r es seen cs are) x)
     (c.mark_alike.ensures.fault stanza own f h)

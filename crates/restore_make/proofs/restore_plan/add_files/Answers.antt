@@ -14,17 +14,17 @@ use Rattle.restore_make.proofs.ReadJobs.{Marked, planned_more}
 use Rattle.restore_make.proofs.restore_plan.add_files.Goals as goal
 
 pub add_file-requires-clause-entry : goal.add_file-requires-clause-entry
-add_file-requires-clause-entry c = c.requires.entries (file_entry_of c.index-files-place.result) (in_at file_entry_of c.args.files.now c.loop-place.place c.index-files-place.result c.loop-place-test.true c.index-files-place.is)
+add_file-requires-clause-entry c = c.requires.entries (file_entry_of c.index-files-place.result) (in_at file_entry_of c.args.chosen.now.files.now c.loop-place.place c.index-files-place.result c.loop-place-test.true c.index-files-place.is)
 
 pub loop-place-preserved : goal.loop-place-preserved
 loop-place-preserved c =
     let n = c.loop-place.place in
-    let fs = c.args.files.now in
-    let marks = c.args.marks.now in
+    let fs = c.args.chosen.now.files.now in
+    let marks = c.args.chosen.now.marks.now in
     let e = file_entry_of c.index-files-place.result in
     let es = map file_entry_of fs in
-    let r = recovery_of c.args.recovery.now in
-    let read = reading c.args.stanza.now c.args.own.now in
+    let r = recovery_of c.args.chosen.now.recovery in
+    let read = reading c.args.chosen.now.stanza.now c.args.chosen.now.own.now in
     let list : take (n + 1) (marked es marks) ≡ take n (marked es marks) ++ (e, mark_at marks n) ∷ [] = marked_more es marks n e (map_get file_entry_of fs n c.index-files-place.result (got fs n c.index-files-place.result c.loop-place-test.true c.index-files-place.is)) in
     let kept : c.mark_at-kept.result ≡ mark_at marks n = c.mark_at-kept.ensures in
     let start = c.args.planned.now in
@@ -39,14 +39,14 @@ loop-place-preserved c =
 
 pub returns-clause-jobs : goal.returns-clause-jobs
 returns-clause-jobs c =
-    let es = map file_entry_of c.args.files.now in
-    let marks = c.args.marks.now in
+    let es = map file_entry_of c.args.chosen.now.files.now in
+    let marks = c.args.chosen.now.marks.now in
     c.loop-place.invariant.jobs
-    ∙ ap (λ (l : List Marked). map job_of c.args.planned.now.jobs.items ++ map (reading c.args.stanza.now c.args.own.now) (reads_of (recovery_of c.args.recovery.now) l)) (take_whole (marked es marks) c.loop-place.place (marked_long es marks ∙ length-map c.args.files.now file_entry_of ∙ (omega (arith, c.loop-place-test.false, c.loop-place.auto.place-end))))
+    ∙ ap (λ (l : List Marked). map job_of c.args.planned.now.jobs.items ++ map (reading c.args.chosen.now.stanza.now c.args.chosen.now.own.now) (reads_of (recovery_of c.args.chosen.now.recovery) l)) (take_whole (marked es marks) c.loop-place.place (marked_long es marks ∙ length-map c.args.chosen.now.files.now file_entry_of ∙ (omega (arith, c.loop-place-test.false, c.loop-place.auto.place-end))))
 
 pub returns-clause-wanted : goal.returns-clause-wanted
 returns-clause-wanted c =
-    let es = map file_entry_of c.args.files.now in
-    let marks = c.args.marks.now in
+    let es = map file_entry_of c.args.chosen.now.files.now in
+    let marks = c.args.chosen.now.marks.now in
     c.loop-place.invariant.wanted
-    ∙ ap (λ (l : List Marked). map want_in c.args.planned.now.wanted.items ++ map want_of (reads_of (recovery_of c.args.recovery.now) l)) (take_whole (marked es marks) c.loop-place.place (marked_long es marks ∙ length-map c.args.files.now file_entry_of ∙ (omega (arith, c.loop-place-test.false, c.loop-place.auto.place-end))))
+    ∙ ap (λ (l : List Marked). map want_in c.args.planned.now.wanted.items ++ map want_of (reads_of (recovery_of c.args.chosen.now.recovery) l)) (take_whole (marked es marks) c.loop-place.place (marked_long es marks ∙ length-map c.args.chosen.now.files.now file_entry_of ∙ (omega (arith, c.loop-place-test.false, c.loop-place.auto.place-end))))

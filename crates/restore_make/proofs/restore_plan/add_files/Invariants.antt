@@ -9,8 +9,9 @@ use Rattle.restore_make.proofs.restore_plan.add_files.Given as goal
 
 abbrev pub invariant-loop-place : goal.invariant-loop-place
 invariant-loop-place l =
-    let es = reads_of (recovery_of l.recovery) (take l.place (marked (map file_entry_of l.files) l.marks)) in
+    let s = l.chosen in
+    let es = reads_of (recovery_of s.recovery) (take l.place (marked (map file_entry_of s.files.now) s.marks.now)) in
     record {
-      jobs : map job_of l.planned.jobs.items ≡ map job_of l.fn.planned.jobs.items ++ map (reading l.stanza l.own) es;
+      jobs : map job_of l.planned.jobs.items ≡ map job_of l.fn.planned.jobs.items ++ map (reading s.stanza.now s.own.now) es;
       wanted : map want_in l.planned.wanted.items ≡ map want_in l.fn.planned.wanted.items ++ map want_of es;
     }

@@ -11,17 +11,17 @@ use Rattle.restore_make.proofs.Settled.{settles_some}
 use Rattle.restore_make.proofs.settings.add_settings.Goals as goal
 
 pub returns-in-Nothing-clause-left : goal.returns-in-Nothing-clause-left
-returns-in-Nothing-clause-left g c = left_all (map g.L.Link.link_state c.args.links.now.items) c.args.lost.now.items c.requires.ready
+returns-in-Nothing-clause-left g c = left_all (map g.L.Link.link_state c.args.pool.now.links.items) c.args.pool.now.lost.items c.requires.ready
 
 pub returns-in-ToTheEnd-clause-settles : goal.returns-in-ToTheEnd-clause-settles
 returns-in-ToTheEnd-clause-settles g c =
-    let m = manifest_of c.args.manifest.now in
-    let o = options_of c.args.options.now in
+    let m = manifest_of c.args.what.now.manifest.now in
+    let o = options_of c.args.what.now.options in
     let fetch = c.in-ToTheEnd.fetch.now in
     let is : o.recovery ≡ ToTheEnd fetch = ap recovery_of c.in-ToTheEnd.is in
-    let links = map g.L.Link.link_state c.args.links.now.items in
+    let links = map g.L.Link.link_state c.args.pool.now.links.items in
     on_ok_weaker c.add_fetch.result
-    (λ added marks first before after start left plain. settles_some c.args.stanza.now links o m c.requires.rules fetch marks first before after start left is (g.T.DataFolder.state c.args.tree.now).nodes (g.T.DataFolder.state c.add_fetch.new.tree).nodes
+    (λ added marks first before after start left plain. settles_some c.args.what.now.stanza.now links o m c.requires.rules fetch marks first before after start left is (g.T.DataFolder.state c.args.tree.now).nodes (g.T.DataFolder.state c.add_fetch.new.tree).nodes
     (λ q own. let off = off_settings fetch q own in c.add_fetch.ensures.others q off.0 off.1) added plain)
     c.add_fetch.ensures.added
 

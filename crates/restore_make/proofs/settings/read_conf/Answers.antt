@@ -28,8 +28,8 @@ returns-in-Some-clause-fault g c = λ f h.
     let e = file_entry_of c.index-files-place.result in
     let listed = in_at file_entry_of c.args.files.now c.in-Some.place c.index-files-place.result c.in-Some.ensures.within c.index-files-place.is in
     IfErr-weaker c.read_file.result _ _
-    (λ x y. fails_more c.args.stanza.now c.args.own.now e (map file_entry_of c.args.files.now) (map g.L.Link.link_state c.args.links.now.items) (map g.L.Link.link_state c.read_file.new.links.items) c.args.lost.now.items c.read_file.new.lost.items f h x listed y)
+    (λ x y. fails_more c.args.stanza.now c.args.own.now e (map file_entry_of c.args.files.now) (map g.L.Link.link_state c.args.pool.now.links.items) (map g.L.Link.link_state c.read_file.new.pool.links.items) c.args.pool.now.lost.items c.read_file.new.pool.lost.items f h x listed y)
     (c.read_file.ensures.fault f h)
 
 pub returns-in-None-clause-left : goal.returns-in-None-clause-left
-returns-in-None-clause-left g c = left_all (map g.L.Link.link_state c.args.links.now.items) c.args.lost.now.items c.requires.ready
+returns-in-None-clause-left g c = left_all (map g.L.Link.link_state c.args.pool.now.links.items) c.args.pool.now.lost.items c.requires.ready
