@@ -5,3 +5,5 @@ pub mod Staged
 pub mod Prepared
 pub mod Faults
 pub mod Made
+pub mod Storing
+pub mod Closing

@@ -1,15 +1,17 @@
 -- What a crash leaves of a backup, and which bytes it is made of (pgBackRest command reference, "Backup").
-use Rattle.std.specs.Prelude.{◌≡◌, ◌≢◌, ◌⊎◌, ◌<◌, ℕ, Bool, true, false, List, Option, Some, None, Result, Ok, Err, IsSome, slice_get}
+use Rattle.std.specs.Prelude.{◌≡◌, ◌≢◌, ◌⊎◌, ◌<◌, ℕ, Bool, true, false, List, Option, Some, None, Result, Ok, Err, IfSome, IsSome, slice_get}
 use Rattle.base_devices.specs.Content.{Name, Content}
 use Rattle.base_devices.specs.Moments.{View, is_unsynced}
 use Rattle.base_devices.specs.Crash.{IsTemporary, Ends, NowChanges}
 use Rattle.base_devices.specs.Links.{LinkState}
+use Rattle.base_devices.specs.States.{DiskState}
 use Rattle.base_model.specs.Names.{copy_of}
 use Rattle.base_model.specs.Values.{Manifest, BackupInfo}
 use Rattle.base_model.specs.InfoText.{info_text}
 use Rattle.base_model.specs.InfoFiles.{backup_sections, IsBackupText}
 use Rattle.base_model.specs.ManifestText.{IsManifestText}
 use Rattle.repo_manifest.specs.Keeping.{manifest_text}
+use Rattle.repo_stanza.specs.Pairs.{AgreeAt}
 use Rattle.worker_protocol.specs.PartSinkState.{Done, JobItems}
 use Rattle.worker_pool.specs.Payloads.{AllByFile}
 use Rattle.worker_pool.specs.Run.{AllDone}
@@ -119,6 +121,10 @@ MayBeListed (faults.ListTooLong n) = ⊥
 MayBeListed faults.Clock = ⊥
 MayBeListed faults.Disk = Unit {0}
 MayBeListed faults.NoMemory = Unit {0}
+
+-- both members of the pair are alike afterwards
+abbrev pub LeavesAlike : Name → DiskState → DiskState → Type 0
+LeavesAlike main old new = IsSome old.view.now → IfSome new.view.now (AgreeAt main)
 
 -- at Ok it is listed; else the list stays, or after some faults it may be
 abbrev pub OutcomeOf : Result (Unit {0}) MakeFault → Draft → Option Online → List LinkState → View → View → Type 0

@@ -1,17 +1,17 @@
 // A backup stops: its stop second is taken, and its label file is stored.
-ghost use Rattle.std.specs.Prelude.{◌≡◌, ◌≤◌, List, None, Some, IfOk, IfErr, OnOk, option_map};
-ghost use Rattle.base_devices.specs.Content.{SameBut, at};
-ghost use Rattle.base_devices.specs.Links.{LinkState};
-ghost use Rattle.base_devices.specs.Moments.{GrowsBy};
+ghost use Rattle.std.specs.Prelude.{◌≡◌, ◌≤◌, None, Some, IfOk, IfErr, OnOk};
+ghost use Rattle.base_devices.specs.Content.{SameBut};
 ghost use Rattle.base_devices.specs.States.{CallsProperly, last_second};
 ghost use Rattle.backup_sink.specs.Relation.{Touches};
 ghost use Rattle.backup_sink.specs.Sealed.{IsSealedAt};
+ghost use Rattle.backup_sink.specs.Writing.{GrowsAt, Replaces};
 ghost use Rattle.base_crash_lists.specs.Beside.{StaysBeside};
 ghost use Rattle.backup_make.specs.Draft.{IsDraft, IsFree, is_own_of, label_name};
-ghost use Rattle.backup_make.specs.Faults.{CloseFails, StopFails, WriteFails};
+ghost use Rattle.backup_make.specs.Closing.{EndingFails, StagesLabel};
+ghost use Rattle.backup_make.specs.Faults.{StopFails, WriteFails};
 ghost use Rattle.backup_make.specs.Made.{LeavesList};
 ghost use Rattle.backup_make.specs.Online.{IsOnline, online_of};
-ghost use Rattle.backup_make.specs.Staged.{IsClosed, IsClosedOf, IsFetched, IsStaged, fetched_draft, fetched_ends};
+ghost use Rattle.backup_make.specs.Staged.{IsClosed, IsClosedOf, IsFetched, fetched_draft};
 
 use crate::draft::Draft;
 use crate::draft_jobs::{Fetched, folder_name};
@@ -70,11 +70,9 @@ fn store_label<D: Disk>(
     requires draft { IsDraft draft.now }
     requires free { IsFree draft.now }
     ensures touches { Touches (is_own_of draft.now) (D.state d.old).view (D.state d.new).view }
-    ensures value { OnOk result (at (label_name draft.now) (D.state d.new).view.now
-        ≡ option_map (λ _. Some text.now) (D.state d.old).view.now) }
+    ensures value { OnOk result (Replaces (label_name draft.now) text.now (D.state d.old) (D.state d.new)) }
     ensures others { SameBut (label_name draft.now) (D.state d.old).view.now (D.state d.new).view.now }
-    ensures time { GrowsBy (λ n _. n ≡ label_name draft.now) (λ n. n ≡ label_name draft.now)
-        (D.state d.old).view (D.state d.new).view }
+    ensures time { GrowsAt (label_name draft.now) (D.state d.old) (D.state d.new) }
     ensures sealed { OnOk result (IsSealedAt (label_name draft.now) (D.state d.new).view) }
     ensures frame { CallsProperly (D.state d.old) (D.state d.new) }
     ensures fault { IfErr result (λ e. WriteFails e (D.state d.old).faults (D.state d.new).faults) }
@@ -100,17 +98,13 @@ pub fn close_online<'a, D: Disk, C: Clock>(
     requires free { IsFree (fetched_draft fetched) }
     ensures closed { IfOk result IsClosed }
     ensures of { IfOk result (IsClosedOf fetched.entry (Some (online_of online))) }
-    ensures staged { OnOk result ((links : List LinkState)
-        → IsStaged (fetched_draft fetched.entry) None links (fetched_ends fetched.entry) (D.state d.old).view
-        → IsStaged (fetched_draft fetched.entry) (Some (online_of online)) links (fetched_ends fetched.entry)
-        (D.state d.new).view) }
+    ensures staged { OnOk result (StagesLabel fetched.entry (online_of online) (D.state d.old) (D.state d.new)) }
     ensures unlisted { LeavesList (fetched_draft fetched.entry) (D.state d.old).view (D.state d.new).view }
     ensures beside { StaysBeside (fetched_draft fetched.entry).stanza.now (D.state d.old).view (D.state d.new).view }
     ensures frame { CallsProperly (D.state d.old) (D.state d.new) }
     ensures later { (C.state clock.old).faults ≤ (C.state clock.new).faults }
     ensures least { (C.state clock.old).least ≤ (C.state clock.new).least }
-    ensures fault { IfErr result (λ e. CloseFails e (D.state d.old).faults (D.state d.new).faults
-        (C.state clock.old).faults (C.state clock.new).faults) }
+    ensures fault { IfErr result (EndingFails (D.state d.old) (D.state d.new) (C.state clock.old) (C.state clock.new)) }
 {
     let stop = stop_of(clock)?;
     store_label(alloc, d, &fetched.draft, &online.label_file)?;

@@ -5,12 +5,12 @@ ghost use Rattle.base_model.specs.InfoFiles.{backup_sections, info_limit, IsBack
 ghost use Rattle.base_model.specs.ManifestText.{IsManifest};
 ghost use Rattle.base_model.specs.Values.{backup_info_of, file_entry_of, manifest_of};
 ghost use Rattle.backup_record.specs.Faults.{HasControl, RecordFails};
-ghost use Rattle.backup_record.specs.Making.{IsListWith};
-ghost use Rattle.backup_make.specs.Draft.{list_in, main_of, manifest_for, files_with};
-ghost use Rattle.backup_make.specs.Faults.{ListFails, PrepareFails};
+ghost use Rattle.backup_record.specs.Recorded.{ExtendsList};
+ghost use Rattle.backup_make.specs.Closing.{IsLabelOf, PreparesClosed, PreparingFails, RecordsClosed};
+ghost use Rattle.backup_make.specs.Draft.{list_in, main_of, files_with};
+ghost use Rattle.backup_make.specs.Faults.{ListFails};
 ghost use Rattle.backup_make.specs.Online.{label_entry};
-ghost use Rattle.backup_make.specs.Prepared.{Prepares};
-ghost use Rattle.backup_make.specs.Staged.{IsClosed, closed_draft, closed_ends, closed_online};
+ghost use Rattle.backup_make.specs.Staged.{IsClosed, closed_draft, closed_ends};
 
 use crate::backup_close::Closed;
 use crate::draft::Draft;
@@ -72,8 +72,7 @@ fn label_in(
     online: &Option<Online>,
     stop: u64,
 ) -> Result<Option<FileEntry>, AllocError>
-    ensures { IfOk result (λ o. option_map file_entry_of o
-        ≡ option_map (λ x. label_entry (string_bytes x.label_file) stop) online.now) }
+    ensures { IfOk result (IsLabelOf online.now stop) }
 {
     match online {
         Some(online) => Ok(Some(label_entry(alloc, &online.label_file, stop)?)),
@@ -94,11 +93,9 @@ fn part_of(online: &Option<Online>) -> Option<WalPart>
 // The record of a backup.
 fn record_in(alloc: Global, closed: Closed<'_>) -> Result<Record, RecordFault>
     requires { IsClosed closed }
-    ensures manifest { IfOk result (λ r. manifest_of r.manifest ≡ manifest_for (closed_draft closed.entry)
-        (closed_online closed.entry) (closed_ends closed.entry) closed.entry.stop) }
+    ensures manifest { IfOk result (RecordsClosed closed.entry) }
     ensures rules { IfOk result (λ r. IsManifest (manifest_of r.manifest)) }
-    ensures info { IfOk result (λ r. IsListWith (list_in (closed_draft closed.entry)) (manifest_of r.manifest)
-        (backup_info_of r.info)) }
+    ensures info { IfOk result (ExtendsList (list_in (closed_draft closed.entry))) }
     ensures info_rules { IfOk result (λ r. IsBackupInfo (backup_info_of r.info)) }
     ensures control { IfOk result (λ r. HasControl (manifest_of r.manifest).files) }
     ensures fault { IfErr result (RecordFails (files_with (closed_draft closed.entry) (closed_ends closed.entry))) }
@@ -139,11 +136,9 @@ fn record_in(alloc: Global, closed: Closed<'_>) -> Result<Record, RecordFault>
 /// What is saved of a backup.
 pub(crate) fn prepare(alloc: Global, closed: Closed<'_>) -> Result<Prepared, MakeFault>
     requires { IsClosed closed }
-    ensures prepares { IfOk result (λ p. Prepares (closed_draft closed.entry) (closed_online closed.entry)
-        (closed_ends closed.entry) (manifest_of p.manifest) p.text.items) }
+    ensures prepares { IfOk result (PreparesClosed closed.entry) }
     ensures main { IfOk result (λ p. string_bytes p.main ≡ main_of (closed_draft closed.entry)) }
-    ensures fault { IfErr result (λ e. PrepareFails e (closed_draft closed.entry) (closed_online closed.entry)
-        (closed_ends closed.entry)) }
+    ensures fault { IfErr result (PreparingFails closed.entry) }
 {
     let main = backup_info_name(alloc, closed.fetched.draft.stanza)?;
     let Record { manifest, info } = record_in(alloc, closed)?;

@@ -1,13 +1,11 @@
 // Saves the manifest of a backup, and lists it.
-ghost use Rattle.std.specs.Prelude.{◌≡◌, List, IfErr, IfSome, IsSome, OnOk};
-ghost use Rattle.base_devices.specs.Links.{LinkState};
+ghost use Rattle.std.specs.Prelude.{◌≡◌, IfErr, OnOk};
 ghost use Rattle.base_devices.specs.States.{CallsProperly};
 ghost use Rattle.base_crash_lists.specs.Beside.{StaysBeside};
-ghost use Rattle.repo_stanza.specs.Pairs.{AgreeAt};
 ghost use Rattle.backup_make.specs.Draft.{main_of};
-ghost use Rattle.backup_make.specs.Faults.{PublishFails};
-ghost use Rattle.backup_make.specs.Made.{OutcomeOf};
-ghost use Rattle.backup_make.specs.Staged.{IsClosed, IsStaged, closed_draft, closed_ends, closed_online};
+ghost use Rattle.backup_make.specs.Closing.{PublishesStaged, PublishingFails};
+ghost use Rattle.backup_make.specs.Made.{LeavesAlike};
+ghost use Rattle.backup_make.specs.Staged.{IsClosed, closed_draft};
 
 use crate::backup_close::Closed;
 use crate::closing_record::prepare;
@@ -25,17 +23,11 @@ pub fn publish<D: Disk>(alloc: Global, d: &mut D, closed: Closed<'_>) -> Result<
     // The stanza's list is unchanged, or the backup is listed, of the bytes that the links read; and so it is in what a
     // crash leaves, at each moment. At Ok both members of the list's pair have it, and at an error it may be listed
     // only where the disk failed or memory ran out. Nothing besides the stanza's folders is changed.
-    ensures made { (links : List LinkState)
-        → IsStaged (closed_draft closed.entry) (closed_online closed.entry) links (closed_ends closed.entry)
-        (D.state d.old).view
-        → OutcomeOf result (closed_draft closed.entry) (closed_online closed.entry) links
-        (D.state d.old).view (D.state d.new).view }
-    ensures alike { OnOk result (IsSome (D.state d.old).view.now
-        → IfSome (D.state d.new).view.now (AgreeAt (main_of (closed_draft closed.entry)))) }
+    ensures made { PublishesStaged closed.entry result (D.state d.old) (D.state d.new) }
+    ensures alike { OnOk result (LeavesAlike (main_of (closed_draft closed.entry)) (D.state d.old) (D.state d.new)) }
     ensures beside { StaysBeside (closed_draft closed.entry).stanza.now (D.state d.old).view (D.state d.new).view }
     ensures frame { CallsProperly (D.state d.old) (D.state d.new) }
-    ensures fault { IfErr result (λ e. PublishFails e (closed_draft closed.entry) (closed_online closed.entry)
-        (closed_ends closed.entry) (D.state d.old).faults (D.state d.new).faults) }
+    ensures fault { IfErr result (PublishingFails closed.entry (D.state d.old) (D.state d.new)) }
 {
     let stanza = closed.fetched.draft.stanza;
     let prepared = prepare(alloc, closed)?;

@@ -35,3 +35,8 @@ pub record IsOrdered (stanza : Text) (second : ℕ) (cluster : Cluster) (order :
   pub listing_is : d.listing ≡ listing
   pub before_is : d.before ≡ before
   pub planned : d.plan.choices.items ≡ (layout order.settings (old_in d) (taken_in d) equal).choices
+
+-- the same for the order's stanza
+abbrev pub IsOrderedBy : DraftOrder → ℕ → Cluster → List Bool → Listing → rust_info.BackupInfo → Draft → Type 0
+IsOrderedBy order second cluster equal listing before d =
+    IsOrdered order.stanza.now second cluster order equal listing before d

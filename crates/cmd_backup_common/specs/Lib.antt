@@ -9,3 +9,5 @@ pub mod Beginning
 pub mod Drafting
 pub mod Making
 pub mod Causes
+pub mod Used
+pub mod Halting

@@ -1,7 +1,7 @@
 -- The second by which a backup's label is named (pgBackRest user guide, "Backup").
 use Rattle.std.specs.Prelude.{◌≡◌, ◌≤◌, ◌<◌, ◌+◌, ℕ, max, List, Option, Some, None}
 use Rattle.base_devices.specs.Cause.{Rises}
-use Rattle.base_devices.specs.States.{ClockState, last_second}
+use Rattle.base_devices.specs.States.{ClockState, DiskState, last_second}
 use Rattle.base_model.specs.declared.labels.Label.{Label}
 use Rattle.base_model.specs.declared.labels.Later.{Later}
 use Rattle.base_model.specs.Text.{In}
@@ -45,3 +45,7 @@ SecondCause (ClockBehind latest now) old new clock new_clock = (now + 10 < lates
 SecondCause Clock old new clock new_clock = Rises clock.faults new_clock.faults
 SecondCause Disk old new clock new_clock = Rises old new
 SecondCause NoMemory old new clock new_clock = Unit {0}
+
+-- the same, by the disk and the clock before and after
+abbrev pub SecondFails : DiskState → DiskState → ClockState → ClockState → SecondFault → Type 0
+SecondFails old new clock new_clock fault = SecondCause fault old.faults new.faults clock new_clock

@@ -12,6 +12,6 @@ pub use drafts::{
     next_second, none_equal, prior_of,
 };
 pub use parts::{
-    BackupFault, Begun, TakeOrder, backup_message, backup_status, begin, check_room, count_of,
-    finish, fit, label_line, of_make, of_plan, of_second, start_workers,
+    BackupFault, Begun, KnownStanza, TakeOrder, backup_message, backup_status, begin, check_room,
+    count_of, finish, fit, label_line, of_make, of_plan, of_second, start_workers,
 };

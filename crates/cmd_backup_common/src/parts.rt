@@ -25,7 +25,7 @@ mod worker_setup;
 pub use backup_begin::{Begun, begin};
 pub use fault::{BackupFault, of_make, of_plan, of_second};
 pub use making::{count_of, finish, label_line};
-pub use order::TakeOrder;
+pub use order::{KnownStanza, TakeOrder};
 pub use room_check::{check_room, fit};
 pub use texts::{backup_message, backup_status};
 pub use worker_setup::start_workers;

@@ -9,3 +9,5 @@ pub mod Making
 pub mod Taken
 pub mod Causes
 pub mod Held
+pub mod Basis
+pub mod Tasks

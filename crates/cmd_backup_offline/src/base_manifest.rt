@@ -1,12 +1,10 @@
 // The manifest of the backup that a further one is based on.
-ghost use Rattle.std.specs.Prelude.{◌≡◌, option_map, IfOk, IfErr, IfSome};
-ghost use Rattle.base_devices.specs.Cause.{Rises};
+ghost use Rattle.std.specs.Prelude.{◌≡◌, IfOk, IfErr, IfSome};
 ghost use Rattle.base_devices.specs.States.{OnlyReads};
 ghost use Rattle.base_model.specs.InfoFiles.{IsBackupInfo, IsLabel};
-ghost use Rattle.base_model.specs.Values.{backup_info_of, manifest_of};
-ghost use Rattle.cmd_types.specs.declared.stages.object.Object.TheVariants.{Repo as TheRepo};
-ghost use Rattle.cmd_types.specs.Halts.{HaltCause, Only};
-ghost use Rattle.cmd_backup_offline.specs.Basing.{base_label, ReadsBase, BaseCause};
+ghost use Rattle.base_model.specs.Values.{backup_info_of};
+ghost use Rattle.cmd_backup_offline.specs.Basing.{base_label};
+ghost use Rattle.cmd_backup_offline.specs.Basis.{BaseHalts, LoadsBase};
 
 use crate::fault::{OfflineFault, of_pair};
 use base_devices::Disk;
@@ -38,12 +36,9 @@ pub fn load_base<D: Disk>(
     list: &BackupInfo,
 ) -> Result<Option<Manifest>, Halt<OfflineFault>>
     requires { IsBackupInfo (backup_info_of list.now) }
-    ensures reads { IfOk result (λ m. ReadsBase stanza.now (D.state repo.old).view.now
-        (base_label kind (backup_info_of list.now)) (option_map manifest_of m)) }
+    ensures reads { IfOk result (LoadsBase stanza.now kind list.now (D.state repo.old)) }
     ensures looks { OnlyReads (D.state repo.old) (D.state repo.new) }
-    ensures cause { IfErr result (HaltCause
-        (BaseCause stanza.now (D.state repo.old).view.now (base_label kind (backup_info_of list.now)))
-        (Only TheRepo (Rises (D.state repo.old).faults (D.state repo.new).faults))) }
+    ensures cause { IfErr result (BaseHalts stanza.now kind list.now (D.state repo.old) (D.state repo.new)) }
 {
     let Some(label) = base_label(kind, list) else {
         return Ok(None);

@@ -1,16 +1,16 @@
 // Which files of the data folder are those of the prior backup, by their digests.
-ghost use Rattle.std.specs.Prelude.{◌≡◌, ◌<◌, ◌≤◌, ◌^◌, true, Some, map, length, vec_len, slice_get, string_bytes, option_map, IfOk, IfErr, OnOk};
+ghost use Rattle.std.specs.Prelude.{◌≡◌, ◌<◌, ◌≤◌, ◌^◌, true, map, length, vec_len, string_bytes, option_map, IfOk, IfErr, OnOk};
 ghost use Rattle.base_devices.specs.Order.{are_in_order};
 ghost use Rattle.base_model.specs.Values.{file_entry_of};
-ghost use Rattle.worker_protocol.specs.Frames.{Item};
 ghost use Rattle.worker_protocol.specs.Views.{job_of};
+ghost use Rattle.worker_pool.specs.Pools.{LeavesLinks, links_in};
 ghost use Rattle.worker_pool.specs.Run.{AreReady};
-ghost use Rattle.worker_pool.specs.Left.{IsLeft};
-ghost use Rattle.backup_plan.specs.Digests.{digest_jobs};
 ghost use Rattle.backup_plan.specs.Filter.{IsListing, paths_of, most_files};
-ghost use Rattle.backup_plan.specs.Views.{taken_of};
-ghost use Rattle.cmd_types.specs.Halts.{HaltCause};
-ghost use Rattle.cmd_backup_offline.specs.Equal.{begins_with, first_equal, next_mark, marks_of, AreMarked, EqualCause};
+ghost use Rattle.backup_plan.specs.Planned.{digests_for};
+ghost use Rattle.backup_plan.specs.Views.{taken_files, taken_folders, taken_of};
+ghost use Rattle.backup_make.specs.Storing.{IsPathAt};
+ghost use Rattle.cmd_backup_offline.specs.Basis.{EqualHalts, MarksFiles, marks_for};
+ghost use Rattle.cmd_backup_offline.specs.Equal.{begins_with, first_equal, next_mark};
 
 use backup_plan::{Listing, Taken, digests, find_entry};
 use base_devices::{Link, Scheduler};
@@ -18,7 +18,7 @@ use base_model::FileEntry;
 use cmd_backup_common::{BackupFault, count_of, none_equal};
 use cmd_types::Halt;
 use std::alloc::{AllocError, Global};
-use worker_pool::{DispatchFault, Lost, is_equal, run_digests};
+use worker_pool::{DispatchFault, Pool, is_equal, run_digests};
 use worker_protocol::{ItemEnd, Job};
 
 // The job's first item is the file.
@@ -69,10 +69,9 @@ fn marks_of(
 ) -> Result<Vec<bool>, AllocError>
     requires order { are_in_order (map (λ e. e.path) (map file_entry_of old.now)) ≡ true }
     requires files { are_in_order (paths_of (map taken_of files.now)) ≡ true }
-    requires jobs { map job_of jobs.now ≡ digest_jobs (map file_entry_of old.now) (map taken_of files.now) }
+    requires jobs { map job_of jobs.now ≡ digests_for old.now files.now }
     requires ends { length ends.now ≡ length jobs.now }
-    ensures { IfOk result (λ marks. marks.items
-        ≡ marks_of (map file_entry_of old.now) (map taken_of files.now) ends.now) }
+    ensures { IfOk result (λ marks. marks.items ≡ marks_for old.now files.now ends.now) }
 {
     let mut marks = Vec::new(alloc);
     let mut jobs_left = jobs;
@@ -93,8 +92,7 @@ fn marks_of(
 // The path of an item of a job.
 fn path_at(alloc: Global, job: &Job, item: u32) -> Result<String, AllocError>
     requires { item < vec_len job.now.items }
-    ensures { IfOk result (λ path. (i : Item) → slice_get (job_of job.now).items item ≡ Some i
-        → i.path ≡ string_bytes path) }
+    ensures { IfOk result (λ path. IsPathAt (job_of job.now) item (string_bytes path)) }
 {
     String::from_str(alloc, &job.items[item as usize].path)
 }
@@ -102,32 +100,25 @@ fn path_at(alloc: Global, job: &Job, item: u32) -> Result<String, AllocError>
 // Marks the files that are those of the prior backup, as workers report by these digest jobs.
 fn digest_files<L: Link, U: Scheduler>(
     alloc: Global,
-    links: &mut Vec<L>,
-    scheduler: &mut U,
-    lost: &mut Vec<Lost>,
+    pool: &mut Pool<L, U>,
     listing: &Listing,
     old: &[FileEntry],
     jobs: &[Job],
 ) -> Result<Vec<bool>, Halt<BackupFault>>
-    requires few { vec_len links.old < 2 ^ 32 }
-    requires ready { AreReady (map L.link_state links.old.items) }
-    requires listing { IsListing (map taken_of listing.now.files.items) (map string_bytes listing.now.folders.items) }
-    requires few_files { length (map taken_of listing.now.files.items) ≤ most_files }
+    requires few { vec_len pool.old.links < 2 ^ 32 }
+    requires ready { AreReady (links_in L.link_state pool.old) }
+    requires listing { IsListing (taken_files listing.now) (taken_folders listing.now) }
+    requires few_files { length (taken_files listing.now) ≤ most_files }
     requires order { are_in_order (map (λ e. e.path) (map file_entry_of old.now)) ≡ true }
-    requires jobs { map job_of jobs.now
-        ≡ digest_jobs (map file_entry_of old.now) (map taken_of listing.now.files.items) }
-    ensures marked { IfOk result (λ equal. AreMarked (map L.link_state links.old.items) (map file_entry_of old.now)
-        (map taken_of listing.now.files.items) equal.items) }
-    ensures left { OnOk result
-        (IsLeft (map L.link_state links.old.items) (map L.link_state links.new.items) lost.old.items lost.new.items) }
-    ensures cause { IfErr result (HaltCause
-        (EqualCause (map L.link_state links.old.items) lost.old.items (map file_entry_of old.now)
-        (map taken_of listing.now.files.items)) (λ _. ⊥)) }
+    requires jobs { map job_of jobs.now ≡ digests_for old.now listing.now.files.items }
+    ensures marked { IfOk result (MarksFiles L.link_state pool.old old.now listing.now) }
+    ensures left { OnOk result (LeavesLinks L.link_state pool.old pool.new) }
+    ensures cause { IfErr result (EqualHalts L.link_state pool.old old.now listing.now) }
 {
-    match run_digests(alloc, jobs, links, scheduler, lost) {
+    match run_digests(alloc, jobs, pool) {
         Ok(ends) => Ok(marks_of(alloc, &listing.files, old, jobs, &ends)?),
         Err(DispatchFault::WorkersLost) => {
-            let lost = count_of(lost);
+            let lost = count_of(&pool.lost);
             Err(Halt::Refused(BackupFault::WorkersLost { lost }))
         }
         Err(DispatchFault::Unread { job, item }) => {
@@ -143,35 +134,28 @@ fn digest_files<L: Link, U: Scheduler>(
 /// which workers report the entry's digest. Without delta none is digested.
 pub fn find_equal<L: Link, U: Scheduler>(
     alloc: Global,
-    links: &mut Vec<L>,
-    scheduler: &mut U,
-    lost: &mut Vec<Lost>,
+    pool: &mut Pool<L, U>,
     delta: bool,
     listing: &Listing,
     old: &[FileEntry],
 ) -> Result<Vec<bool>, Halt<BackupFault>>
-    requires few { vec_len links.old < 2 ^ 32 }
-    requires ready { AreReady (map L.link_state links.old.items) }
-    requires listing { IsListing (map taken_of listing.now.files.items) (map string_bytes listing.now.folders.items) }
-    requires few_files { length (map taken_of listing.now.files.items) ≤ most_files }
+    requires few { vec_len pool.old.links < 2 ^ 32 }
+    requires ready { AreReady (links_in L.link_state pool.old) }
+    requires listing { IsListing (taken_files listing.now) (taken_folders listing.now) }
+    requires few_files { length (taken_files listing.now) ≤ most_files }
     requires order { are_in_order (map (λ e. e.path) (map file_entry_of old.now)) ≡ true }
     ensures same { IfOk result (λ equal. length equal.items ≡ length listing.now.files.items) }
     // A mark says that a link reported the digest of the file's entry. Without one the file's digest wasn't asked for,
     // or another was reported.
-    ensures marked { delta ≡ true → IfOk result
-        (λ equal. AreMarked (map L.link_state links.old.items) (map file_entry_of old.now)
-        (map taken_of listing.now.files.items) equal.items) }
-    ensures left { OnOk result
-        (IsLeft (map L.link_state links.old.items) (map L.link_state links.new.items) lost.old.items lost.new.items) }
-    ensures few { OnOk result (vec_len links.new < 2 ^ 32) }
-    ensures ready { OnOk result (AreReady (map L.link_state links.new.items)) }
-    ensures cause { IfErr result (HaltCause
-        (EqualCause (map L.link_state links.old.items) lost.old.items (map file_entry_of old.now)
-        (map taken_of listing.now.files.items)) (λ _. ⊥)) }
+    ensures marked { delta ≡ true → IfOk result (MarksFiles L.link_state pool.old old.now listing.now) }
+    ensures left { OnOk result (LeavesLinks L.link_state pool.old pool.new) }
+    ensures few { OnOk result (vec_len pool.new.links < 2 ^ 32) }
+    ensures ready { OnOk result (AreReady (links_in L.link_state pool.new)) }
+    ensures cause { IfErr result (EqualHalts L.link_state pool.old old.now listing.now) }
 {
     if delta {
         let jobs = digests(alloc, &listing.files, old)?;
-        return digest_files(alloc, links, scheduler, lost, listing, old, &jobs);
+        return digest_files(alloc, pool, listing, old, &jobs);
     }
     Ok(none_equal(alloc, &listing.files)?)
 }

@@ -39,5 +39,5 @@ pub use base_manifest::load_base;
 pub use equal::find_equal;
 pub use fault::{OfflineFault, of_backup};
 pub use offline_draft::{draft_listed, draft_offline};
-pub use order::OfflineOrder;
+pub use order::{BackupBasis, OfflineOrder, OfflineTask};
 pub use texts::{offline_message, offline_status};

@@ -9,3 +9,6 @@ pub mod Doing
 pub mod Taken
 pub mod Causes
 pub mod Texts
+pub mod Tasks
+pub mod Running
+pub mod Halting

@@ -1,21 +1,16 @@
 // Lists a backup that the server stopped, once the log that it needs is archived.
-ghost use Rattle.std.specs.Prelude.{◌≡◌, ◌≤◌, ℕ, Some, None, List, IfOk, IfErr, IfSome, IsSome, OnOk, is_ok, string_bytes};
-ghost use Rattle.base_devices.specs.Cause.{Rises};
-ghost use Rattle.base_devices.specs.Links.{LinkState};
+ghost use Rattle.std.specs.Prelude.{◌≡◌, ◌≤◌, Some, IfOk, IfErr, IfSome, OnOk};
 ghost use Rattle.base_devices.specs.States.{CallsProperly};
 ghost use Rattle.base_model.specs.InfoFiles.{IsLabel};
 ghost use Rattle.base_model.specs.ManifestText.{IsWalPart};
-ghost use Rattle.base_crash_lists.specs.Beside.{StaysBeside};
-ghost use Rattle.repo_stanza.specs.Pairs.{AgreeAt};
-ghost use Rattle.backup_make.specs.Draft.{IsFree, main_of};
+ghost use Rattle.backup_make.specs.Closing.{StagesLabel};
+ghost use Rattle.backup_make.specs.Draft.{IsFree};
 ghost use Rattle.backup_make.specs.Made.{LeavesList};
 ghost use Rattle.backup_make.specs.Online.{IsOnline, online_of};
-ghost use Rattle.backup_make.specs.Staged.{IsClosed, IsClosedOf, IsFetched, IsStaged, closed_draft, closed_ends, closed_online, fetched_draft, fetched_ends};
+ghost use Rattle.backup_make.specs.Staged.{IsClosed, IsClosedOf, IsFetched, closed_draft, fetched_draft};
 ghost use Rattle.archive_wait.specs.Stored.{HoldsPart};
-ghost use Rattle.archive_wait.specs.TurnsDone.{Counts, TurnsDone};
-ghost use Rattle.cmd_types.specs.Halts.{HaltCause, Never};
-ghost use Rattle.cmd_types.specs.Risen.{none, rose_in};
-ghost use Rattle.cmd_backup_online.specs.Finishing.{OfTake, PublishCause, Publishes, VainCause};
+ghost use Rattle.cmd_backup_online.specs.Halting.{EndHalts, PublishHalts, WaitHalts};
+ghost use Rattle.cmd_backup_online.specs.Running.{KeepsBeside, PublishesAlike, PublishesWith, TurnsWithin, WentOn};
 
 use crate::fault::{OnlineBackupFault, of_backup, of_wait};
 use archive_lookup::OtherProcesses;
@@ -43,20 +38,13 @@ pub(crate) fn end_backup<'a, D: Disk, C: Clock>(
     requires label { IsLabel label.now }
     ensures closed { IfOk result IsClosed }
     ensures of { IfOk result (IsClosedOf fetched.entry (Some (online_of online))) }
-    ensures staged { OnOk result ((links : List LinkState)
-        → IsStaged (fetched_draft fetched.entry) None links (fetched_ends fetched.entry) (D.state repo.old).view
-        → IsStaged (fetched_draft fetched.entry) (Some (online_of online)) links (fetched_ends fetched.entry)
-        (D.state repo.new).view) }
+    ensures staged { OnOk result (StagesLabel fetched.entry (online_of online) (D.state repo.old) (D.state repo.new)) }
     ensures unlisted { LeavesList (fetched_draft fetched.entry) (D.state repo.old).view (D.state repo.new).view }
-    ensures beside { StaysBeside (fetched_draft fetched.entry).stanza.now (D.state repo.old).view
-        (D.state repo.new).view }
+    ensures beside { KeepsBeside (fetched_draft fetched.entry).stanza.now (D.state repo.old) (D.state repo.new) }
     ensures frame { CallsProperly (D.state repo.old) (D.state repo.new) }
     ensures least { (C.state clock.old).least ≤ (C.state clock.new).least }
     ensures later { (C.state clock.old).faults ≤ (C.state clock.new).faults }
-    ensures cause { IfErr result (HaltCause Never (rose_in (record none {
-      repo = Rises (D.state repo.old).faults (D.state repo.new).faults;
-      clock = Rises (C.state clock.old).faults (C.state clock.new).faults;
-    }))) }
+    ensures cause { IfErr result (EndHalts D.state repo.old repo.new C.state clock.old clock.new) }
 {
     match close_online(alloc, repo, clock, fetched, online) {
         Ok(closed) => Ok(closed),
@@ -64,35 +52,36 @@ pub(crate) fn end_backup<'a, D: Disk, C: Clock>(
     }
 }
 
-/// Waits until each segment of the part is archived, for this many steps of other processes at most.
+/// The part of the log that a backup needs, and for how many steps of other processes it is waited at most.
+#[derive(Clone, Copy)]
+pub(crate) struct NeededLog {
+    pub(crate) id: ArchiveId,
+    pub(crate) wal: WalPart,
+    pub(crate) most: u64,
+}
+
+/// Waits until each segment of the part of the log is archived.
 pub(crate) fn wait<D: Disk, S: Disk, A: OtherProcesses<D, S>>(
     alloc: Global,
     repo: &mut D,
     spool: &mut S,
-    processes: &mut A,
+    others: &mut A,
     stanza: &str,
-    id: &ArchiveId,
-    wal: &WalPart,
-    most: u64,
+    log: &NeededLog,
 ) -> Result<(), Halt<OnlineBackupFault>>
-    requires { IsWalPart wal.now }
-    ensures archived { OnOk result (IfSome (D.state repo.new).view.now (HoldsPart stanza.now id.now wal.now)) }
-    ensures went { IfSome (A.state processes.new).account (λ a. TurnsDone (is_ok result) (A.state processes.old).account
-        a
-        (D.state repo.old).view (D.state repo.new).view (S.state spool.old).view (S.state spool.new).view) }
+    requires { IsWalPart log.now.wal }
+    ensures archived { OnOk result (IfSome (D.state repo.new).view.now (HoldsPart stanza.now log.now.id log.now.wal)) }
+    ensures went { WentOn result A.state others.old others.new D.state repo.old repo.new S.state spool.old spool.new }
     ensures repo_frame { CallsProperly (D.state repo.old) (D.state repo.new) }
     ensures spool_frame { CallsProperly (S.state spool.old) (S.state spool.new) }
-    ensures started { (A.state processes.new).started ≡ (A.state processes.old).started }
-    ensures few { (n : ℕ) × (n ≤ most) × Counts n (A.state processes.old).turns (A.state processes.new).turns }
-    ensures later { (A.state processes.old).faults ≤ (A.state processes.new).faults }
-    ensures cause { IfErr result (HaltCause (VainCause stanza.now id.now wal.now most (D.state repo.new).view.now
-        (A.state processes.old).turns (A.state processes.new).turns)
-        (rose_in (record none {
-          repo = Rises (D.state repo.old).faults (D.state repo.new).faults;
-          spool = Rises (S.state spool.old).faults (S.state spool.new).faults;
-        }))) }
+    ensures started { (A.state others.new).started ≡ (A.state others.old).started }
+    ensures few { TurnsWithin log.now.most (A.state others.old) (A.state others.new) }
+    ensures later { (A.state others.old).faults ≤ (A.state others.new).faults }
+    ensures cause { IfErr result (WaitHalts stanza.now log.now A.state others.old others.new D.state repo.old repo.new
+        S.state spool.old spool.new) }
 {
-    match await_segments(alloc, repo, spool, processes, stanza, id, wal, most) {
+    let NeededLog { id, wal, most } = *log;
+    match await_segments(alloc, repo, spool, others, stanza, &id, &wal, most) {
         Ok(()) => Ok(()),
         Err(fault) => Err(of_wait(fault)),
     }
@@ -111,17 +100,11 @@ pub(crate) fn conclude<D: Disk>(
     requires stanza { (closed_draft closed).stanza.now ≡ stanza.now }
     requires label { IsLabel label.now }
     requires label_is { label.now ≡ (closed_draft closed).label }
-    ensures publishes { Publishes (string_bytes lines) (closed_draft closed.entry) (closed_online closed.entry)
-        (closed_ends closed.entry)
-        (D.state repo.old).view (D.state repo.new).view result }
-    ensures alike { OnOk result (IsSome (D.state repo.old).view.now
-        → IfSome (D.state repo.new).view.now (AgreeAt (main_of (closed_draft closed.entry)))) }
-    ensures beside { StaysBeside (closed_draft closed.entry).stanza.now (D.state repo.old).view
-        (D.state repo.new).view }
+    ensures publishes { PublishesWith lines closed.entry (D.state repo.old) (D.state repo.new) result }
+    ensures alike { OnOk result (PublishesAlike closed.entry (D.state repo.old) (D.state repo.new)) }
+    ensures beside { KeepsBeside (closed_draft closed.entry).stanza.now (D.state repo.old) (D.state repo.new) }
     ensures frame { CallsProperly (D.state repo.old) (D.state repo.new) }
-    ensures cause { IfErr result (HaltCause
-        (OfTake (PublishCause (closed_draft closed.entry) (closed_online closed.entry) (closed_ends closed.entry)))
-        (rose_in (record none { repo = Rises (D.state repo.old).faults (D.state repo.new).faults }))) }
+    ensures cause { IfErr result (PublishHalts closed.entry (D.state repo.old) (D.state repo.new)) }
 {
     match publish(alloc, repo, closed) {
         Ok(()) => Ok(Outcome::Finished { lines }),

@@ -48,5 +48,5 @@ mod texts;
 
 pub use fault::OnlineBackupFault;
 pub use online_backup::back_up_online;
-pub use order::OnlineOrder;
+pub use order::{OnlineOrder, OnlineTask};
 pub use texts::{online_backup_message, online_backup_status};

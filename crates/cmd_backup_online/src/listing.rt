@@ -1,11 +1,9 @@
 // Lists the data folder, while its server runs.
-ghost use Rattle.std.specs.Prelude.{◌≤◌, ◌<◌, map, IfOk, IfErr, IfSome, OnOk};
-ghost use Rattle.base_devices.specs.Cause.{HasCause, Rises};
+ghost use Rattle.std.specs.Prelude.{◌≤◌, ◌<◌, IfOk, IfErr, OnOk};
+ghost use Rattle.base_devices.specs.Cause.{HasCause};
 ghost use Rattle.base_devices.specs.States.{OnlyReadsFolder};
-ghost use Rattle.base_devices.specs.DataFolder.{IsTreeListing};
-ghost use Rattle.backup_plan.specs.Views.{seen_of};
-ghost use Rattle.cmd_types.specs.Halts.{HaltCause, Never};
-ghost use Rattle.cmd_types.specs.Risen.{none, rose_in};
+ghost use Rattle.cmd_backup_common.specs.Halting.{ListsAll};
+ghost use Rattle.cmd_backup_online.specs.Halting.{ListHalts};
 
 use base_devices::{Clock, DataFolder, DeviceError, FolderEntry};
 use cmd_backup_common::BackupFault;
@@ -29,16 +27,12 @@ pub(crate) fn list_folder<T: DataFolder, C: Clock>(
     tree: &mut T,
     clock: &mut C,
 ) -> Result<Vec<FolderEntry>, Halt<BackupFault>>
-    ensures listing { IfOk result (λ seen. IfSome (T.state tree.old).nodes
-        (λ f. IsTreeListing f (map seen_of seen.items))) }
+    ensures listing { IfOk result (λ seen. ListsAll (T.state tree.old) seen.items) }
     ensures past { OnOk result ((C.state clock.old).least < (C.state clock.new).least) }
     ensures least { (C.state clock.old).least ≤ (C.state clock.new).least }
     ensures looks { OnlyReadsFolder (T.state tree.old) (T.state tree.new) }
     ensures later { (C.state clock.old).faults ≤ (C.state clock.new).faults }
-    ensures cause { IfErr result (HaltCause Never (rose_in (record none {
-      tree = Rises (T.state tree.old).faults (T.state tree.new).faults;
-      clock = Rises (C.state clock.old).faults (C.state clock.new).faults;
-    }))) }
+    ensures cause { IfErr result (ListHalts T.state tree.old tree.new C.state clock.old clock.new) }
 {
     let seen = match tree.list(alloc) {
         Ok(seen) => seen,

@@ -1,37 +1,26 @@
 // backup of a running server.
-ghost use Rattle.std.specs.Prelude.{◌≡◌, ◌∷◌, ◌++◌, ◌⊎◌, [], ◌≤◌, ◌<◌, ◌^◌, ℕ, map, take, vec_len, option_map, IfOk, IfErr, IfSome, OnOk};
-ghost use Rattle.base_devices.specs.Cause.{Rises};
+ghost use Rattle.std.specs.Prelude.{◌≡◌, ◌∷◌, [], ◌≤◌, ◌<◌, ◌^◌, vec_len, IfOk, IfErr, OnOk};
 ghost use Rattle.base_devices.specs.States.{CallsProperly, OnlyReadsFolder};
-ghost use Rattle.base_crash_lists.specs.Beside.{StaysBeside};
+ghost use Rattle.worker_pool.specs.Pools.{links_in};
 ghost use Rattle.worker_pool.specs.Run.{AreReady};
-ghost use Rattle.server_talk.specs.Telling.{starting, stopping};
-ghost use Rattle.archive_wait.specs.TurnsDone.{Counts};
-ghost use Rattle.cmd_types.specs.declared.stages.halt.Halt.{Halt};
-ghost use Rattle.cmd_types.specs.Halts.{HaltCause};
 ghost use Rattle.cmd_types.specs.Plans.{backup_lock};
-ghost use Rattle.cmd_types.specs.Reached.{OnFinished, reached_by};
-ghost use Rattle.cmd_types.specs.Risen.{none, rose_in};
 ghost use Rattle.cmd_setup.specs.Readies.{IsArchiveOf, IsBackupOf};
-ghost use Rattle.cmd_backup_offline.specs.declared.fault.OfflineFault.{OfflineFault};
-ghost use Rattle.cmd_backup_online.specs.Causes.{OnlineCause};
-ghost use Rattle.cmd_backup_online.specs.Doing.{DoesOnline, MarksOnline};
-ghost use Rattle.cmd_backup_online.specs.Faults.{of_offline, online_early};
-ghost use Rattle.cmd_backup_online.specs.Taken.{BacksUpOnline};
-ghost use Rattle.cmd_backup_online.specs.Talking.{EndsTalk};
+ghost use Rattle.cmd_backup_online.specs.Halting.{OnlineHalts};
+ghost use Rattle.cmd_backup_online.specs.Running.{KeepsStanza, LeavesServer, SendsTalk, TurnsWithin};
+ghost use Rattle.cmd_backup_online.specs.Tasks.{DoesTask, MarksTask, TakesTask};
 
-use crate::backup_finish::{conclude, end_backup, wait};
+use crate::backup_finish::{NeededLog, conclude, end_backup, wait};
 use crate::fault::{OnlineBackupFault, of_offline};
 use crate::online_checks::{Prepared, prepare};
 use crate::online_read::Gathered;
-use crate::order::OnlineOrder;
+use crate::order::{OnlineTask, ServerTask};
 use crate::server_session::talk;
 use archive_lookup::OtherProcesses;
 use base_devices::{Clock, DataFolder, Disk, Link, Locks, Scheduler, ServerConnection};
-use base_model::{ArchiveInfo, BackupInfo};
-use cmd_backup_offline::files_of;
+use cmd_backup_offline::{BackupBasis, files_of};
 use cmd_types::{Halt, Outcome};
-use repo_stanza::Control;
 use std::alloc::Global;
+use worker_pool::Pool;
 
 /// Makes a backup of the data folder of a running server, and lists it as the stanza's last. It is of the kind that is
 /// asked for, and a full one where there is no backup on which it could be based. The first links read the folder, as
@@ -56,147 +45,80 @@ pub fn back_up_online<
     processes: &mut A,
     clock: &mut C,
     _locks: &K,
-    links: &mut Vec<L>,
-    turns: &mut U,
-    stanza: &str,
-    order: OnlineOrder<'_>,
-    known: &Control,
-    archive: &ArchiveInfo,
-    backup: BackupInfo,
+    pool: &mut Pool<L, U>,
+    task: OnlineTask<'_>,
 ) -> Result<Outcome, Halt<OnlineBackupFault>>
-    requires locked { (K.state _locks.now).taken ≡ backup_lock stanza.now ∷ [] }
-    requires few { vec_len links.old < 2 ^ 32 }
-    requires ready { AreReady (map L.link_state links.old.items) }
-    requires archive { IsArchiveOf stanza.now (D.state repo.old).view.now archive.now }
-    requires backup { IsBackupOf stanza.now (D.state repo.old).view.now backup }
+    requires locked { (K.state _locks.now).taken ≡ backup_lock task.stanza.name.now ∷ [] }
+    requires few { vec_len pool.old.links < 2 ^ 32 }
+    requires ready { AreReady (links_in L.link_state pool.old) }
+    requires archive { IsArchiveOf task.stanza.name.now (D.state repo.old).view.now task.stanza.archive.now }
+    requires backup { IsBackupOf task.stanza.name.now (D.state repo.old).view.now task.stanza.backup }
 
     // In the log it is a backup of what the used links read, and, unless it is a full one, of what its prior has,
     // after the steps of others that it waited for.
-    ensures does { DoesOnline stanza.now order.entry.later.kind
-        (take order.entry.later.take.workers (map L.link_state links.old.items))
-        (record {
-          system = known.now.system;
-          pending = (V.state server.old).pending;
-          left = (V.state server.new).pending;
-        })
-        (reached_by online_early result) (A.state processes.old).account (A.state processes.new).account
-        (D.state repo.old).view (D.state repo.new).view }
-    ensures marks { MarksOnline stanza.now (reached_by online_early result)
-        (A.state processes.old).account (A.state processes.new).account
-        (D.state repo.old).view (S.state spool.old).view (S.state spool.new).view }
-    ensures taken { IfOk result (λ outcome. OnFinished outcome
-        (BacksUpOnline stanza.now known.now order.entry.later (T.state tree.old).nodes
-        (record {
-          system = known.now.system;
-          pending = (V.state server.old).pending;
-          left = (V.state server.new).pending;
-        })
-        (take order.entry.later.take.workers (map L.link_state links.old.items))
-        (A.state processes.old).account (A.state processes.new).account
-        (D.state repo.old).view.now (D.state repo.new).view.now)) }
-    ensures beside { IfSome (A.state processes.new).account (λ a. a.stanza ≡ stanza.now
-        → StaysBeside stanza.now (D.state repo.old).view (D.state repo.new).view) }
-    ensures spool_beside { IfSome (A.state processes.new).account (λ a. a.stanza ≡ stanza.now
-        → StaysBeside stanza.now (S.state spool.old).view (S.state spool.new).view) }
+    ensures does { DoesTask task.entry L.link_state pool.old result V.state server.old server.new
+        A.state processes.old processes.new D.state repo.old repo.new }
+    ensures marks { MarksTask task.entry result A.state processes.old processes.new
+        (D.state repo.old) S.state spool.old spool.new }
+    ensures taken { IfOk result (TakesTask task.entry L.link_state pool.old (T.state tree.old)
+        V.state server.old server.new A.state processes.old processes.new D.state repo.old repo.new) }
+    ensures beside { KeepsStanza task.entry.stanza.name.now (A.state processes.new) D.state repo.old repo.new }
+    ensures spool_beside { KeepsStanza task.entry.stanza.name.now (A.state processes.new) S.state spool.old spool.new }
 
     // The talk with the server is ended, where it began: what is refused before is refused as any backup may be.
-    ensures sent { OnOk result ((V.state server.new).sent ≡ option_map
-        (λ sent. sent ++ starting order.entry.user.now order.entry.database.now order.entry.fast ++ stopping)
-        (V.state server.old).sent) }
-    ensures place { OnOk result ((V.state server.new).place ≡ order.entry.socket.now) }
-    ensures ended { IfErr result (λ halt.
-        ((V.state server.new ≡ V.state server.old) × ((before : Halt OfflineFault) × (halt ≡ of_offline before)))
-        ⊎ EndsTalk (Rises (V.state server.old).faults (V.state server.new).faults) (V.state server.new).sent halt) }
+    ensures sent { OnOk result (SendsTalk task.entry.order (V.state server.old) (V.state server.new)) }
+    ensures place { OnOk result ((V.state server.new).place ≡ task.entry.order.socket.now) }
+    ensures ended { IfErr result (LeavesServer (V.state server.old) (V.state server.new)) }
 
     ensures frame { CallsProperly (D.state repo.old) (D.state repo.new) }
     ensures spool_frame { CallsProperly (S.state spool.old) (S.state spool.new) }
     ensures looks { OnlyReadsFolder (T.state tree.old) (T.state tree.new) }
     ensures started { (A.state processes.new).started ≡ (A.state processes.old).started }
-    ensures few { (n : ℕ) × (n ≤ order.entry.archive_timeout)
-        × Counts n (A.state processes.old).turns (A.state processes.new).turns }
+    ensures few { TurnsWithin task.entry.order.archive_timeout (A.state processes.old) (A.state processes.new) }
     ensures server_later { (V.state server.old).faults ≤ (V.state server.new).faults }
     ensures processes_later { (A.state processes.old).faults ≤ (A.state processes.new).faults }
     ensures least { (C.state clock.old).least ≤ (C.state clock.new).least }
     ensures later { (C.state clock.old).faults ≤ (C.state clock.new).faults }
-    ensures cause { IfErr result (HaltCause
-        (OnlineCause (record {
-          before = record {
-            stanza = stanza.now;
-            known = known.now;
-            repo = (D.state repo.old).view.now;
-            nodes = (T.state tree.old).nodes;
-            least = (C.state clock.old).least;
-            used = take order.entry.later.take.workers (map L.link_state links.old.items);
-          };
-          kind = order.entry.later.kind;
-          received_reply = record {
-            system = known.now.system;
-            pending = (V.state server.old).pending;
-            left = (V.state server.new).pending;
-          };
-          most = order.entry.archive_timeout;
-          turns = (A.state processes.old).turns;
-          turned = (A.state processes.new).turns;
-          now = (D.state repo.new).view.now;
-        }))
-        (rose_in (record none {
-          repo = Rises (D.state repo.old).faults (D.state repo.new).faults;
-          spool = Rises (S.state spool.old).faults (S.state spool.new).faults;
-          tree = Rises (T.state tree.old).faults (T.state tree.new).faults;
-          server = Rises (V.state server.old).faults (V.state server.new).faults;
-          clock = Rises (C.state clock.old).faults (C.state clock.new).faults;
-        }))) }
+    ensures cause { IfErr result (OnlineHalts task.entry L.link_state pool.old A.state processes.old processes.new
+        D.state repo.old repo.new S.state spool.old spool.new T.state tree.old tree.new
+        V.state server.old server.new C.state clock.old clock.new) }
 {
-    let mut lost = Vec::new(alloc);
-    let Prepared { list, base, second } = match prepare(
-        alloc,
-        repo,
-        clock,
-        links,
-        &mut lost,
-        stanza,
-        &order.later,
-        known,
-        archive,
-        backup,
-    ) {
+    let OnlineTask {
+        order,
+        stanza: known,
+    } = task;
+    let stanza = known.name;
+    let system = known.control.system;
+    let prepared = match prepare(alloc, repo, clock, pool, &order.later, known) {
         Ok(prepared) => prepared,
         Err(halt) => return Err(of_offline(halt)),
     };
+    let Prepared { next, base } = prepared;
     let old = files_of(&base);
-    let (gathered, online) = talk(
-        alloc,
-        repo,
-        tree,
-        server,
-        clock,
-        links,
-        turns,
-        &mut lost,
+    let basis = BackupBasis {
         stanza,
-        &order,
-        known.system,
-        second,
+        order: order.later,
         old,
-        list,
-    )?;
+    };
+    let asked = ServerTask {
+        order,
+        system,
+        basis,
+        next,
+    };
+    let (gathered, online) = talk(alloc, repo, tree, server, clock, pool, asked)?;
     let Gathered {
         fetched,
         label,
         id,
         lines,
     } = gathered;
-    let wal = online.wal;
+    let needed = NeededLog {
+        id,
+        wal: online.wal,
+        most: order.archive_timeout,
+    };
     let closed = end_backup(alloc, repo, clock, stanza, &label, fetched, online)?;
-    wait(
-        alloc,
-        repo,
-        spool,
-        processes,
-        stanza,
-        &id,
-        &wal,
-        order.archive_timeout,
-    )?;
+    wait(alloc, repo, spool, processes, stanza, &needed)?;
     conclude(alloc, repo, stanza, &label, lines, closed)
 }

@@ -1,38 +1,30 @@
 // Asks the server to start and to stop its backup, and reads the data folder between them.
-ghost use Rattle.std.specs.Prelude.{◌≡◌, ◌≢◌, ◌⊎◌, ◌≤◌, ◌<◌, ◌^◌, ◌++◌, map, vec_len, string_bytes, length, option_map, IfOk, IfErr, OnOk, OnErr};
-ghost use Rattle.base_devices.specs.Cause.{Rises};
+ghost use Rattle.std.specs.Prelude.{◌≡◌, ◌⊎◌, ◌≤◌, ◌<◌, ◌^◌, vec_len, string_bytes, IfOk, IfErr, OnOk, OnErr};
 ghost use Rattle.base_devices.specs.States.{CallsProperly, OnlyReadsFolder};
 ghost use Rattle.base_model.specs.InfoFiles.{IsBackupInfo};
 ghost use Rattle.base_model.specs.ManifestText.{IsSegSize, IsWalPart};
-ghost use Rattle.base_model.specs.Values.{backup_info_of, file_entry_of};
+ghost use Rattle.base_model.specs.Values.{backup_info_of};
+ghost use Rattle.worker_pool.specs.Pools.{links_in};
 ghost use Rattle.worker_pool.specs.Run.{AreReady};
 ghost use Rattle.base_crash_lists.specs.Beside.{StaysBeside};
 ghost use Rattle.backup_make.specs.Online.{IsOnline, online_of};
 ghost use Rattle.cmd_backup_common.specs.Seconds.{IsNext};
-ghost use Rattle.server_talk.specs.Causes.{StopCause};
-ghost use Rattle.server_talk.specs.Telling.{starting, stopping};
 ghost use Rattle.cmd_types.specs.declared.stages.halt.Halt.TheVariants.{NoMemory as OutOfMemory};
-ghost use Rattle.cmd_types.specs.declared.stages.object.Object.TheVariants.{Server as TheServer};
-ghost use Rattle.cmd_types.specs.Halts.{HaltCause, Only};
-ghost use Rattle.cmd_types.specs.Risen.{none, rose_in};
-ghost use Rattle.cmd_backup_offline.specs.Basing.{base_in};
-ghost use Rattle.cmd_backup_offline.specs.Drafting.{MayBase};
+ghost use Rattle.cmd_backup_offline.specs.Basis.{MayBeBasis};
 ghost use Rattle.cmd_backup_online.specs.Faults.{of_backup};
-ghost use Rattle.cmd_backup_online.specs.Gathering.{IsGathered, GivesUp};
-ghost use Rattle.cmd_backup_online.specs.Talking.{EndsTalk, SpokenCause};
-ghost use Rattle.cmd_backup_online.specs.Modelled.{OfTalk, StopsWith, ShowsOnline};
+ghost use Rattle.cmd_backup_online.specs.Halting.{StopHalts, TalkHalts};
+ghost use Rattle.cmd_backup_online.specs.Running.{LeavesTalk, Reports, SendsStop, SendsTalk, StopsBetween, TalkGathers, TalkGivesUp};
 
 use crate::fault::{OnlineBackupFault, of_backup, of_talk};
 use crate::online_read::{Gathered, gather};
-use crate::order::OnlineOrder;
+use crate::order::ServerTask;
 use backup_make::Online;
 use base_devices::{Clock, DataFolder, Disk, Link, Scheduler, ServerConnection};
-use base_model::{BackupInfo, FileEntry};
 use cmd_backup_common::BackupFault;
 use cmd_types::Halt;
 use server_talk::{Begun, Finished, abandon, start, stop};
 use std::alloc::Global;
-use worker_pool::Lost;
+use worker_pool::Pool;
 
 // Aborts the server's backup after this error: the talk is ended, and the server drops the backup.
 fn give_up<V: ServerConnection>(
@@ -41,8 +33,7 @@ fn give_up<V: ServerConnection>(
     halt: Halt<BackupFault>,
 ) -> Halt<OnlineBackupFault>
     ensures halt { (result ≡ of_backup halt) ⊎ (result ≡ OutOfMemory) }
-    ensures ended { EndsTalk (Rises (V.state server.old).faults (V.state server.new).faults)
-        (V.state server.new).sent result }
+    ensures ended { LeavesTalk (V.state server.old) (V.state server.new) result }
     ensures later { (V.state server.old).faults ≤ (V.state server.new).faults }
 {
     match abandon(server, begun) {
@@ -76,17 +67,12 @@ fn end_talk<V: ServerConnection>(
 ) -> Result<Online, Halt<OnlineBackupFault>>
     requires { IsSegSize begun.size.0 }
     ensures online { IfOk result (λ o. IsOnline (online_of o)) }
-    ensures stopped { IfOk result (λ o. StopsWith begun (V.state server.old).pending (V.state server.new).pending
-        (online_of o)) }
-    ensures sent { OnOk result ((V.state server.new).sent ≡ option_map (λ sent. sent ++ stopping)
-        (V.state server.old).sent) }
+    ensures stopped { IfOk result (StopsBetween begun (V.state server.old) (V.state server.new)) }
+    ensures sent { OnOk result (SendsStop (V.state server.old) (V.state server.new)) }
     ensures place { (V.state server.new).place ≡ (V.state server.old).place }
-    ensures ended { IfErr result (EndsTalk (Rises (V.state server.old).faults (V.state server.new).faults)
-        (V.state server.new).sent) }
+    ensures ended { IfErr result (LeavesTalk (V.state server.old) (V.state server.new)) }
     ensures later { (V.state server.old).faults ≤ (V.state server.new).faults }
-    ensures cause { IfErr result (HaltCause
-        (OfTalk (StopCause begun (V.state server.old).pending (V.state server.new).pending ⊥))
-        (Only TheServer (Rises (V.state server.old).faults (V.state server.new).faults))) }
+    ensures cause { IfErr result (StopHalts begun (V.state server.old) (V.state server.new)) }
 {
     match stop(alloc, server, begun) {
         Ok(finished) => online_of(finished),
@@ -110,54 +96,37 @@ pub(crate) fn talk<
     tree: &mut T,
     server: &mut V,
     clock: &mut C,
-    links: &mut Vec<L>,
-    turns: &mut U,
-    lost: &mut Vec<Lost>,
-    stanza: &'a str,
-    order: &OnlineOrder<'_>,
-    system: u64,
-    second: u64,
-    old: &'a [FileEntry],
-    list: BackupInfo,
+    pool: &mut Pool<L, U>,
+    task: ServerTask<'a>,
 ) -> Result<(Gathered<'a>, Online), Halt<OnlineBackupFault>>
-    requires list { IsBackupInfo (backup_info_of list) }
-    requires next { IsNext second (backup_info_of list) }
-    requires old { MayBase (base_in order.now.later.kind (backup_info_of list)) (map file_entry_of old.now) }
-    requires few { vec_len links.old < 2 ^ 32 }
-    requires ready { AreReady (map L.link_state links.old.items) }
-    ensures gathered { IfOk result (λ p. IsGathered stanza.entry.now order.now.later (T.state tree.old).nodes
-        (backup_info_of list) (map file_entry_of old.now) (map L.link_state links.old.items) lost.old.items
-        (D.state repo.old).view (D.state repo.new).view p.0) }
+    requires list { IsBackupInfo (backup_info_of task.next.list) }
+    requires next { IsNext task.next.second (backup_info_of task.next.list) }
+    requires old { MayBeBasis task.basis task.next.list }
+    requires few { vec_len pool.old.links < 2 ^ 32 }
+    requires ready { AreReady (links_in L.link_state pool.old) }
+    ensures gathered { IfOk result (TalkGathers task.entry L.link_state pool.old T.state tree.old
+        D.state repo.old repo.new) }
     ensures online { IfOk result (λ p. IsOnline (online_of p.1)) }
-    ensures known { IfOk result (λ p. ShowsOnline system (V.state server.old).pending (V.state server.new).pending
-        (online_of p.1)) }
-    ensures sent { OnOk result ((V.state server.new).sent ≡ option_map
-        (λ sent. sent ++ starting order.now.user.now order.now.database.now order.now.fast ++ stopping)
-        (V.state server.old).sent) }
-    ensures place { OnOk result ((V.state server.new).place ≡ order.now.socket.now) }
-    ensures ended { IfErr result (EndsTalk (Rises (V.state server.old).faults (V.state server.new).faults)
-        (V.state server.new).sent) }
-    ensures unlisted { OnErr result (GivesUp stanza.entry.now order.now.later (T.state tree.old).nodes
-        (backup_info_of list) (map file_entry_of old.now)
-        (D.state repo.old).view (D.state repo.new).view) }
-    ensures beside { StaysBeside stanza.entry.now (D.state repo.old).view (D.state repo.new).view }
+    ensures known { IfOk result (λ p. Reports task.entry.system (V.state server.old) (V.state server.new) p.1) }
+    ensures sent { OnOk result (SendsTalk task.entry.order (V.state server.old) (V.state server.new)) }
+    ensures place { OnOk result ((V.state server.new).place ≡ task.entry.order.socket.now) }
+    ensures ended { IfErr result (LeavesTalk (V.state server.old) (V.state server.new)) }
+    ensures unlisted { OnErr result (TalkGivesUp task.entry T.state tree.old D.state repo.old repo.new) }
+    ensures beside { StaysBeside task.entry.basis.stanza.now (D.state repo.old).view (D.state repo.new).view }
     ensures frame { CallsProperly (D.state repo.old) (D.state repo.new) }
     ensures looks { OnlyReadsFolder (T.state tree.old) (T.state tree.new) }
     ensures later { (V.state server.old).faults ≤ (V.state server.new).faults }
     ensures least { (C.state clock.old).least ≤ (C.state clock.new).least }
     ensures clock_later { (C.state clock.old).faults ≤ (C.state clock.new).faults }
-    ensures cause { IfErr result (HaltCause
-        (SpokenCause stanza.entry.now order.now.later (T.state tree.old).nodes (backup_info_of list)
-        (map file_entry_of old.now)
-        (map L.link_state links.old.items) lost.old.items system
-        (V.state server.old).pending (V.state server.new).pending)
-        (rose_in (record none {
-          repo = Rises (D.state repo.old).faults (D.state repo.new).faults;
-          tree = Rises (T.state tree.old).faults (T.state tree.new).faults;
-          server = Rises (V.state server.old).faults (V.state server.new).faults;
-          clock = Rises (C.state clock.old).faults (C.state clock.new).faults;
-        }))) }
+    ensures cause { IfErr result (TalkHalts task.entry L.link_state pool.old D.state repo.old repo.new
+        T.state tree.old tree.new V.state server.old server.new C.state clock.old clock.new) }
 {
+    let ServerTask {
+        order,
+        system,
+        basis,
+        next,
+    } = task;
     let begun = match start(
         alloc,
         server,
@@ -170,20 +139,7 @@ pub(crate) fn talk<
         Ok(begun) => begun,
         Err(fault) => return Err(of_talk(fault)),
     };
-    let gathered = match gather(
-        alloc,
-        repo,
-        tree,
-        clock,
-        links,
-        turns,
-        lost,
-        stanza,
-        &order.later,
-        second,
-        old,
-        list,
-    ) {
+    let gathered = match gather(alloc, repo, tree, clock, pool, &basis, next) {
         Ok(gathered) => gathered,
         Err(halt) => return Err(give_up(server, begun, halt)),
     };

@@ -30,11 +30,11 @@ fn known(
     fails: &[&[u64]],
 ) -> Result<String, AllocError> {
     let mut clock = clock_of(alloc, clock_fails)?;
-    let mut links = links_to(alloc, files, &[], fails)?;
+    let links = links_to(alloc, files, &[], fails)?;
     if links.len() > MOST_LINKS {
         return Err(AllocError);
     }
-    backed_up(alloc, disk, &mut clock, &mut links, NODES)
+    backed_up(alloc, disk, &mut clock, links, NODES)
 }
 
 // What the files hold, and which of them the manifest states.

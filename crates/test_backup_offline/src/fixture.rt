@@ -13,6 +13,7 @@ use memory_workers::{MemLink, MemScheduler};
 use repo_pair::load_pair;
 use repo_stanza::{Control, create};
 use std::alloc::{AllocError, Global};
+use worker_pool::Pool;
 
 /// 2024-01-02 03:04:05
 pub(crate) const SECOND: u64 = 1704164645;
@@ -108,11 +109,11 @@ pub(crate) fn backed_up<L: Link>(
     alloc: Global,
     disk: &mut MemDisk,
     clock: &mut MemClock,
-    links: &mut Vec<L>,
+    links: Vec<L>,
     nodes: &[(&str, Node)],
 ) -> Result<String, AllocError>
-    requires few { vec_len links.old < 2 ^ 32 }
-    requires ready { AreReady (map L.link_state links.old.items) }
+    requires few { vec_len links < 2 ^ 32 }
+    requires ready { AreReady (map L.link_state links.items) }
 {
     let seen = seen_of(alloc, nodes)?;
     let listing = match filter(alloc, &seen, false) {
@@ -129,9 +130,12 @@ pub(crate) fn backed_up<L: Link>(
     };
     let cluster = current_cluster(&list);
     let draft = draft_of(alloc, "demo", second, cluster, listing, list)?;
-    let mut scheduler = MemScheduler::new(Vec::new(alloc));
-    let mut lost = Vec::new(alloc);
-    match make(alloc, disk, links, &mut scheduler, &mut lost, clock, draft) {
+    let mut pool = Pool {
+        links,
+        scheduler: MemScheduler::new(Vec::new(alloc)),
+        lost: Vec::new(alloc),
+    };
+    match make(alloc, disk, &mut pool, clock, draft) {
         Ok(()) => format!(in alloc; "made"),
         Err(fault) => format!(in alloc; "{fault:?}"),
     }
@@ -164,12 +168,12 @@ pub(crate) fn backed_up_online<L: Link>(
     alloc: Global,
     disk: &mut MemDisk,
     clock: &mut MemClock,
-    links: &mut Vec<L>,
+    links: Vec<L>,
     nodes: &[(&str, Node)],
     label_file: &str,
 ) -> Result<String, AllocError>
-    requires few { vec_len links.old < 2 ^ 32 }
-    requires ready { AreReady (map L.link_state links.old.items) }
+    requires few { vec_len links < 2 ^ 32 }
+    requires ready { AreReady (map L.link_state links.items) }
     requires short { length label_file.now < 2 ^ 32 }
 {
     let seen = seen_of(alloc, nodes)?;
@@ -187,9 +191,12 @@ pub(crate) fn backed_up_online<L: Link>(
     };
     let cluster = current_cluster(&list);
     let draft = draft_of(alloc, "demo", second, cluster, listing, list)?;
-    let mut scheduler = MemScheduler::new(Vec::new(alloc));
-    let mut lost = Vec::new(alloc);
-    let fetched = match fetch(alloc, disk, links, &mut scheduler, &mut lost, draft) {
+    let mut pool = Pool {
+        links,
+        scheduler: MemScheduler::new(Vec::new(alloc)),
+        lost: Vec::new(alloc),
+    };
+    let fetched = match fetch(alloc, disk, &mut pool, draft) {
         Ok(fetched) => fetched,
         Err(fault) => return format!(in alloc; "{fault:?}"),
     };

@@ -17,11 +17,11 @@ const LISTED: &str = "1704164645 of 42 bytes, 42 stored. ";
 fn known(alloc: Global, disk: &mut MemDisk, label_file: &str) -> Result<String, AllocError> {
     let seconds = [SECOND, SECOND, SECOND + 9].to_vec(alloc)?;
     let mut clock = MemClock::new(seconds, Vec::new(alloc));
-    let mut links = links_to(alloc, FILES, &[], &[&[]])?;
+    let links = links_to(alloc, FILES, &[], &[&[]])?;
     if links.len() > 64 || label_file.len() > 1000 {
         return Err(AllocError);
     }
-    backed_up_online(alloc, disk, &mut clock, &mut links, NODES, label_file)
+    backed_up_online(alloc, disk, &mut clock, links, NODES, label_file)
 }
 
 // The manifest's files with their times, and what the label file holds.

@@ -10,10 +10,11 @@ use crate::serving::{add_row, greeting};
 use backup_plan::PlanSettings;
 use base_devices::{DataFolder, Disk, Link, Locks};
 use base_model::{ArchiveInfo, BackupInfo, BackupKind};
-use cmd_backup_common::TakeOrder;
+use cmd_backup_common::{KnownStanza, TakeOrder};
 use cmd_backup_offline::OfflineOrder;
 use cmd_backup_online::{
-    OnlineBackupFault, OnlineOrder, back_up_online, online_backup_message, online_backup_status,
+    OnlineBackupFault, OnlineOrder, OnlineTask, back_up_online, online_backup_message,
+    online_backup_status,
 };
 use cmd_setup::{lock_names, prepare, take_locks};
 use cmd_types::{Halt, Outcome, Pairs, Plan, StageFault, SyncScope};
@@ -21,6 +22,7 @@ use memory_devices::{MemClock, MemConnection, MemDataFolder, MemDisk, MemLocks, 
 use memory_workers::{MemLink, MemScheduler};
 use repo_stanza::{Control, create};
 use std::alloc::{AllocError, Global};
+use worker_pool::Pool;
 
 /// The names of files with their bytes.
 pub(crate) type Named = Vec<(String, Vec<u8>)>;
@@ -254,6 +256,20 @@ fn known(alloc: Global, repo: &mut MemDisk, case: &Case) -> Result<String, Alloc
         Ok(values) => values,
         Err(halt) => return format!(in alloc; "{halt:?}"),
     };
+    let mut pool = Pool {
+        links: link(alloc, case.files, case.fails(alloc, Device::Worker)?)?,
+        scheduler: MemScheduler::new(Vec::new(alloc)),
+        lost: Vec::new(alloc),
+    };
+    let task = OnlineTask {
+        order: order(case),
+        stanza: KnownStanza {
+            name: "demo",
+            control: &CONTROL,
+            archive: &archive,
+            backup,
+        },
+    };
     let done = back_up_online(
         alloc,
         repo,
@@ -263,13 +279,8 @@ fn known(alloc: Global, repo: &mut MemDisk, case: &Case) -> Result<String, Alloc
         &mut Storing::new(case.segment, case.turn),
         &mut case.clock(alloc)?,
         &locks,
-        &mut link(alloc, case.files, case.fails(alloc, Device::Worker)?)?,
-        &mut MemScheduler::new(Vec::new(alloc)),
-        "demo",
-        order(case),
-        &CONTROL,
-        &archive,
-        backup,
+        &mut pool,
+        task,
     );
     text_of(alloc, done)
 }

@@ -1,14 +1,14 @@
 // The draft of a backup of any kind.
-ghost use Rattle.std.specs.Prelude.{◌≡◌, ◌≤◌, true, [], None, map, length, string_bytes, option_map, IfOk};
+ghost use Rattle.std.specs.Prelude.{◌≡◌, ◌≤◌, true, [], None, map, length, option_map, IfOk};
 ghost use Rattle.base_devices.specs.Order.{are_in_order};
 ghost use Rattle.base_model.specs.InfoFiles.{IsBackupInfo};
 ghost use Rattle.base_model.specs.Text.{In};
 ghost use Rattle.base_model.specs.Values.{backup_info_of, entry_of, file_entry_of};
 ghost use Rattle.backup_plan.specs.Filter.{IsListing, HasFile, most_files};
 ghost use Rattle.backup_plan.specs.Listed.{control_path};
-ghost use Rattle.backup_plan.specs.Views.{taken_of};
+ghost use Rattle.backup_plan.specs.Views.{taken_files, taken_folders};
 ghost use Rattle.backup_make.specs.Draft.{IsDraft};
-ghost use Rattle.cmd_backup_common.specs.Drafted.{KeepRules, prior_in, IsOrdered};
+ghost use Rattle.cmd_backup_common.specs.Drafted.{KeepRules, prior_in, IsOrderedBy};
 ghost use Rattle.cmd_backup_common.specs.Priors.{prior_for, made_label};
 ghost use Rattle.cmd_backup_common.specs.Seconds.{IsNext};
 
@@ -18,9 +18,10 @@ use backup_plan::{Listing, PlanSettings, plan};
 use base_model::{BackupInfo, BackupKind, Choices, Cluster, Entry, FileEntry, Label};
 use std::alloc::{AllocError, Global};
 
-/// How a backup is to be made.
+/// How a backup is to be made, and of which stanza.
 #[derive(Clone, Copy)]
 pub struct DraftOrder<'a> {
+    pub stanza: &'a str,
     /// the kind that is asked for
     pub kind: BackupKind,
     pub settings: PlanSettings,
@@ -51,7 +52,6 @@ fn labels_of(
 /// has.
 pub fn draft_ordered<'a>(
     alloc: Global,
-    stanza: &'a str,
     second: u64,
     cluster: Cluster,
     order: &DraftOrder<'a>,
@@ -59,9 +59,9 @@ pub fn draft_ordered<'a>(
     listing: Listing,
     before: BackupInfo,
 ) -> Result<Draft<'a>, AllocError>
-    requires listing { IsListing (map taken_of listing.files.items) (map string_bytes listing.folders.items) }
-    requires control { HasFile control_path (map taken_of listing.files.items) }
-    requires few { length (map taken_of listing.files.items) ≤ most_files }
+    requires listing { IsListing (taken_files listing) (taken_folders listing) }
+    requires control { HasFile control_path (taken_files listing) }
+    requires few { length (taken_files listing) ≤ most_files }
     requires list { IsBackupInfo (backup_info_of before) }
     requires next { IsNext second (backup_info_of before) }
     requires cluster { In cluster (backup_info_of before).history }
@@ -70,13 +70,12 @@ pub fn draft_ordered<'a>(
     requires none { prior_in order.now cluster before ≡ None → order.now.old.now ≡ [] }
     requires old { KeepRules (map file_entry_of order.now.old.now) }
     ensures draft { IfOk result (λ d. IsDraft d) }
-    ensures ordered { IfOk result
-        (λ d. IsOrdered stanza.entry.now second cluster order.now equal.now listing before d) }
+    ensures ordered { IfOk result (IsOrderedBy order.now second cluster equal.now listing before) }
 {
     let (label, prior) = labels_of(order.kind, cluster.id, &before.backups, second);
     let plan = plan(alloc, &listing.files, order.old, equal, &order.settings)?;
     Ok(Draft {
-        stanza,
+        stanza: order.stanza,
         label,
         prior,
         old: order.old,

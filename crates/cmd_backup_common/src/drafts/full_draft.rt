@@ -1,12 +1,12 @@
 // The draft of a full backup.
-ghost use Rattle.std.specs.Prelude.{◌≡◌, ◌≤◌, None, Some, map, length, string_bytes, IfOk};
+ghost use Rattle.std.specs.Prelude.{◌≡◌, ◌≤◌, None, Some, length, IfOk};
 ghost use Rattle.base_model.specs.Fields.{at_number};
 ghost use Rattle.base_model.specs.InfoFiles.{IsBackupInfo};
 ghost use Rattle.base_model.specs.Text.{In};
 ghost use Rattle.base_model.specs.Values.{backup_info_of};
 ghost use Rattle.backup_plan.specs.Filter.{IsListing, HasFile, most_files};
 ghost use Rattle.backup_plan.specs.Listed.{control_path};
-ghost use Rattle.backup_plan.specs.Views.{taken_of};
+ghost use Rattle.backup_plan.specs.Views.{taken_files, taken_folders};
 ghost use Rattle.backup_make.specs.Draft.{IsDraft};
 ghost use Rattle.cmd_backup_common.specs.Full.{IsFullOf};
 ghost use Rattle.cmd_backup_common.specs.Seconds.{IsNext};
@@ -51,9 +51,9 @@ pub fn draft_of<'a>(
     listing: Listing,
     before: BackupInfo,
 ) -> Result<Draft<'a>, AllocError>
-    requires listing { IsListing (map taken_of listing.files.items) (map string_bytes listing.folders.items) }
-    requires control { HasFile control_path (map taken_of listing.files.items) }
-    requires few { length (map taken_of listing.files.items) ≤ most_files }
+    requires listing { IsListing (taken_files listing) (taken_folders listing) }
+    requires control { HasFile control_path (taken_files listing) }
+    requires few { length (taken_files listing) ≤ most_files }
     requires list { IsBackupInfo (backup_info_of before) }
     requires next { IsNext second (backup_info_of before) }
     requires cluster { In cluster (backup_info_of before).history }

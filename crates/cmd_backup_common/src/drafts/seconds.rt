@@ -3,7 +3,7 @@ ghost use Rattle.std.specs.Prelude.{◌≡◌, ◌≤◌, ◌<◌, ◌+◌, map,
 ghost use Rattle.base_devices.specs.States.{last_second, OnlyReads};
 ghost use Rattle.base_model.specs.Values.{entry_of, backup_info_of};
 ghost use Rattle.backup_record.specs.Making.{labels_of};
-ghost use Rattle.cmd_backup_common.specs.Seconds.{second_of, AreBefore, IsNext, DiskFails, ClockFails, SecondCause};
+ghost use Rattle.cmd_backup_common.specs.Seconds.{second_of, AreBefore, IsNext, DiskFails, ClockFails, SecondFails};
 
 use crate::drafts::fault::{SecondFault, clock_fault, disk_fault};
 use base_devices::{Clock, Disk};
@@ -94,8 +94,7 @@ pub fn next_second<D: Disk, C: Clock>(
     ensures looks { OnlyReads (D.state d.old) (D.state d.new) }
     ensures later { (C.state clock.old).faults ≤ (C.state clock.new).faults }
     ensures least { (C.state clock.old).least ≤ (C.state clock.new).least }
-    ensures cause { IfErr result (λ e. SecondCause e (D.state d.old).faults (D.state d.new).faults
-        (C.state clock.old) (C.state clock.new)) }
+    ensures cause { IfErr result (SecondFails (D.state d.old) (D.state d.new) (C.state clock.old) (C.state clock.new)) }
 {
     let latest = latest_in(alloc, d, stanza, list)?;
     second_past(clock, latest)

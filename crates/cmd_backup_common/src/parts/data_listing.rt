@@ -1,12 +1,8 @@
 // Lists the data folder.
-ghost use Rattle.std.specs.Prelude.{◌≡◌, map, IfOk, IfErr, IfSome, OnOk};
-ghost use Rattle.base_devices.specs.Cause.{Rises};
+ghost use Rattle.std.specs.Prelude.{◌≡◌, IfOk, IfErr, IfSome, OnOk};
 ghost use Rattle.base_devices.specs.States.{OnlyReadsFolder};
-ghost use Rattle.base_devices.specs.DataFolder.{IsTreeListing};
-ghost use Rattle.backup_plan.specs.Views.{seen_of};
-ghost use Rattle.cmd_types.specs.declared.stages.object.Object.TheVariants.{TheDataFolder as TheFolder};
-ghost use Rattle.cmd_types.specs.Halts.{HaltCause, Only};
-ghost use Rattle.cmd_backup_common.specs.Beginning.{IsStopped, RunningCause};
+ghost use Rattle.cmd_backup_common.specs.Beginning.{IsStopped};
+ghost use Rattle.cmd_backup_common.specs.Halting.{ListsAll, LookHalts};
 
 use crate::parts::fault::BackupFault;
 use backup_plan::is_running;
@@ -19,12 +15,10 @@ pub(crate) fn look<T: DataFolder>(
     alloc: Global,
     tree: &mut T,
 ) -> Result<Vec<FolderEntry>, Halt<BackupFault>>
-    ensures listing { IfOk result (λ seen. IfSome (T.state tree.old).nodes
-        (λ f. IsTreeListing f (map seen_of seen.items))) }
+    ensures listing { IfOk result (λ seen. ListsAll (T.state tree.old) seen.items) }
     ensures stopped { OnOk result (IfSome (T.state tree.old).nodes IsStopped) }
     ensures looks { OnlyReadsFolder (T.state tree.old) (T.state tree.new) }
-    ensures cause { IfErr result (HaltCause (RunningCause (T.state tree.old).nodes)
-        (Only TheFolder (Rises (T.state tree.old).faults (T.state tree.new).faults))) }
+    ensures cause { IfErr result (LookHalts (T.state tree.old) (T.state tree.new)) }
 {
     let seen = match tree.list(alloc) {
         Ok(seen) => seen,

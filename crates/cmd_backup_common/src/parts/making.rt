@@ -1,16 +1,15 @@
 // Makes the backup.
-ghost use Rattle.std.specs.Prelude.{◌≡◌, ◌≤◌, ◌<◌, ◌^◌, map, vec_len, string_bytes, length, IfOk, IfErr, IfSome, IsSome, OnOk};
-ghost use Rattle.base_devices.specs.Cause.{Rises};
+ghost use Rattle.std.specs.Prelude.{◌≡◌, ◌≤◌, ◌<◌, ◌^◌, vec_len, string_bytes, length, IfOk, IfErr, OnOk};
 ghost use Rattle.base_devices.specs.States.{CallsProperly};
 ghost use Rattle.base_model.specs.InfoFiles.{IsLabel};
+ghost use Rattle.worker_pool.specs.Pools.{links_in};
 ghost use Rattle.worker_pool.specs.Run.{AreReady};
 ghost use Rattle.backup_make.specs.Draft.{IsDraft, main_of};
-ghost use Rattle.repo_stanza.specs.Pairs.{AgreeAt};
+ghost use Rattle.backup_make.specs.Made.{LeavesAlike};
 ghost use Rattle.base_crash_lists.specs.Beside.{StaysBeside};
-ghost use Rattle.cmd_types.specs.Halts.{HaltCause};
-ghost use Rattle.cmd_types.specs.Risen.{none, rose_in};
+ghost use Rattle.cmd_backup_common.specs.Halting.{FinishHalts};
 ghost use Rattle.cmd_backup_common.specs.Texts.{label_line};
-ghost use Rattle.cmd_backup_common.specs.Making.{Finishes, MakeCause};
+ghost use Rattle.cmd_backup_common.specs.Used.{FinishesBy};
 
 use crate::parts::fault::{BackupFault, of_make};
 use backup_make::{Draft, make};
@@ -20,7 +19,7 @@ use base_text::NoMemory;
 use cmd_types::{Halt, Outcome};
 use repo_names::label_text;
 use std::alloc::Global;
-use worker_pool::Lost;
+use worker_pool::{Lost, Pool};
 
 /// The line that states the label of a backup that was made.
 pub fn label_line(alloc: Global, label: &Label) -> Result<String, NoMemory>
@@ -42,36 +41,28 @@ pub fn count_of(lost: &[Lost]) -> u32
 pub fn finish<D: Disk, L: Link, U: Scheduler, C: Clock>(
     alloc: Global,
     repo: &mut D,
-    links: &mut Vec<L>,
-    scheduler: &mut U,
-    lost: &mut Vec<Lost>,
+    pool: &mut Pool<L, U>,
     clock: &mut C,
     draft: Draft<'_>,
     line: String,
 ) -> Result<Outcome, Halt<BackupFault>>
     requires draft { IsDraft draft }
     requires label { IsLabel draft.label }
-    requires few { vec_len links.old < 2 ^ 32 }
-    requires ready { AreReady (map L.link_state links.old.items) }
-    ensures made { Finishes draft.entry (string_bytes line) (map L.link_state links.old.items) (D.state repo.old).view
-        (D.state repo.new).view result }
-    ensures alike { OnOk result (IsSome (D.state repo.old).view.now
-        → IfSome (D.state repo.new).view.now (AgreeAt (main_of draft.entry))) }
+    requires few { vec_len pool.old.links < 2 ^ 32 }
+    requires ready { AreReady (links_in L.link_state pool.old) }
+    ensures made { FinishesBy draft.entry line L.link_state pool.old D.state repo.old repo.new result }
+    ensures alike { OnOk result (LeavesAlike (main_of draft.entry) (D.state repo.old) (D.state repo.new)) }
     ensures beside { StaysBeside draft.entry.stanza.now (D.state repo.old).view (D.state repo.new).view }
     ensures frame { CallsProperly (D.state repo.old) (D.state repo.new) }
     ensures later { (C.state clock.old).faults ≤ (C.state clock.new).faults }
     ensures least { (C.state clock.old).least ≤ (C.state clock.new).least }
-    ensures cause { IfErr result (HaltCause
-        (MakeCause draft.entry (map L.link_state links.old.items) lost.old.items)
-        (rose_in (record none {
-          repo = Rises (D.state repo.old).faults (D.state repo.new).faults;
-          clock = Rises (C.state clock.old).faults (C.state clock.new).faults;
-        }))) }
+    ensures cause { IfErr result (FinishHalts draft.entry L.link_state pool.old D.state repo.old repo.new
+        C.state clock.old clock.new) }
 {
     let stanza = draft.stanza;
     let label = draft.label;
-    match make(alloc, repo, links, scheduler, lost, clock, draft) {
+    match make(alloc, repo, pool, clock, draft) {
         Ok(()) => Ok(Outcome::Finished { lines: line }),
-        Err(fault) => Err(of_make(alloc, stanza, &label, count_of(lost), fault)),
+        Err(fault) => Err(of_make(alloc, stanza, &label, count_of(&pool.lost), fault)),
     }
 }

@@ -2,9 +2,10 @@
 ghost use Rattle.std.specs.Prelude.{◌≡◌, ◌<◌, ◌≤◌, IfOk, IfErr, OnOk, length};
 ghost use Rattle.base_model.specs.InfoFiles.{IsArchiveInfo, IsBackupInfo};
 ghost use Rattle.base_model.specs.Values.{archive_info_of, backup_info_of};
-ghost use Rattle.repo_stanza.specs.Judging.{Validates, IsOf};
+ghost use Rattle.repo_stanza.specs.Judging.{IsOf};
 ghost use Rattle.cmd_types.specs.Halts.{HaltCause};
-ghost use Rattle.cmd_backup_common.specs.Beginning.{most_backups, FitCause, RoomCause};
+ghost use Rattle.cmd_backup_common.specs.Beginning.{most_backups, RoomCause};
+ghost use Rattle.cmd_backup_common.specs.Halting.{FitHalts, ValidatesTo};
 
 use crate::parts::fault::{BackupFault, of_stanza};
 use base_model::{ArchiveInfo, BackupInfo};
@@ -22,12 +23,10 @@ pub fn fit(
 ) -> Result<BackupInfo, Halt<BackupFault>>
     requires archive { IsArchiveInfo (archive_info_of archive.now) }
     requires backup { IsBackupInfo (backup_info_of backup) }
-    ensures settled { IfOk result
-        (λ w. Validates (archive_info_of archive.now) (backup_info_of backup) (backup_info_of w)) }
+    ensures settled { IfOk result (ValidatesTo archive.now backup) }
     ensures of { OnOk result (IsOf known.now (archive_info_of archive.now)) }
     ensures valid { IfOk result (λ w. IsBackupInfo (backup_info_of w)) }
-    ensures cause { IfErr result (HaltCause (FitCause known.now (archive_info_of archive.now) (backup_info_of backup))
-        (λ _. ⊥)) }
+    ensures cause { IfErr result (FitHalts known.now archive.now backup) }
 {
     match fit_list(archive, backup, known) {
         Ok(list) => Ok(list),

@@ -28,21 +28,21 @@ returns-in-Ok-clause-placed g c =
 
 pub bounds-jobs-job : goal.bounds-jobs-job
 bounds-jobs-job g c =
-    let links = map g.L.Link.link_state c.args.links.now.items in
-    let left = map g.L.Link.link_state c.run_jobs.new.links.items in
-    let u = unread_of (map job_of c.args.jobs.now) c.in-Err-Unread.field-0 c.in-Err-Unread.job c.in-Err-Unread.item links left c.args.lost.now.items c.run_jobs.new.lost.items c.in_ok-keep.keep.faults c.run_jobs.new.keep.faults c.in-Err-Unread.field-0-is c.in-Err-Unread.ensures.fault in
-    job_within c.args.jobs.now links left c.args.lost.now.items c.in-Err-Unread.job c.in-Err-Unread.item u
+    let links = map g.L.Link.link_state c.args.pool.now.links.items in
+    let left = map g.L.Link.link_state c.run_jobs.new.pool.links.items in
+    let u = unread_of (map job_of c.args.jobs.now) c.in-Err-Unread.field-0 c.in-Err-Unread.job c.in-Err-Unread.item links left c.args.pool.now.lost.items c.run_jobs.new.pool.lost.items c.in_ok-keep.keep.faults c.run_jobs.new.keep.faults c.in-Err-Unread.field-0-is c.in-Err-Unread.ensures.fault in
+    job_within c.args.jobs.now links left c.args.pool.now.lost.items c.in-Err-Unread.job c.in-Err-Unread.item u
 
 pub path_at-requires : goal.path_at-requires
 path_at-requires g c =
-    let links = map g.L.Link.link_state c.args.links.now.items in
-    let left = map g.L.Link.link_state c.run_jobs.new.links.items in
-    let u = unread_of (map job_of c.args.jobs.now) c.in-Err-Unread.field-0 c.in-Err-Unread.job c.in-Err-Unread.item links left c.args.lost.now.items c.run_jobs.new.lost.items c.in_ok-keep.keep.faults c.run_jobs.new.keep.faults c.in-Err-Unread.field-0-is c.in-Err-Unread.ensures.fault in
-    item_within c.args.jobs.now links left c.args.lost.now.items c.in-Err-Unread.job c.in-Err-Unread.item u c.index-jobs-job.result c.index-jobs-job.is
+    let links = map g.L.Link.link_state c.args.pool.now.links.items in
+    let left = map g.L.Link.link_state c.run_jobs.new.pool.links.items in
+    let u = unread_of (map job_of c.args.jobs.now) c.in-Err-Unread.field-0 c.in-Err-Unread.job c.in-Err-Unread.item links left c.args.pool.now.lost.items c.run_jobs.new.pool.lost.items c.in_ok-keep.keep.faults c.run_jobs.new.keep.faults c.in-Err-Unread.field-0-is c.in-Err-Unread.ensures.fault in
+    item_within c.args.jobs.now links left c.args.pool.now.lost.items c.in-Err-Unread.job c.in-Err-Unread.item u c.index-jobs-job.result c.index-jobs-job.is
 
 pub returns-in-Err-Unread-clause-fault : goal.returns-in-Err-Unread-clause-fault
 returns-in-Err-Unread-clause-fault g c =
-    let links = map g.L.Link.link_state c.args.links.now.items in
-    let left = map g.L.Link.link_state c.run_jobs.new.links.items in
-    let u = unread_of (map job_of c.args.jobs.now) c.in-Err-Unread.field-0 c.in-Err-Unread.job c.in-Err-Unread.item links left c.args.lost.now.items c.run_jobs.new.lost.items c.in_ok-keep.keep.faults c.run_jobs.new.keep.faults c.in-Err-Unread.field-0-is c.in-Err-Unread.ensures.fault in
-    unread_item c.args.jobs.now links left c.args.lost.now.items c.in-Err-Unread.job c.in-Err-Unread.item u c.index-jobs-job.result c.index-jobs-job.is (string_bytes c.in_ok-path-in-Err-Unread.path) c.in_ok-path-in-Err-Unread.ensures
+    let links = map g.L.Link.link_state c.args.pool.now.links.items in
+    let left = map g.L.Link.link_state c.run_jobs.new.pool.links.items in
+    let u = unread_of (map job_of c.args.jobs.now) c.in-Err-Unread.field-0 c.in-Err-Unread.job c.in-Err-Unread.item links left c.args.pool.now.lost.items c.run_jobs.new.pool.lost.items c.in_ok-keep.keep.faults c.run_jobs.new.keep.faults c.in-Err-Unread.field-0-is c.in-Err-Unread.ensures.fault in
+    unread_item c.args.jobs.now links left c.args.pool.now.lost.items c.in-Err-Unread.job c.in-Err-Unread.item u c.index-jobs-job.result c.index-jobs-job.is (string_bytes c.in_ok-path-in-Err-Unread.path) c.in_ok-path-in-Err-Unread.ensures

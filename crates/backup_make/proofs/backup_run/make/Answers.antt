@@ -19,17 +19,17 @@ use Rattle.backup_make.proofs.backup_run.make.Goals as goal
 pub returns-in_err-fetched-clause-made : goal.returns-in_err-fetched-clause-made
 returns-in_err-fetched-clause-made g c =
     let p = err_from_is_err_and c.from_residual.result c.from_residual.ensures.1 in
-    nothing_listed c.args.draft None (map g.L.Link.link_state c.args.links.now.items) _ _ c.from_residual.result p.0 p.1 c.fetch.ensures.unlisted
+    nothing_listed c.args.draft None (map g.L.Link.link_state c.args.pool.now.links.items) _ _ c.from_residual.result p.0 p.1 c.fetch.ensures.unlisted
 
 pub returns-in_err-closed-clause-made : goal.returns-in_err-closed-clause-made
 returns-in_err-closed-clause-made g c =
     let p = err_from_is_err_and c.from_residual-in_err-closed.result c.from_residual-in_err-closed.ensures.1 in
-    nothing_listed c.args.draft None (map g.L.Link.link_state c.args.links.now.items) _ _ c.from_residual-in_err-closed.result p.0 p.1 c.fetch.ensures.unlisted
+    nothing_listed c.args.draft None (map g.L.Link.link_state c.args.pool.now.links.items) _ _ c.from_residual-in_err-closed.result p.0 p.1 c.fetch.ensures.unlisted
 
 pub returns-clause-made : goal.returns-clause-made
 returns-clause-made g c =
     let draft = c.args.draft in
-    let links = map g.L.Link.link_state c.args.links.now.items in
+    let links = map g.L.Link.link_state c.args.pool.now.links.items in
     let b = (g.D.Disk.state c.fetch.new.d).view in
     let d = (g.D.Disk.state c.publish.new.d).view in
     let fetched = c.in_ok-fetched.fetched in

@@ -39,7 +39,7 @@ pub returns-clause-stored : goal.returns-clause-stored
 returns-clause-stored g c =
     let k = c.in_ok-keep.keep in
     let draft = c.args.draft.now in
-    let links = map g.L.Link.link_state c.args.links.now.items in
+    let links = map g.L.Link.link_state c.args.pool.now.links.items in
     let now = (g.D.Disk.state c.store.new.d).view.now in
     let are : AreNames draft (names_of k) = λ l p. c.in_ok-keep.ensures.names ∙ ap (map string_bytes) c.deref-4.ensures.value ∙ c.in_ok-names.ensures l p ∙ ap (λ (f : Name). names_in f l) (c.deref.ensures ∙ c.in_ok-folder.ensures) in
     let count : length (names_of k) ≡ length (progress_in k) = omega (arith, k.same_states, k.states.ok, length-map k.states.items progress_of, length-map k.names.now string_bytes) in

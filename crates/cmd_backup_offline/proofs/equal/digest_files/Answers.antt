@@ -27,7 +27,7 @@ run_digests-requires-clause-digests g c = are_digests (map file_entry_of c.args.
 
 pub returns-in_ok-marks_of-in-Ok-clause-marked : goal.returns-in_ok-marks_of-in-Ok-clause-marked
 returns-in_ok-marks_of-in-Ok-clause-marked g c =
-    let links = map g.L.Link.link_state c.args.links.now.items in
+    let links = map g.L.Link.link_state c.args.pool.now.links.items in
     let old = map file_entry_of c.args.old.now in
     let files = map taken_of c.args.listing.now.files.items in
     let ends = c.deref-in-Ok.ensures.value in
@@ -36,22 +36,22 @@ returns-in_ok-marks_of-in-Ok-clause-marked g c =
 
 pub bounds-jobs-job : goal.bounds-jobs-job
 bounds-jobs-job g c =
-    let links = map g.L.Link.link_state c.args.links.now.items in
-    let left = map g.L.Link.link_state c.run_digests.new.links.items in
-    let u = unread_of (map job_of c.args.jobs.now) c.in-Err-Unread.field-0 c.in-Err-Unread.job c.in-Err-Unread.item links left c.args.lost.now.items c.run_digests.new.lost.items 0 0 c.in-Err-Unread.field-0-is c.in-Err-Unread.ensures.fault in
-    job_within c.args.jobs.now links left c.args.lost.now.items c.in-Err-Unread.job c.in-Err-Unread.item u
+    let links = map g.L.Link.link_state c.args.pool.now.links.items in
+    let left = map g.L.Link.link_state c.run_digests.new.pool.links.items in
+    let u = unread_of (map job_of c.args.jobs.now) c.in-Err-Unread.field-0 c.in-Err-Unread.job c.in-Err-Unread.item links left c.args.pool.now.lost.items c.run_digests.new.pool.lost.items 0 0 c.in-Err-Unread.field-0-is c.in-Err-Unread.ensures.fault in
+    job_within c.args.jobs.now links left c.args.pool.now.lost.items c.in-Err-Unread.job c.in-Err-Unread.item u
 
 pub path_at-requires : goal.path_at-requires
 path_at-requires g c =
-    let links = map g.L.Link.link_state c.args.links.now.items in
-    let left = map g.L.Link.link_state c.run_digests.new.links.items in
-    let u = unread_of (map job_of c.args.jobs.now) c.in-Err-Unread.field-0 c.in-Err-Unread.job c.in-Err-Unread.item links left c.args.lost.now.items c.run_digests.new.lost.items 0 0 c.in-Err-Unread.field-0-is c.in-Err-Unread.ensures.fault in
-    item_within c.args.jobs.now links left c.args.lost.now.items c.in-Err-Unread.job c.in-Err-Unread.item u c.index-jobs-job.result c.index-jobs-job.is
+    let links = map g.L.Link.link_state c.args.pool.now.links.items in
+    let left = map g.L.Link.link_state c.run_digests.new.pool.links.items in
+    let u = unread_of (map job_of c.args.jobs.now) c.in-Err-Unread.field-0 c.in-Err-Unread.job c.in-Err-Unread.item links left c.args.pool.now.lost.items c.run_digests.new.pool.lost.items 0 0 c.in-Err-Unread.field-0-is c.in-Err-Unread.ensures.fault in
+    item_within c.args.jobs.now links left c.args.pool.now.lost.items c.in-Err-Unread.job c.in-Err-Unread.item u c.index-jobs-job.result c.index-jobs-job.is
 
 pub returns-in_ok-path-in-Err-Unread-clause-cause : goal.returns-in_ok-path-in-Err-Unread-clause-cause
 returns-in_ok-path-in-Err-Unread-clause-cause g c =
-    let links = map g.L.Link.link_state c.args.links.now.items in
-    let left = map g.L.Link.link_state c.run_digests.new.links.items in
-    let u = unread_of (map job_of c.args.jobs.now) c.in-Err-Unread.field-0 c.in-Err-Unread.job c.in-Err-Unread.item links left c.args.lost.now.items c.run_digests.new.lost.items 0 0 c.in-Err-Unread.field-0-is c.in-Err-Unread.ensures.fault in
+    let links = map g.L.Link.link_state c.args.pool.now.links.items in
+    let left = map g.L.Link.link_state c.run_digests.new.pool.links.items in
+    let u = unread_of (map job_of c.args.jobs.now) c.in-Err-Unread.field-0 c.in-Err-Unread.job c.in-Err-Unread.item links left c.args.pool.now.lost.items c.run_digests.new.pool.lost.items 0 0 c.in-Err-Unread.field-0-is c.in-Err-Unread.ensures.fault in
     undigested (map file_entry_of c.args.old.now) (map taken_of c.args.listing.now.files.items) (map job_of c.args.jobs.now) c.requires.jobs links left (string_bytes c.in_ok-path-in-Err-Unread.path)
-    (unread_item c.args.jobs.now links left c.args.lost.now.items c.in-Err-Unread.job c.in-Err-Unread.item u c.index-jobs-job.result c.index-jobs-job.is (string_bytes c.in_ok-path-in-Err-Unread.path) c.in_ok-path-in-Err-Unread.ensures)
+    (unread_item c.args.jobs.now links left c.args.pool.now.lost.items c.in-Err-Unread.job c.in-Err-Unread.item u c.index-jobs-job.result c.index-jobs-job.is (string_bytes c.in_ok-path-in-Err-Unread.path) c.in_ok-path-in-Err-Unread.ensures)

@@ -12,14 +12,14 @@ pub returns-then-delta-clause-same : goal.returns-then-delta-clause-same
 returns-then-delta-clause-same g c =
     let files = c.args.listing.now.files.items in
     IfOk-weaker c.digest_files.result _ _
-    (λ equal marked. marked_length (map g.L.Link.link_state c.args.links.now.items) (map file_entry_of c.args.old.now) (map taken_of files) equal.items marked ∙ length-map files taken_of)
+    (λ equal marked. marked_length (map g.L.Link.link_state c.args.pool.now.links.items) (map file_entry_of c.args.old.now) (map taken_of files) equal.items marked ∙ length-map files taken_of)
     c.digest_files.ensures.marked
 
 pub returns-then-delta-clause-ready : goal.returns-then-delta-clause-ready
 returns-then-delta-clause-ready g c =
     on_ok_as c.digest_files.result _ _
-    (left_ready (map g.L.Link.link_state c.args.links.now.items) (map g.L.Link.link_state c.digest_files.new.links.items) c.args.lost.now.items c.digest_files.new.lost.items)
+    (left_ready (map g.L.Link.link_state c.args.pool.now.links.items) (map g.L.Link.link_state c.digest_files.new.pool.links.items) c.args.pool.now.lost.items c.digest_files.new.pool.lost.items)
     c.digest_files.ensures.left
 
 pub returns-clause-left : goal.returns-clause-left
-returns-clause-left g c = left_all (map g.L.Link.link_state c.args.links.now.items) c.args.lost.now.items c.requires.ready
+returns-clause-left g c = left_all (map g.L.Link.link_state c.args.pool.now.links.items) c.args.pool.now.lost.items c.requires.ready

@@ -22,26 +22,26 @@ use Rattle.cmd_backup_offline.proofs.offline_backup.make_offline.Goals as goal
 
 pub returns-in_err-draft-clause-does : goal.returns-in_err-draft-clause-does
 returns-in_err-draft-clause-does g c =
-    undrafted_does c.args.order.now.kind (map g.L.Link.link_state c.args.links.now.items) c.args.stanza.now c.from_residual.result c.in_err-draft.field-0.0 c.from_residual.ensures.1
+    undrafted_does c.args.basis.now.order.kind (map g.L.Link.link_state c.args.pool.now.links.items) c.args.basis.now.stanza.now c.from_residual.result c.in_err-draft.field-0.0 c.from_residual.ensures.1
     (g.D.Disk.state c.args.repo.now).view (g.D.Disk.state c.draft_offline.new.repo).view c.draft_offline.ensures.looks.time c.draft_offline.ensures.looks.now
 
 pub returns-clause-does : goal.returns-clause-does
 returns-clause-does g c =
     let later = c.in_ok-draft.ensures.later in
     let looks = c.draft_offline.ensures.looks in
-    finished_does c.args.stanza.now c.args.order.now (map seen_of c.deref.result.now) (backup_info_of c.args.begun.list) (map file_entry_of c.args.old.now) later.0 c.in_ok-draft.draft later.1.later (map g.L.Link.link_state c.args.links.now.items) later.1.planned _ c.in_ok-draft.ensures.lines
-    (map g.L.Link.link_state c.draft_offline.new.links.items) (comes_left (map g.L.Link.link_state c.args.links.now.items) (map g.L.Link.link_state c.draft_offline.new.links.items) c.args.lost.now.items c.draft_offline.new.lost.items c.in_ok-draft.ensures.left) (g.D.Disk.state c.args.repo.now).view (g.D.Disk.state c.draft_offline.new.repo).view (g.D.Disk.state c.finish.new.repo).view looks.time looks.now
+    finished_does c.args.basis.now.stanza.now c.args.basis.now.order (map seen_of c.deref.result.now) (backup_info_of c.args.begun.list) (map file_entry_of c.args.basis.now.old.now) later.0 c.in_ok-draft.draft later.1.later (map g.L.Link.link_state c.args.pool.now.links.items) later.1.planned _ c.in_ok-draft.ensures.lines
+    (map g.L.Link.link_state c.draft_offline.new.pool.links.items) (comes_left (map g.L.Link.link_state c.args.pool.now.links.items) (map g.L.Link.link_state c.draft_offline.new.pool.links.items) c.args.pool.now.lost.items c.draft_offline.new.pool.lost.items c.in_ok-draft.ensures.left) (g.D.Disk.state c.args.repo.now).view (g.D.Disk.state c.draft_offline.new.repo).view (g.D.Disk.state c.finish.new.repo).view looks.time looks.now
     (g.met.D.Disk.now_may_be_left c.draft_offline.new.repo) c.in_ok-draft.ensures.draft c.requires.from c.finish.result c.finish.ensures.made
 
 pub returns-clause-made : goal.returns-clause-made
 returns-clause-made g c =
     let later = c.in_ok-draft.ensures.later in
     let looks = c.draft_offline.ensures.looks in
-    let made = finished_made c.args.stanza.now c.args.order.now (map seen_of c.deref.result.now) (backup_info_of c.args.begun.list) (map file_entry_of c.args.old.now) later.0 c.in_ok-draft.draft later.1.later (map g.L.Link.link_state c.args.links.now.items) later.1.planned _ c.in_ok-draft.ensures.lines
-    (map g.L.Link.link_state c.draft_offline.new.links.items) (comes_left (map g.L.Link.link_state c.args.links.now.items) (map g.L.Link.link_state c.draft_offline.new.links.items) c.args.lost.now.items c.draft_offline.new.lost.items c.in_ok-draft.ensures.left) (g.D.Disk.state c.args.repo.now).view (g.D.Disk.state c.draft_offline.new.repo).view (g.D.Disk.state c.finish.new.repo).view looks.time looks.now
+    let made = finished_made c.args.basis.now.stanza.now c.args.basis.now.order (map seen_of c.deref.result.now) (backup_info_of c.args.begun.list) (map file_entry_of c.args.basis.now.old.now) later.0 c.in_ok-draft.draft later.1.later (map g.L.Link.link_state c.args.pool.now.links.items) later.1.planned _ c.in_ok-draft.ensures.lines
+    (map g.L.Link.link_state c.draft_offline.new.pool.links.items) (comes_left (map g.L.Link.link_state c.args.pool.now.links.items) (map g.L.Link.link_state c.draft_offline.new.pool.links.items) c.args.pool.now.lost.items c.draft_offline.new.pool.lost.items c.in_ok-draft.ensures.left) (g.D.Disk.state c.args.repo.now).view (g.D.Disk.state c.draft_offline.new.repo).view (g.D.Disk.state c.finish.new.repo).view looks.time looks.now
     (g.met.D.Disk.now_may_be_left c.draft_offline.new.repo) c.in_ok-draft.ensures.draft c.requires.from c.finish.result c.finish.ensures.made c.finish.ensures.alike in
-    subst (λ (ss : List rust_seen.FolderEntry). IfOk c.finish.result (λ outcome. OnFinished outcome (IsMade c.args.stanza.now c.args.order.now (backup_info_of c.args.begun.list) (map seen_of ss)
-    (map g.L.Link.link_state c.args.links.now.items) (g.D.Disk.state c.args.repo.now).view.now (g.D.Disk.state c.finish.new.repo).view.now))) c.deref.ensures.value made
+    subst (λ (ss : List rust_seen.FolderEntry). IfOk c.finish.result (λ outcome. OnFinished outcome (IsMade c.args.basis.now.stanza.now c.args.basis.now.order (backup_info_of c.args.begun.list) (map seen_of ss)
+    (map g.L.Link.link_state c.args.pool.now.links.items) (g.D.Disk.state c.args.repo.now).view.now (g.D.Disk.state c.finish.new.repo).view.now))) c.deref.ensures.value made
 
 pub returns-clause-beside : goal.returns-clause-beside
 returns-clause-beside g c =
@@ -49,16 +49,16 @@ returns-clause-beside g c =
     let b = (g.D.Disk.state c.draft_offline.new.repo).view in
     let d = (g.D.Disk.state c.finish.new.repo).view in
     let looks = c.draft_offline.ensures.looks in
-    beside_on c.args.stanza.now a b d (rests_beside c.args.stanza.now a b looks.time looks.now) (subst (λ (s : Text). StaysBeside s b d) c.in_ok-draft.ensures.later.1.later.stanza_is c.finish.ensures.beside)
+    beside_on c.args.basis.now.stanza.now a b d (rests_beside c.args.basis.now.stanza.now a b looks.time looks.now) (subst (λ (s : Text). StaysBeside s b d) c.in_ok-draft.ensures.later.1.later.stanza_is c.finish.ensures.beside)
 
 pub returns-in_err-draft-clause-cause : goal.returns-in_err-draft-clause-cause
 returns-in_err-draft-clause-cause g c =
-    let stanza = c.args.stanza.now in
-    let order = c.args.order.now in
+    let stanza = c.args.basis.now.stanza.now in
+    let order = c.args.basis.now.order in
     let list = backup_info_of c.args.begun.list in
-    let old = map file_entry_of c.args.old.now in
-    let links = map g.L.Link.link_state c.args.links.now.items in
-    let lost = c.args.lost.now.items in
+    let old = map file_entry_of c.args.basis.now.old.now in
+    let links = map g.L.Link.link_state c.args.pool.now.links.items in
+    let lost = c.args.pool.now.lost.items in
     let least = (g.C.Clock.state c.args.clock.now).least in
     let seen = map seen_of c.args.begun.seen.items in
     let failed = Either (Rises (g.D.Disk.state c.args.repo.now).faults (g.D.Disk.state c.draft_offline.new.repo).faults) (Rises (g.C.Clock.state c.args.clock.now).faults (g.C.Clock.state c.draft_offline.new.clock).faults) in
@@ -68,14 +68,14 @@ returns-in_err-draft-clause-cause g c =
 
 pub returns-clause-cause : goal.returns-clause-cause
 returns-clause-cause g c =
-    let stanza = c.args.stanza.now in
-    let order = c.args.order.now in
+    let stanza = c.args.basis.now.stanza.now in
+    let order = c.args.basis.now.order in
     let list = backup_info_of c.args.begun.list in
-    let old = map file_entry_of c.args.old.now in
-    let links = map g.L.Link.link_state c.args.links.now.items in
-    let lost = c.args.lost.now.items in
-    let now = map g.L.Link.link_state c.draft_offline.new.links.items in
-    let gone = c.draft_offline.new.lost.items in
+    let old = map file_entry_of c.args.basis.now.old.now in
+    let links = map g.L.Link.link_state c.args.pool.now.links.items in
+    let lost = c.args.pool.now.lost.items in
+    let now = map g.L.Link.link_state c.draft_offline.new.pool.links.items in
+    let gone = c.draft_offline.new.pool.lost.items in
     let draft = c.in_ok-draft.draft in
     let least = (g.C.Clock.state c.args.clock.now).least in
     let second = c.in_ok-draft.ensures.later.0 in

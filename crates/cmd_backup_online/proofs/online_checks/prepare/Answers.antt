@@ -12,13 +12,13 @@ use Rattle.cmd_backup_online.proofs.online_checks.prepare.Goals as goal
 
 pub returns-in_err-base-clause-cause : goal.returns-in_err-base-clause-cause
 returns-in_err-base-clause-cause g c =
-    let stanza = c.args.stanza.now in
+    let stanza = c.args.stanza.name.now in
     let kind = c.args.order.now.kind in
-    let known = c.args.known.now in
-    let a = archive_info_of c.args.archive.now in
-    let b = backup_info_of c.args.backup in
+    let known = c.args.stanza.control.now in
+    let a = archive_info_of c.args.stanza.archive.now in
+    let b = backup_info_of c.args.stanza.backup in
     let now = (g.D.Disk.state c.args.repo.now).view.now in
-    let used = take c.args.order.now.take.workers (map g.L.Link.link_state c.args.links.now.items) in
+    let used = take c.args.order.now.take.workers (map g.L.Link.link_state c.args.pool.now.links.items) in
     let least = (g.C.Clock.state c.args.clock.now).least in
     let repo = Rises (g.D.Disk.state c.args.repo.now).faults (g.D.Disk.state c.load_base.new.repo).faults in
     let clock = Rises (g.C.Clock.state c.args.clock.now).faults (g.C.Clock.state c.args.clock.now).faults in
@@ -27,10 +27,10 @@ returns-in_err-base-clause-cause g c =
 
 pub returns-in-Err-next_second-clause-cause : goal.returns-in-Err-next_second-clause-cause
 returns-in-Err-next_second-clause-cause g c =
-    let used = take c.args.order.now.take.workers (map g.L.Link.link_state c.args.links.now.items) in
+    let used = take c.args.order.now.take.workers (map g.L.Link.link_state c.args.pool.now.links.items) in
     let x = (g.D.Disk.state c.args.repo.now) in
     let y = (g.D.Disk.state c.load_base.new.repo) in
     let z = (g.D.Disk.state c.next_second.new.d) in
-    second_stops c.args.stanza.now c.args.order.now.kind c.args.known.now (archive_info_of c.args.archive.now) (backup_info_of c.args.backup) x.view.now used
+    second_stops c.args.stanza.name.now c.args.order.now.kind c.args.stanza.control.now (archive_info_of c.args.stanza.archive.now) (backup_info_of c.args.stanza.backup) x.view.now used
     y.faults z.faults (g.C.Clock.state c.args.clock.now) (g.C.Clock.state c.next_second.new.clock) (Rises x.faults z.faults) (rises_from x.faults y.faults z.faults c.load_base.ensures.looks.later)
     c.in-Err-next_second.fault c.in-Err-next_second.ensures.cause c.of_backup-in-Err-next_second.result (c.of_backup-in-Err-next_second.ensures ∙ ap of_backup c.of_second.ensures)

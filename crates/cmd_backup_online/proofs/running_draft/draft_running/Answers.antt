@@ -10,7 +10,7 @@ use Rattle.cmd_backup_online.proofs.running_draft.draft_running.Goals as goal
 pub returns-in-Err-clause-cause : goal.returns-in-Err-clause-cause
 returns-in-Err-clause-cause g c =
     let seen = map seen_of c.args.seen.now in
-    halt_as (ListingCause seen) (UndraftedCause seen (map g.L.Link.link_state c.args.links.now.items) c.args.lost.now.items (map file_entry_of c.args.old.now)) (λ _. ⊥) (λ _. ⊥) (λ e h. inl h) (λ o h. h) c.of_plan.result
+    halt_as (ListingCause seen) (UndraftedCause seen (map g.L.Link.link_state c.args.pool.now.links.items) c.args.pool.now.lost.items (map file_entry_of c.args.basis.now.old.now)) (λ _. ⊥) (λ _. ⊥) (λ e h. inl h) (λ o h. h) c.of_plan.result
     (plan_cause seen c.filter.result c.in-Err.fault c.of_plan.result c.of_plan.ensures c.in-Err.ensures.refused c.filter.ensures.orderly c.in-Err.is)
 
 pub returns-in-Ok-draft_listed-clause-free : goal.returns-in-Ok-draft_listed-clause-free

@@ -13,7 +13,7 @@ use Rattle.cmd_backup_online.proofs.Talks.{OrServer, given_up, not_stopped, on_e
 use Rattle.cmd_backup_online.proofs.server_session.talk.Goals as goal
 
 pub returns-in-Err-gather-clause-cause : goal.returns-in-Err-gather-clause-cause
-returns-in-Err-gather-clause-cause g c = given_up c.args.stanza.now c.args.order.now.later (g.T.DataFolder.state c.args.tree.now).nodes (backup_info_of c.args.list) (map file_entry_of c.args.old.now) (map g.L.Link.link_state c.args.links.now.items) c.args.lost.now.items c.args.system
+returns-in-Err-gather-clause-cause g c = given_up c.args.task.basis.stanza.now c.args.task.basis.order (g.T.DataFolder.state c.args.tree.now).nodes (backup_info_of c.args.task.next.list) (map file_entry_of c.args.task.basis.old.now) (map g.L.Link.link_state c.args.pool.now.links.items) c.args.pool.now.lost.items c.args.task.system
     (g.V.ServerConnection.state c.args.server.now).pending (g.V.ServerConnection.state c.give_up.new.server).pending _ _ _ _ c.in-Err-gather.halt c.give_up.result c.give_up.ensures.halt c.in-Err-gather.ensures.cause
 
 pub returns-in_err-online-clause-unlisted : goal.returns-in_err-online-clause-unlisted
@@ -23,13 +23,13 @@ returns-in_err-online-clause-unlisted g c =
 
 pub returns-in_err-online-clause-cause : goal.returns-in_err-online-clause-cause
 returns-in_err-online-clause-cause g c =
-    let stanza = c.args.stanza.now in
+    let stanza = c.args.task.basis.stanza.now in
     let nodes = (g.T.DataFolder.state c.args.tree.now).nodes in
-    let order = c.args.order.now.later in
-    let list = backup_info_of c.args.list in
-    let files = map file_entry_of c.args.old.now in
-    let links = map g.L.Link.link_state c.args.links.now.items in
-    let before = c.args.lost.now.items in
+    let order = c.args.task.basis.order in
+    let list = backup_info_of c.args.task.next.list in
+    let files = map file_entry_of c.args.task.basis.old.now in
+    let links = map g.L.Link.link_state c.args.pool.now.links.items in
+    let before = c.args.pool.now.lost.items in
     let old = (g.V.ServerConnection.state c.args.server.now) in
     let mid = (g.V.ServerConnection.state c.start.new.connection) in
     let new = (g.V.ServerConnection.state c.end_talk.new.server) in
@@ -38,6 +38,6 @@ returns-in_err-online-clause-cause g c =
     let rose = Rises old.faults new.faults in
     let clock = Rises (g.C.Clock.state c.args.clock.now).faults (g.C.Clock.state c.gather.new.clock).faults in
     let Why = OfTalk (StopCause c.in-Ok.begun mid.pending new.pending ⊥) in
-    ends_with (HaltCause (SpokenCause stanza order nodes list files links before c.args.system old.pending new.pending) (OrServer repo tree rose clock)) c.from_residual.result c.in_err-online.field-0.0 c.from_residual.ensures.1
-    (not_stopped stanza order nodes list files links before c.args.system old.pending new.pending repo tree rose clock c.in-Ok.begun mid.pending c.in-Ok.ensures.known c.in_err-online.field-0.0
+    ends_with (HaltCause (SpokenCause stanza order nodes list files links before c.args.task.system old.pending new.pending) (OrServer repo tree rose clock)) c.from_residual.result c.in_err-online.field-0.0 c.from_residual.ensures.1
+    (not_stopped stanza order nodes list files links before c.args.task.system old.pending new.pending repo tree rose clock c.in-Ok.begun mid.pending c.in-Ok.ensures.known c.in_err-online.field-0.0
     (halt_as Why Why (Only objects.Server (Rises mid.faults new.faults)) (Only objects.Server rose) (λ e h. h) (server_from old.faults mid.faults new.faults c.start.ensures.later) c.in_err-online.field-0.0 c.in_err-online.ensures.cause))

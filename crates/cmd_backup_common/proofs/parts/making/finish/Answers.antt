@@ -18,5 +18,5 @@ returns-in-Err-clause-made g c = record {
 pub returns-in-Err-clause-cause : goal.returns-in-Err-clause-cause
 returns-in-Err-clause-cause g c =
     let count = subst (λ (es : List Lost). length es < 2 ^ 32 → c.count_of.result ≡ length es) c.deref.ensures.value c.count_of.ensures in
-    made_cause c.args.draft (map g.L.Link.link_state c.args.links.now.items) (map g.L.Link.link_state c.make.new.links.items) c.args.lost.now.items c.make.new.lost.items
+    made_cause c.args.draft (map g.L.Link.link_state c.args.pool.now.links.items) (map g.L.Link.link_state c.make.new.pool.links.items) c.args.pool.now.lost.items c.make.new.pool.lost.items
     _ _ _ _ c.count_of.result count c.in-Err.fault c.of_make.result c.of_make.ensures c.in-Err.ensures.fault
