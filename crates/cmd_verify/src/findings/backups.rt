@@ -19,6 +19,7 @@ use base_model::{Cluster, Entry, Label, Manifest};
 use std::alloc::Global;
 
 /// What backups are compared with: the labels that are listed, and the archived files.
+#[derive(Clone, Copy)]
 pub(crate) struct StanzaLists<'a> {
     pub labels: &'a [Label],
     pub files: &'a [Stored],

@@ -19,6 +19,7 @@ use std::alloc::Global;
 use std::cmp::Ordering;
 
 /// A backup's label, and its files.
+#[derive(Clone, Copy)]
 pub(crate) struct BackupFiles<'a> {
     pub label: &'a Label,
     pub files: &'a [FileEntry],
