@@ -1,5 +1,6 @@
 -- How a device in memory counts its calls.
-use Rattle.std.specs.Prelude.{◌≡◌, ℕ, ◌+◌, ◌-◌, ◌^◌, min, Bool, true, ◌||◌, ◌&&◌, nat_eq, if◌then◌else◌, Result, IsErr, IsErrOf}
+use Rattle.std.specs.Prelude.{◌≡◌, ℕ, ◌+◌, ◌-◌, ◌^◌, min, Bool, true, ◌||◌, ◌&&◌, not, nat_eq, if◌then◌else◌, Vec, Result, IsErr, IsErrOf}
+use Rattle.std.specs.declared.alloc.Global.{Global}
 use Rattle.std.specs.List.{list_any}
 use Rattle.base_devices.specs.declared.device_error.DeviceError.{DeviceError}
 use Rattle.base_devices.specs.declared.device_error.DeviceError.TheVariants.{Failed}
@@ -29,6 +30,14 @@ tried proper f = if is_to_fail f || proper then counted f else was_faulty_call (
 pub record FailsWhere {T : Type 0} (b : Bool) (result : Result T DeviceError) : Type 0 where
   pub always : b ≡ true → IsErr result
   pub only : IsErrOf result Failed → b ≡ true
+
+-- the call fails where it is one that is to fail, or this is false, and else only when out of memory
+abbrev pub FailsUnless : {T : Type 0} → Bool → Failing → Result T DeviceError → Type 0
+FailsUnless proper f result = FailsWhere (is_to_fail f || not proper) result
+
+-- no call was made so far; these are to fail
+abbrev pub uncounted : Vec ℕ Global → Failing
+uncounted fail = record { fail = fail; calls = 0; faults = 0; faulty_calls = 0 }
 
 -- after a call that failed though it was proper
 abbrev pub faulted : Failing → Failing

@@ -2,7 +2,9 @@
 use Rattle.std.specs.Prelude.{◌≡◌, Bool, false, Some, MatchBool}
 use Rattle.base_devices.specs.Content.{Name, Value, Content}
 use Rattle.base_devices.specs.Moments.{View, MayKeep, is_unsynced}
+use Rattle.memory_devices.specs.declared.disk.MemDisk.{MemDisk}
 use Rattle.memory_devices.specs.declared.held.Held.{Held}
+use Rattle.memory_devices.specs.Counts.{is_to_fail}
 use Rattle.memory_devices.specs.State.{State, after, first_state, view_at, Adds, newly_unsynced}
 
 -- what a disk in memory holds, and what is known of it
@@ -25,6 +27,10 @@ pub record IsAsBefore (old new : Held) : Type 0 where
 -- a begin, an append or a sync that is to fail makes its name unsynced
 abbrev pub FailsAt : Name → Bool → Held → Held → Type 0
 FailsAt name to_fail old new = MatchBool to_fail (Notes (newly_unsynced name) old new) (IsAsBefore old new)
+
+-- so on a disk, whose next call may be one that is to fail
+abbrev pub FailsAtName : Name → MemDisk → MemDisk → Type 0
+FailsAtName name old new = FailsAt name (is_to_fail old.failing) old.held new.held
 
 -- a disk with this content at its first moment, of which a crash leaves nothing else
 pub record StartsWith (content : Content) (v : View) : Type 0 where

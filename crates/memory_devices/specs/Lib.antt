@@ -9,3 +9,5 @@ pub mod Nodes
 pub mod TreeFault
 pub mod InputFiles
 pub mod Locks
+pub mod Listed
+pub mod Chosen

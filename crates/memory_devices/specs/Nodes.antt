@@ -1,12 +1,15 @@
 -- A tree in memory: nodes by path, each in a folder that is there.
 use Rattle.std.specs.declared.alloc.Global.{Global}
 use Rattle.std.specs.BTreeMap.{BTreeMap, get_by_text}
-use Rattle.std.specs.Prelude.{◌≡◌, ℕ, Bool, true, false, not, ◌&&◌, nat_eq, if◌then◌else◌, List, [], ◌∷◌, ◌++◌, String, string_bytes, Option, Some, None, option_map, IsSome, fold}
+use Rattle.std.specs.Prelude.{◌≡◌, ℕ, Bool, true, false, not, ◌&&◌, nat_eq, if◌then◌else◌, List, [], ◌∷◌, ◌++◌, String, string_bytes, Option, Some, None, option_map, IsSome, IsSomeAnd, fold}
 use Rattle.std.specs.List.{list_any}
 use Rattle.base_devices.specs.Content.{Name, is_below}
-use Rattle.base_devices.specs.DataFolder.{Held, file, folder, link, other, Nodes, with_node}
+use Rattle.base_devices.specs.DataFolder.{Held, file, folder, link, other, Nodes, with_node, with_empty_file}
+use Rattle.base_devices.specs.States.{DataFolderState}
+use Rattle.memory_devices.specs.declared.failing.Failing.{Failing}
 use Rattle.memory_devices.specs.declared.nodes.MemNode.{MemNode}
 use Rattle.memory_devices.specs.declared.nodes.MemNode.TheVariants.{File, Folder, Link}
+use Rattle.memory_devices.specs.Counts.{tried_on}
 
 -- the nodes of a data folder in memory
 abbrev pub node_of : MemNode → Held
@@ -81,6 +84,14 @@ IsLost nodes path = IsSome (nodes path) × (is_placed nodes path ≡ false)
 abbrev pub tree_at : List (String Global × MemNode) → Nodes
 tree_at = fold (λ f x. with_node (string_bytes x.0) (Some (node_of x.1)) f) (λ _. None)
 
+-- a data folder has these nodes
+abbrev pub HasTree : List (String Global × MemNode) → DataFolderState → Type 0
+HasTree nodes tree = tree.nodes ≡ Some (tree_at nodes)
+
+-- it has this node at the path, or none
+abbrev pub HasNode : Name → Option Held → DataFolderState → Type 0
+HasNode path node tree = IsSomeAnd tree.nodes (λ f. node ≡ f path)
+
 -- nothing lies below the path
 abbrev pub holds_nothing : Name → BTreeMap (String Global) MemNode → Bool
 holds_nothing path nodes = not (list_any (λ e. is_below path (string_bytes e.0)) nodes.entries)
@@ -91,3 +102,23 @@ longer_node more (file bytes time) = file (bytes ++ more) time
 longer_node more folder = folder
 longer_node more link = link
 longer_node more other = other
+
+-- with these bytes at the end of the file at the path
+abbrev pub with_longer : Name → List ℕ → Nodes → Nodes
+with_longer path bytes nodes = with_node path (option_map (longer_node bytes) (nodes path)) nodes
+
+-- with a file of no bytes at the path, where it was begun
+abbrev pub begun_if : Bool → Name → Nodes → Nodes
+begun_if made path nodes = if made then with_empty_file path 0 nodes else nodes
+
+-- ---- the counts after a call
+
+-- after a make, a begin and a rename
+abbrev pub tried_make : Nodes → Name → Failing → Failing
+tried_make nodes path = tried_on (is_placed nodes path) (takes_folder (nodes path))
+
+abbrev pub tried_begin : Nodes → Name → Failing → Failing
+tried_begin nodes path = tried_on (is_placed nodes path) (takes_file (nodes path))
+
+abbrev pub tried_move : Nodes → Name → Name → Failing → Failing
+tried_move nodes from to = tried_on (is_file (nodes from) && is_placed nodes to) (not (is_folder (nodes to)))

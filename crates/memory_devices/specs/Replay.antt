@@ -1,7 +1,7 @@
 -- The disk model name by name, and its changes followed anew.
 use Rattle.std.specs.declared.alloc.Global.{Global}
 use Rattle.std.specs.BTreeMap.{BTreeMap, get_by_text}
-use Rattle.std.specs.Prelude.{ℕ, Bool, true, false, ◌||◌, ◌&&◌, is_some, List, [], ◌∷◌, ◌++◌, Option, Some, None, option_map, String, Vec, string_bytes, map, filter, fold, if◌then◌else◌}
+use Rattle.std.specs.Prelude.{◌≡◌, bytes_eq, ℕ, Bool, true, false, ◌||◌, ◌&&◌, is_some, List, [], ◌∷◌, ◌++◌, Option, Some, None, option_map, String, Vec, string_bytes, map, filter, fold, if◌then◌else◌}
 use Rattle.base_devices.specs.Content.{Name, Value, set_at}
 use Rattle.memory_devices.specs.declared.change.Change.{Change}
 use Rattle.memory_devices.specs.declared.change.Change.TheVariants.{Begun, Appended, Unsynced, Synced, Renamed, Removed, Swept}
@@ -112,3 +112,23 @@ names_under these entries = map (λ e. string_bytes e.0) (filter (λ e. these (s
 -- each of the names is swept
 abbrev pub each_swept : Sweep → List (String Global) → NameStates → NameStates
 each_swept sweep names f = fold (λ g n. changed_at (string_bytes n) (swept_at sweep) g) f names
+
+-- a name that is given the value of another
+abbrev pub with_arrived : Name → Option (Vec ℕ Global) → Bool → NameStates → NameStates
+with_arrived name value unsynced f = changed_at name (arrived_at (value_of value) unsynced) f
+
+-- the same of one name's state
+abbrev pub arrived : Option (Vec ℕ Global) → Bool → NameState → NameState
+arrived value unsynced s = arrived_at (value_of value) unsynced s
+
+-- what the change makes, unless the two names are the same
+abbrev pub unless_same : {X : Type 0} → Name → Name → (X → X) → X → X
+unless_same from to change x = if bytes_eq from to then x else change x
+
+-- a name that is removed, unless it is the other one
+abbrev pub removed_other : Name → Name → NameStates → NameStates
+removed_other from to f = unless_same from to (changed_at from removed_at) f
+
+-- the two have the same states at each other name
+abbrev pub AgreeBut : Name → NameStates → NameStates → Type 0
+AgreeBut name old new = (s : NameState) → set_at name s new ≡ set_at name s old

@@ -2,6 +2,7 @@
 ghost use Rattle.std.specs.Prelude.{◌≡◌, ◌≢◌, ◌∷◌, ◌++◌, Some, option_map, IfSome, IfNone};
 ghost use Rattle.base_devices.specs.Content.{Name, is_below, IsFolderName};
 ghost use Rattle.memory_devices.specs.State.{is_directly_in, takes_in};
+ghost use Rattle.memory_devices.specs.Listed.{IsFirstFolder, IsFolderWithin};
 
 use crate::change::Sweep;
 
@@ -43,8 +44,7 @@ fn after_folder<'a>(path: &'a str, folder: &str) -> Option<&'a str>
 // What comes before the first slash, where it is a folder's name.
 fn first_folder(path: &str) -> Option<&str>
     ensures value { IfSome result (λ x. IsFolderName x.now) }
-    ensures first { (x rest : Name) → IsFolderName x → path.now ≡ x ++ 47 ∷ rest
-        → option_map (λ t. t.now) result ≡ Some x }
+    ensures first { IsFirstFolder path.now (option_map (λ t. t.now) result) }
 {
     let (name, _) = path.split_once('/')?;
     if name.is_empty() { None } else { Some(name) }
@@ -53,8 +53,7 @@ fn first_folder(path: &str) -> Option<&str>
 /// The name of the folder directly in this one through which the path leads, where it does.
 pub(crate) fn folder_within<'a>(path: &'a str, folder: &str) -> Option<&'a str>
     ensures value { IfSome result (λ x. IsFolderName x.now) }
-    ensures within { (x rest : Name) → IsFolderName x → path.now ≡ folder.now ++ 47 ∷ x ++ 47 ∷ rest
-        → option_map (λ t. t.now) result ≡ Some x }
+    ensures within { IsFolderWithin path.now folder.now (option_map (λ t. t.now) result) }
 {
     first_folder(after_folder(path, folder)?)
 }

@@ -1,17 +1,20 @@
 // A disk in memory, with the record of what was done to it.
-ghost use Rattle.std.specs.Prelude.{◌↔◌, true, false, ℕ, List, Option, Contains, ◌≡◌, ◌≤◌, ◌||◌, [], map, not, IsSomeAnd, length, string_bytes, is_some, option_map, IfOk, IfSome, OnOk, OnErr, IsErrOf};
+ghost use Rattle.std.specs.Prelude.{true, Option, ◌≡◌, ◌≤◌, [], map, length, string_bytes, is_some, option_map, IfOk, IfSome, OnOk, OnErr, IsErrOf};
 ghost use Rattle.base_devices.specs.Cause.{HasCause};
 ghost use Rattle.base_devices.specs.States.{Opens, last_opened};
-ghost use Rattle.base_devices.specs.Content.{IsListing, AreFolders, Reads};
+ghost use Rattle.base_devices.specs.Content.{Holds, Reads};
 ghost use Rattle.base_devices.specs.declared.device_error.DeviceError.TheVariants.{Failed, NoMemory};
 ghost use Rattle.base_devices.specs.Moments.{IsImage};
 ghost use Rattle.memory_devices.specs.Replay.{value_of};
-ghost use Rattle.memory_devices.specs.Image.{states_then, image_of, are_unsynced, are_kept};
-ghost use Rattle.memory_devices.specs.Counts.{is_to_fail, counted, tried, FailsWhere};
-ghost use Rattle.memory_devices.specs.State.{Among, first_state, given_at, begun, appended, after_sync, renamed, removed, swept};
+ghost use Rattle.memory_devices.specs.Locks.{names_in};
+ghost use Rattle.memory_devices.specs.Image.{states_then, are_unsynced, are_kept};
+ghost use Rattle.memory_devices.specs.Counts.{is_to_fail, counted, tried, FailsWhere, FailsUnless, uncounted};
+ghost use Rattle.memory_devices.specs.State.{first_state, given_at, begun, appended, after_sync, renamed, removed, swept};
 ghost use Rattle.memory_devices.specs.declared.change.Sweep.TheVariants.{SyncFolders, SyncFolder, Sync};
-ghost use Rattle.memory_devices.specs.Held.{StartsWith, state_of, view_of, Notes, IsAsBefore, FailsAt};
+ghost use Rattle.memory_devices.specs.Held.{StartsWith, state_of, view_of, Notes, IsAsBefore, FailsAtName};
 ghost use Rattle.memory_devices.specs.Fair.{may_be_left, fair_first};
+ghost use Rattle.memory_devices.specs.Listed.{HoldsFolders, ListsContent, ListsKept, ListsUnsynced};
+ghost use Rattle.memory_devices.specs.Chosen.{LeavesChosen, NotKeptAt, NotUnsyncedAt};
 
 use crate::change::Sweep;
 use crate::failing::Failing;
@@ -39,7 +42,7 @@ impl MemDisk {
         fail: Vec<u64>,
     ) -> Result<Self, AllocError>
         ensures view { IfOk result (λ d. StartsWith (given_at names.items) (⟦<MemDisk as Disk>⟧.state d).view) }
-        ensures counts { IfOk result (λ d. d.failing ≡ record { fail = fail; calls = 0; faults = 0; faulty_calls = 0 }) }
+        ensures counts { IfOk result (λ d. d.failing ≡ uncounted fail) }
         ensures opened { IfOk result (λ d. (⟦<MemDisk as Disk>⟧.state d).opened ≡ []) }
     {
         Ok(MemDisk {
@@ -52,8 +55,7 @@ impl MemDisk {
 
     /// The bytes that a name holds, where it is there.
     pub fn bytes(&self, name: &str) -> Option<&[u8]>
-        ensures { IsSomeAnd (⟦<MemDisk as Disk>⟧.state self.now).view.now
-            (λ f. option_map (λ b. b.now) result ≡ f name.now) }
+        ensures { Holds (⟦<MemDisk as Disk>⟧.state self.now).view.now name.now (option_map (λ b. b.now) result) }
     {
         self.held.bytes(name)
     }
@@ -67,8 +69,7 @@ impl MemDisk {
 
     /// The names at which a crash at that moment may leave any bytes.
     pub fn unsynced(&self, alloc: Global, moment: u64) -> Result<Vec<String>, AllocError>
-        ensures { IfOk result (λ names. (n : List ℕ) → Contains (map string_bytes names.items) n
-            ↔ ((⟦<MemDisk as Disk>⟧.state self.now).view.unsynced moment n ≡ true)) }
+        ensures { IfOk result (λ names. ListsUnsynced (⟦<MemDisk as Disk>⟧.state self.now).view moment names.items) }
     {
         let traces = self.held.traces(alloc, moment)?;
         unsynced_in(alloc, &traces)
@@ -82,9 +83,9 @@ impl MemDisk {
         name: &str,
     ) -> Result<Vec<Option<Vec<u8>>>, AllocError>
         ensures values { IfOk result
-            (λ values. map value_of values.items ≡ (states_then self.now.held moment name.now).kept) }
-        ensures kept { IfOk result (λ values. (v : Option (List ℕ)) → Among v (map value_of values.items)
-            ↔ (⟦<MemDisk as Disk>⟧.state self.now).view.kept moment name.now v) }
+            (λ v. map value_of v.items ≡ (states_then self.now.held moment name.now).kept) }
+        ensures kept { IfOk result
+            (λ v. ListsKept (⟦<MemDisk as Disk>⟧.state self.now).view moment name.now v.items) }
     {
         let traces = self.held.traces(alloc, moment)?;
         kept_in(alloc, &traces, name)
@@ -101,15 +102,14 @@ impl MemDisk {
         unsynced: &[(String, Vec<u8>)],
     ) -> Result<Vec<(String, Vec<u8>)>, ImageFault>
         ensures image { IfOk result
-            (λ names. IsImage (⟦<MemDisk as Disk>⟧.state self.now).view moment (given_at names.items)) }
+            (λ x. IsImage (⟦<MemDisk as Disk>⟧.state self.now).view moment (given_at x.items)) }
         ensures content { IfOk result
-            (λ names. given_at names.items ≡ image_of (states_then self.now.held moment) choice.now unsynced.now) }
+            (λ x. LeavesChosen self.now.held moment choice.now unsynced.now x.items) }
         ensures unsynced { OnOk result (are_unsynced (states_then self.now.held moment) unsynced.now ≡ true) }
         ensures kept { OnOk result (are_kept (states_then self.now.held moment) choice.now ≡ true) }
         ensures not_unsynced { IsErrOf result ImageFault.NotUnsynced
-            → are_unsynced (states_then self.now.held moment) unsynced.now ≡ false }
-        ensures position { IsErrOf result ImageFault.Position
-            → are_kept (states_then self.now.held moment) choice.now ≡ false }
+            → NotUnsyncedAt self.now.held moment unsynced.now }
+        ensures position { IsErrOf result ImageFault.Position → NotKeptAt self.now.held moment choice.now }
     {
         let traces = self.held.traces(alloc, moment)?;
         image_in(alloc, &traces, choice, unsynced)
@@ -159,8 +159,7 @@ impl Disk for MemDisk {
         (fair_first d.held.given.items) d.held.changes.items n v holds };
 
     fn open(&mut self, path: &str) -> Result<(), DeviceError>
-        ensures opens { Opens result path.now (map string_bytes self.old.opened.items)
-            (map string_bytes self.new.opened.items) }
+        ensures opens { Opens result path.now (names_in self.old.opened.items) (names_in self.new.opened.items) }
         ensures same { IsAsBefore self.old.held self.new.held }
         ensures fails { FailsWhere (is_to_fail self.old.failing) result }
         ensures counts { self.new.failing ≡ counted self.old.failing }
@@ -176,8 +175,7 @@ impl Disk for MemDisk {
 
     fn names(&mut self, alloc: Global, folder: &str) -> Result<Vec<Found>, DeviceError>
         ensures listing { IfOk result
-            (λ found. IsListing folder.now (state_of self.old.held).now
-            (map (λ x. (string_bytes x.name, x.size)) found.items)) }
+            (λ found. ListsContent folder.now (state_of self.old.held).now found.items) }
         ensures same { IsAsBefore self.old.held self.new.held }
         ensures fails { FailsWhere (is_to_fail self.old.failing) result }
         ensures counts { self.new.failing ≡ counted self.old.failing }
@@ -192,7 +190,7 @@ impl Disk for MemDisk {
 
     fn folders(&mut self, alloc: Global, folder: &str) -> Result<Vec<String>, DeviceError>
         ensures folders { IfOk result
-            (λ known. AreFolders folder.now (state_of self.old.held).now (map string_bytes known.items)) }
+            (λ known. HoldsFolders folder.now (state_of self.old.held).now known.items) }
         ensures same { IsAsBefore self.old.held self.new.held }
         ensures fails { FailsWhere (is_to_fail self.old.failing) result }
         ensures counts { self.new.failing ≡ counted self.old.failing }
@@ -223,8 +221,7 @@ impl Disk for MemDisk {
 
     fn begin(&mut self, name: &str) -> Result<(), DeviceError>
         ensures ok { OnOk result (Notes (begun name.now) self.old.held self.new.held) }
-        ensures failed { IsErrOf result Failed → FailsAt name.now
-            (is_to_fail self.old.failing) self.old.held self.new.held }
+        ensures failed { IsErrOf result Failed → FailsAtName name.now self.old self.new }
         ensures memory { IsErrOf result NoMemory → IsAsBefore self.old.held self.new.held }
         ensures fails { FailsWhere (is_to_fail self.old.failing) result }
         ensures counts { self.new.failing ≡ counted self.old.failing }
@@ -241,11 +238,9 @@ impl Disk for MemDisk {
 
     fn append(&mut self, name: &str, bytes: &[u8]) -> Result<(), DeviceError>
         ensures ok { OnOk result (Notes (appended name.now bytes.now) self.old.held self.new.held) }
-        ensures failed { IsErrOf result Failed → FailsAt name.now
-            (is_to_fail self.old.failing) self.old.held self.new.held }
+        ensures failed { IsErrOf result Failed → FailsAtName name.now self.old self.new }
         ensures memory { IsErrOf result NoMemory → IsAsBefore self.old.held self.new.held }
-        ensures fails { FailsWhere
-            (is_to_fail self.old.failing || not (is_some ((state_of self.old.held).now name.now))) result }
+        ensures fails { FailsUnless (is_some ((state_of self.old.held).now name.now)) self.old.failing result }
         ensures counts { self.new.failing ≡ tried (is_some ((state_of self.old.held).now name.now)) self.old.failing }
         ensures opened { self.new.opened.items ≡ self.old.opened.items }
         ensures cause { HasCause self.old.failing.faults self.new.failing.faults result }
@@ -263,11 +258,9 @@ impl Disk for MemDisk {
 
     fn sync(&mut self, name: &str) -> Result<(), DeviceError>
         ensures ok { OnOk result (Notes (after_sync name.now) self.old.held self.new.held) }
-        ensures failed { IsErrOf result Failed → FailsAt name.now
-            (is_to_fail self.old.failing) self.old.held self.new.held }
+        ensures failed { IsErrOf result Failed → FailsAtName name.now self.old self.new }
         ensures memory { IsErrOf result NoMemory → IsAsBefore self.old.held self.new.held }
-        ensures fails { FailsWhere
-            (is_to_fail self.old.failing || not (is_some ((state_of self.old.held).now name.now))) result }
+        ensures fails { FailsUnless (is_some ((state_of self.old.held).now name.now)) self.old.failing result }
         ensures counts { self.new.failing ≡ tried (is_some ((state_of self.old.held).now name.now)) self.old.failing }
         ensures opened { self.new.opened.items ≡ self.old.opened.items }
         ensures cause { HasCause self.old.failing.faults self.new.failing.faults result }
@@ -286,8 +279,7 @@ impl Disk for MemDisk {
     fn rename(&mut self, from: &str, to: &str) -> Result<(), DeviceError>
         ensures ok { OnOk result (Notes (renamed from.now to.now) self.old.held self.new.held) }
         ensures err { OnErr result (IsAsBefore self.old.held self.new.held) }
-        ensures fails { FailsWhere
-            (is_to_fail self.old.failing || not (is_some ((state_of self.old.held).now from.now))) result }
+        ensures fails { FailsUnless (is_some ((state_of self.old.held).now from.now)) self.old.failing result }
         ensures counts { self.new.failing ≡ tried (is_some ((state_of self.old.held).now from.now)) self.old.failing }
         ensures opened { self.new.opened.items ≡ self.old.opened.items }
         ensures cause { HasCause self.old.failing.faults self.new.failing.faults result }

@@ -4,7 +4,7 @@ ghost use Rattle.base_devices.specs.Cause.{HasCause};
 ghost use Rattle.base_devices.specs.Content.{Reads};
 ghost use Rattle.memory_devices.specs.Agrees.{bytes_at};
 ghost use Rattle.memory_devices.specs.State.{given_at};
-ghost use Rattle.memory_devices.specs.Counts.{is_to_fail, counted, FailsWhere};
+ghost use Rattle.memory_devices.specs.Counts.{is_to_fail, counted, FailsWhere, uncounted};
 
 use crate::copy::copy_part;
 use crate::failing::Failing;
@@ -32,7 +32,7 @@ impl MemFiles {
     ) -> Result<Self, AllocError>
         ensures files { IfOk result (λ f. ⟦<MemFiles as Files>⟧.files f ≡ Some (given_at files.items)) }
         ensures place { IfOk result (λ f. ⟦<MemFiles as Files>⟧.place f ≡ []) }
-        ensures counts { IfOk result (λ f. f.failing ≡ record { fail = fail; calls = 0; faults = 0; faulty_calls = 0 }) }
+        ensures counts { IfOk result (λ f. f.failing ≡ uncounted fail) }
     {
         Ok(MemFiles {
             alloc,

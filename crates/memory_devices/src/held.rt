@@ -1,8 +1,10 @@
 // What a disk in memory holds, besides the record of the changes that made it.
-ghost use Rattle.std.specs.Prelude.{◌≡◌, ◌≤◌, [], length, IfSome, IfOk, OnOk, OnErr, IsSome, Some, None, not, bytes_eq, if◌then◌else◌, is_some, option_map, map, string_bytes};
-ghost use Rattle.base_devices.specs.Content.{Content, IsListing, AreFolders, Reads, put, lengthened, moved};
+ghost use Rattle.std.specs.Prelude.{◌≡◌, ◌≤◌, [], length, IfSome, IfOk, OnOk, OnErr, IsSome, Some, None, is_some, option_map, map, string_bytes};
+ghost use Rattle.base_devices.specs.Content.{AreFolders, Reads, put, lengthened, moved};
 ghost use Rattle.memory_devices.specs.Agrees.{Agrees, bytes_at};
 ghost use Rattle.memory_devices.specs.State.{given_at};
+ghost use Rattle.memory_devices.specs.Listed.{FoldersAmong, ListsContent};
+ghost use Rattle.memory_devices.specs.Replay.{unless_same};
 
 use crate::below::{folder_within, lies_below};
 use crate::change::{Change, Sweep};
@@ -72,8 +74,7 @@ impl Held {
 
     /// Every name at any depth below the folder, with the length of its bytes, in byte order.
     pub(crate) fn below(&self, alloc: Global, folder: &str) -> Result<Vec<Found>, AllocError>
-        ensures { IfOk result (λ found. IsListing folder.now (state_of self.now).now
-            (map (λ x. (string_bytes x.name, x.size)) found.items)) }
+        ensures { IfOk result (λ found. ListsContent folder.now (state_of self.now).now found.items) }
     {
         names_below(alloc, &self.names, folder)
     }
@@ -201,8 +202,7 @@ pub(crate) fn names_of(alloc: Global, given: &[(String, Vec<u8>)]) -> Result<Nam
 
 // The names of a map that lie below the folder.
 fn names_below(alloc: Global, names: &Names, folder: &str) -> Result<Vec<Found>, AllocError>
-    ensures { IfOk result (λ found. IsListing folder.now (bytes_at names.now)
-        (map (λ x. (string_bytes x.name, x.size)) found.items)) }
+    ensures { IfOk result (λ found. ListsContent folder.now (bytes_at names.now) found.items) }
 {
     let mut found = Vec::new(alloc);
     for (name, bytes) in names {
@@ -218,9 +218,7 @@ fn names_below(alloc: Global, names: &Names, folder: &str) -> Result<Vec<Found>,
 
 // The folders directly in the folder through which the names that were found below it lead.
 fn folders_among(alloc: Global, found: &[Found], folder: &str) -> Result<Vec<String>, AllocError>
-    ensures { IfOk result (λ known. (f : Content) → IsListing folder.now f
-        (map (λ x. (string_bytes x.name, x.size)) found.now)
-        → AreFolders folder.now f (map string_bytes known.items)) }
+    ensures { IfOk result (λ known. FoldersAmong folder.now found.now known.items) }
 {
     let mut known = Vec::new(alloc);
     for Found { name, .. } in found {
@@ -270,8 +268,7 @@ fn copy_of(alloc: Global, names: &Names, name: &str) -> Result<Vec<u8>, AllocErr
 
 // Removes a name, but not where it is the other one.
 fn drop_other(names: &mut Names, from: &str, to: &str)
-    ensures { bytes_at names.new ≡
-        (if bytes_eq from.now to.now then bytes_at names.old else put from.now None (bytes_at names.old)) }
+    ensures { bytes_at names.new ≡ unless_same from.now to.now (put from.now None) (bytes_at names.old) }
 {
     if from != to {
         let _ = names.remove(from);

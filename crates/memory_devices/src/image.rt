@@ -1,11 +1,13 @@
 // What a crash leaves of a disk in memory.
-ghost use Rattle.std.specs.Prelude.{◌≡◌, ◌↔◌, ℕ, List, true, false, nat_lt, length, IsErrOf, IfOk, OnOk, IsSome, Some, None, map, string_bytes, Contains, option_map};
+ghost use Rattle.std.specs.Prelude.{◌≡◌, ℕ, List, true, false, nat_lt, length, IsErrOf, IfOk, OnOk, IsSome, Some, None, map};
 ghost use Rattle.base_devices.specs.Content.{set_at};
 ghost use Rattle.memory_devices.specs.Agrees.{bytes_at};
 ghost use Rattle.memory_devices.specs.declared.image.ImageFault.TheVariants.{NoMemory};
 ghost use Rattle.memory_devices.specs.State.{given_at};
-ghost use Rattle.memory_devices.specs.Replay.{states_in, state_of_trace, value_of};
-ghost use Rattle.memory_devices.specs.Image.{positions_at, positions_in, left_value, left_of, image_of, are_unsynced, are_kept};
+ghost use Rattle.memory_devices.specs.Replay.{states_in, value_of};
+ghost use Rattle.memory_devices.specs.Image.{positions_at, positions_in, image_of, are_unsynced, are_kept};
+ghost use Rattle.memory_devices.specs.Chosen.{AreNotUnsynced, left_by, value_left};
+ghost use Rattle.memory_devices.specs.Listed.{ListsUnsyncedIn};
 
 use crate::held::{Names, names_of};
 use crate::replay::{Traces, is_unsynced};
@@ -43,8 +45,7 @@ impl<T: Drop> From<AllocFailed<T>> for ImageFault {
 
 /// The unsynced names.
 pub(crate) fn unsynced_in(alloc: Global, traces: &Traces) -> Result<Vec<String>, AllocError>
-    ensures { IfOk result (λ names. (n : List ℕ) → Contains (map string_bytes names.items) n
-        ↔ ((states_in traces.now n).unsynced ≡ true)) }
+    ensures { IfOk result (λ names. ListsUnsyncedIn (states_in traces.now) names.items) }
 {
     let mut names = Vec::new(alloc);
     for (name, trace) in traces {
@@ -82,11 +83,11 @@ pub(crate) fn image_in(
     unsynced: &[(String, Vec<u8>)],
 ) -> Result<Vec<(String, Vec<u8>)>, ImageFault>
     ensures content { IfOk result
-        (λ names. given_at names.items ≡ image_of (states_in traces.now) choice.now unsynced.now) }
+        (λ x. given_at x.items ≡ image_of (states_in traces.now) choice.now unsynced.now) }
     ensures unsynced { OnOk result (are_unsynced (states_in traces.now) unsynced.now ≡ true) }
     ensures kept { OnOk result (are_kept (states_in traces.now) choice.now ≡ true) }
-    ensures not_unsynced { IsErrOf result ImageFault.NotUnsynced → are_unsynced (states_in traces.now) unsynced.now ≡
-        false }
+    ensures not_unsynced { IsErrOf result ImageFault.NotUnsynced
+        → AreNotUnsynced (states_in traces.now) unsynced.now }
     ensures position { IsErrOf result ImageFault.Position → are_kept (states_in traces.now) choice.now ≡ false }
 {
     if !all_unsynced(traces, unsynced) {
@@ -167,9 +168,7 @@ fn left_in(
     given: &Names,
 ) -> Result<Vec<(String, Vec<u8>)>, AllocError>
     requires { (n : List ℕ) → IsSome (bytes_at given.now n) → (states_in traces.now n).unsynced ≡ true }
-    ensures { IfOk result (λ names. given_at names.items
-        ≡ left_of (states_in traces.now) (positions_in positions.now)
-        (bytes_at given.now)) }
+    ensures { IfOk result (λ names. given_at names.items ≡ left_by traces.now positions.now given.now) }
 {
     let mut names = Vec::new(alloc);
     for (name, trace) in traces {
@@ -189,8 +188,7 @@ fn left_at(
     positions: &Positions,
     given: &Names,
 ) -> Result<Option<Vec<u8>>, AllocError>
-    ensures { IfOk result (λ v. value_of v ≡ left_value (state_of_trace trace.now)
-        (positions_in positions.now name.now) (bytes_at given.now name.now)) }
+    ensures { IfOk result (λ v. value_of v ≡ value_left name.now trace.now positions.now given.now) }
 {
     match given.get(name) {
         Some(bytes) => Ok(Some(bytes.to_vec(alloc)?)),

@@ -5,7 +5,7 @@ ghost use Rattle.base_devices.specs.Cause.{HasCause, Rises};
 ghost use Rattle.base_devices.specs.Locking.{with_lock, without};
 ghost use Rattle.base_devices.specs.declared.locks.LockAnswer.TheVariants.{Busy};
 ghost use Rattle.memory_devices.specs.Counts.{is_to_fail, counted, FailsWhere};
-ghost use Rattle.memory_devices.specs.Locks.{names_in, locks_in, refused};
+ghost use Rattle.memory_devices.specs.Locks.{names_in, locks_in, refused, taken_names, all_taken, AddsLock, KeepsLocks};
 
 use crate::failing::Failing;
 use base_devices::{DeviceError, LockAnswer, Locks};
@@ -82,10 +82,8 @@ impl MemLocks {
     // Notes a lock that was taken.
     fn note(&mut self, folder: &str, name: &str) -> Result<(), AllocError>
         ensures taken { OnOk result (names_in self.new.taken.items ≡ name.now ∷ names_in self.old.taken.items) }
-        ensures ever_taken { OnOk result
-            (locks_in self.new.ever_taken.items ≡ (folder.now, name.now) ∷ locks_in self.old.ever_taken.items) }
-        ensures err { OnErr result ((self.new.taken.items ≡ self.old.taken.items)
-            × (self.new.ever_taken.items ≡ self.old.ever_taken.items)) }
+        ensures ever_taken { OnOk result (all_taken self.new ≡ (folder.now, name.now) ∷ all_taken self.old) }
+        ensures err { OnErr result (KeepsLocks self.old self.new) }
         ensures others { self.new.others ≡ self.old.others }
         ensures refusals { self.new.refusals ≡ self.old.refusals }
         ensures counts { self.new.failing ≡ self.old.failing }
@@ -113,16 +111,13 @@ impl Locks for MemLocks {
 
     fn take(&mut self, folder: &str, name: &str) -> Result<LockAnswer, DeviceError>
         requires { ¬ Contains (names_in self.old.taken.items) name.now }
-        ensures taken { IfOk result
-            (λ t. names_in self.new.taken.items ≡ with_lock t name.now (names_in self.old.taken.items)) }
-        ensures ever_taken { IfOk result
-            (λ t. locks_in self.new.ever_taken.items ≡ with_lock t (folder.now, name.now) (locks_in self.old.ever_taken.items)) }
+        ensures taken { IfOk result (λ t. taken_names self.new ≡ with_lock t name.now (taken_names self.old)) }
+        ensures ever_taken { IfOk result (λ t. AddsLock t (folder.now, name.now) self.old self.new) }
         ensures known { IfOk result (λ t. (t ≡ Busy) ↔ Contains (names_in self.old.others.items) name.now) }
         ensures held { IfOk result (λ t. t ≡ Busy → Rises self.old.refusals self.new.refusals) }
         ensures later { self.old.refusals ≤ self.new.refusals }
         ensures refusals { IfOk result (λ t. self.new.refusals ≡ refused t self.old.refusals) }
-        ensures err { OnErr result ((self.new.taken.items ≡ self.old.taken.items)
-            × (self.new.ever_taken.items ≡ self.old.ever_taken.items)) }
+        ensures err { OnErr result (KeepsLocks self.old self.new) }
         ensures err_refusals { OnErr result (self.new.refusals ≡ self.old.refusals) }
         ensures others { self.new.others ≡ self.old.others }
         ensures fails { FailsWhere (is_to_fail self.old.failing) result }

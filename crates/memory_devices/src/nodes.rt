@@ -1,8 +1,9 @@
 // A map of paths to nodes, in which each path's folder is there.
-ghost use Rattle.std.specs.Prelude.{◌≡◌, ◌≤◌, [], Option, Some, None, length, map, option_map, string_bytes, true, bytes_eq, if◌then◌else◌, MatchOption, IfOk, OnOk, OnErr, IfSome, is_none, not};
-ghost use Rattle.base_devices.specs.Content.{Reads};
-ghost use Rattle.base_devices.specs.DataFolder.{file, IsTreeListing, known_path, file_bytes, with_node, moved_node, shown};
-ghost use Rattle.memory_devices.specs.Nodes.{nodes_at, node_of, folder_of, is_file, is_folder, is_placed, takes_file, takes_folder, holds_nothing, longer_node, Rooted, IsLost, tree_at};
+ghost use Rattle.std.specs.Prelude.{◌≡◌, ◌≤◌, [], Option, Some, None, length, option_map, string_bytes, true, MatchOption, IfOk, OnOk, OnErr, IfSome, is_none};
+ghost use Rattle.base_devices.specs.DataFolder.{file, known_path, file_bytes, with_node, moved_node, shown};
+ghost use Rattle.memory_devices.specs.Nodes.{nodes_at, node_of, folder_of, is_file, is_folder, is_placed, takes_file, takes_folder, holds_nothing, longer_node, Rooted, IsLost, tree_at, with_longer};
+ghost use Rattle.memory_devices.specs.Listed.{ListsNodes, ReadsKnown};
+ghost use Rattle.memory_devices.specs.Replay.{unless_same};
 
 use crate::below::lies_below;
 use crate::copy::copy_part;
@@ -104,8 +105,7 @@ pub(crate) fn is_bare(nodes: &Nodes, path: &str) -> bool
 /// Every node, in byte order of the paths.
 pub(crate) fn list_nodes(alloc: Global, nodes: &Nodes) -> Result<Vec<FolderEntry>, AllocError>
     requires { Rooted (nodes_at nodes.now) }
-    ensures { IfOk result (λ seen. IsTreeListing (nodes_at nodes.now)
-        (map (λ s. (string_bytes s.path, s.node)) seen.items)) }
+    ensures { IfOk result (λ seen. ListsNodes (nodes_at nodes.now) seen.items) }
 {
     let mut seen = Vec::new(alloc);
     for (path, node) in nodes {
@@ -140,8 +140,7 @@ pub(crate) fn read_known(
     at: u64,
     buf: &mut [u8],
 ) -> Result<Option<usize>, AllocError>
-    ensures reads { IfOk result
-        (λ n. Reads (file_bytes (nodes_at nodes.now (known_path what.now))) at (length buf.old) buf.new n) }
+    ensures reads { IfOk result (λ n. ReadsKnown (nodes_at nodes.now) what.now at buf.old buf.new n) }
     ensures room { IfOk result (λ n. IfSome n (λ n. n ≤ length buf.old)) }
 {
     let path = path_of(alloc, what)?;
@@ -225,9 +224,7 @@ pub(crate) fn empty_file(alloc: Global) -> MemNode
 
 /// Adds bytes at the end of a file, whose time stays.
 pub(crate) fn extend_file(nodes: &mut Nodes, path: &str, more: &[u8]) -> Result<(), AllocError>
-    ensures ok { OnOk result
-        (nodes_at nodes.new ≡ with_node path.now (option_map (longer_node more.now) (nodes_at nodes.old path.now))
-        (nodes_at nodes.old)) }
+    ensures ok { OnOk result (nodes_at nodes.new ≡ with_longer path.now more.now (nodes_at nodes.old)) }
     ensures err { OnErr result (nodes_at nodes.new ≡ nodes_at nodes.old) }
 {
     match nodes.get_mut(path) {
@@ -272,8 +269,7 @@ fn copy_file(alloc: Global, nodes: &Nodes, path: &str) -> Result<MemNode, AllocE
 
 // Removes the node of a path, but not where it is the other one.
 fn take_other(nodes: &mut Nodes, from: &str, to: &str)
-    ensures { nodes_at nodes.new ≡
-        (if bytes_eq from.now to.now then nodes_at nodes.old else with_node from.now None (nodes_at nodes.old)) }
+    ensures { nodes_at nodes.new ≡ unless_same from.now to.now (with_node from.now None) (nodes_at nodes.old) }
 {
     if from != to {
         take_node(nodes, from);

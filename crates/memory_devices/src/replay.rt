@@ -1,9 +1,8 @@
 // What the changes of a disk in memory leave at each name, followed from its first names on.
-ghost use Rattle.std.specs.Prelude.{◌≡◌, IfOk, OnOk, None, map, string_bytes, bytes_eq, if◌then◌else◌, fold, option_map};
-ghost use Rattle.std.specs.Map.{keys_of};
+ghost use Rattle.std.specs.Prelude.{◌≡◌, IfOk, OnOk, None, map, string_bytes};
 ghost use Rattle.base_devices.specs.Content.{set_at};
 ghost use Rattle.memory_devices.specs.State.{first_state, after, takes_in};
-ghost use Rattle.memory_devices.specs.Replay.{NameState, states_in, states_of, state_of_trace, changed_at, step_at, begun_at, appended_at, unsynced_at, synced_at, removed_at, arrived_at, swept_at, swept_names, renamed_at, value_of, names_under, each_swept};
+ghost use Rattle.memory_devices.specs.Replay.{states_in, states_of, state_of_trace, changed_at, step_at, begun_at, appended_at, unsynced_at, synced_at, removed_at, swept_at, swept_names, renamed_at, value_of, names_under, each_swept, AgreeBut, removed_other, with_arrived};
 
 use crate::below::is_taken_in;
 use crate::change::{Change, Sweep};
@@ -107,9 +106,7 @@ fn rename(alloc: Global, traces: &mut Traces, from: &str, to: &str) -> Result<()
 
 // Removes a name, but not where it is the other one.
 fn remove_other(alloc: Global, traces: &mut Traces, from: &str, to: &str) -> Result<(), AllocError>
-    ensures { OnOk result (states_in traces.new ≡
-        (if bytes_eq from.now to.now then states_in traces.old else changed_at from.now removed_at
-        (states_in traces.old))) }
+    ensures { OnOk result (states_in traces.new ≡ removed_other from.now to.now (states_in traces.old)) }
 {
     if from != to {
         remove(alloc, traces, from)?;
@@ -125,8 +122,7 @@ fn arrive(
     value: Option<Vec<u8>>,
     unsynced: bool,
 ) -> Result<(), AllocError>
-    ensures { OnOk result (states_in traces.new ≡ changed_at name.now (arrived_at (value_of value) unsynced)
-        (states_in traces.old)) }
+    ensures { OnOk result (states_in traces.new ≡ with_arrived name.now value unsynced (states_in traces.old)) }
 {
     let mut trace = take(alloc, traces, name)?;
     trace.arrive(alloc, value, unsynced)?;
@@ -152,8 +148,8 @@ fn names_taken_in(
     sweep: Sweep,
     folder: &str,
 ) -> Result<Vec<String>, AllocError>
-    ensures { IfOk result (λ names. map string_bytes names.items ≡ names_under
-        (takes_in sweep folder.now) traces.now.entries) }
+    ensures { IfOk result
+        (λ x. map string_bytes x.items ≡ names_under (takes_in sweep folder.now) traces.now.entries) }
 {
     let mut names = Vec::new(alloc);
     for (name, _trace) in traces {
@@ -214,8 +210,7 @@ pub(crate) fn is_unsynced(traces: &Traces, name: &str) -> bool
 // Takes the trace of a name out, to be put back changed.
 fn take(alloc: Global, traces: &mut Traces, name: &str) -> Result<Trace, AllocError>
     ensures trace { IfOk result (λ t. state_of_trace t ≡ states_in traces.old name.now) }
-    ensures others { (s : NameState) → set_at name.now s (states_in traces.new) ≡ set_at name.now s
-        (states_in traces.old) }
+    ensures others { AgreeBut name.now (states_in traces.old) (states_in traces.new) }
 {
     match traces.remove(name) {
         Some(trace) => Ok(trace),

@@ -4,6 +4,7 @@ ghost use Rattle.base_devices.specs.Cause.{HasCause};
 ghost use Rattle.base_devices.specs.Streams.{Gives};
 ghost use Rattle.memory_devices.specs.Counts.{is_to_fail, counted, FailsWhere};
 ghost use Rattle.memory_devices.specs.Replay.{value_of};
+ghost use Rattle.memory_devices.specs.InputFiles.{IsUnmoved};
 
 use crate::copy::copy_part;
 use crate::failing::Failing;
@@ -74,8 +75,7 @@ impl InputFiles for MemInputFiles {
         ensures there { IfOk result (λ there. there ≡ is_some (value_of self.old.file)) }
         ensures start { OnOk result (self.new.at ≡ 0) }
         ensures place { OnOk result (string_bytes self.new.place ≡ path.now) }
-        ensures same { OnErr result ((self.new.at ≡ self.old.at)
-            × (string_bytes self.new.place ≡ string_bytes self.old.place)) }
+        ensures same { OnErr result (IsUnmoved self.old self.new) }
         ensures file { self.new.file ≡ self.old.file }
         ensures fails { FailsWhere (is_to_fail self.old.failing) result }
         ensures counts { self.new.failing ≡ counted self.old.failing }

@@ -1,6 +1,6 @@
 // What the changes of a disk in memory leave at one name.
 ghost use Rattle.std.specs.Prelude.{◌≡◌, IfOk, map};
-ghost use Rattle.memory_devices.specs.Replay.{value_of};
+ghost use Rattle.memory_devices.specs.Replay.{value_of, arrived};
 
 use crate::change::Sweep;
 use std::alloc::{AllocError, Global};
@@ -16,7 +16,7 @@ pub(crate) struct Trace {
 impl Trace {
     ghost use Rattle.std.specs.Prelude.{OnOk, length};
     ghost use Rattle.memory_devices.specs.Image.{picked};
-    ghost use Rattle.memory_devices.specs.Replay.{state_of_trace, first_at, begun_at, appended_at, unsynced_at, synced_at, removed_at, arrived_at, settled_at, all_synced_at, swept_at};
+    ghost use Rattle.memory_devices.specs.Replay.{state_of_trace, first_at, begun_at, appended_at, unsynced_at, synced_at, removed_at, settled_at, all_synced_at, swept_at};
 
     /// A name that keeps this value alone.
     pub(crate) fn new(alloc: Global, bytes: Option<Vec<u8>>) -> Result<Self, AllocError>
@@ -78,8 +78,7 @@ impl Trace {
         value: Option<Vec<u8>>,
         unsynced: bool,
     ) -> Result<(), AllocError>
-        ensures { OnOk result (state_of_trace self.new
-            ≡ arrived_at (value_of value) unsynced (state_of_trace self.old)) }
+        ensures { OnOk result (state_of_trace self.new ≡ arrived value unsynced (state_of_trace self.old)) }
     {
         self.kept.push(copy_of(alloc, &value)?)?;
         self.bytes = value;

@@ -1,11 +1,11 @@
 // A data folder in memory.
-ghost use Rattle.std.specs.Prelude.{◌≡◌, ◌≤◌, ◌||◌, ◌&&◌, [], map, not, is_none, if◌then◌else◌, IsSomeAnd, length, string_bytes, option_map, Some, None, IfOk, IfErr, IfSome, OnOk, OnErr};
+ghost use Rattle.std.specs.Prelude.{◌≡◌, ◌≤◌, ◌||◌, [], map, not, is_none, length, string_bytes, option_map, Some, None, IfOk, IfErr, IfSome, OnOk, OnErr};
 ghost use Rattle.base_devices.specs.Cause.{HasCause};
 ghost use Rattle.base_devices.specs.States.{Opens, last_opened};
-ghost use Rattle.base_devices.specs.Content.{Reads};
-ghost use Rattle.base_devices.specs.DataFolder.{file, folder as folder_node, IsTreeListing, known_path, file_bytes, with_node, moved_node};
-ghost use Rattle.memory_devices.specs.Nodes.{node_of, nodes_at, tree_at, is_file, is_folder, is_placed, takes_file, takes_folder, may_make, may_begin, may_move, holds_nothing, longer_node, Rooted};
-ghost use Rattle.memory_devices.specs.Counts.{is_to_fail, counted, tried, tried_on, FailsWhere};
+ghost use Rattle.base_devices.specs.DataFolder.{with_node, moved_node, with_empty_file, with_folder};
+ghost use Rattle.memory_devices.specs.Nodes.{node_of, nodes_at, tree_at, is_file, is_placed, may_make, may_begin, may_move, holds_nothing, Rooted, HasNode, HasTree, begun_if, tried_begin, tried_make, tried_move, with_longer};
+ghost use Rattle.memory_devices.specs.Counts.{is_to_fail, counted, tried, FailsWhere, FailsUnless, uncounted};
+ghost use Rattle.memory_devices.specs.Listed.{ListsNodes, ReadsKnown, known_bytes};
 
 use crate::failing::Failing;
 use crate::nodes::{
@@ -56,8 +56,8 @@ impl MemDataFolder {
         nodes: Vec<(String, MemNode)>,
         fail: Vec<u64>,
     ) -> Result<Self, TreeFault>
-        ensures nodes { IfOk result (λ t. (⟦<MemDataFolder as DataFolder>⟧.state t).nodes ≡ Some (tree_at nodes.items)) }
-        ensures counts { IfOk result (λ t. t.failing ≡ record { fail = fail; calls = 0; faults = 0; faulty_calls = 0 }) }
+        ensures nodes { IfOk result (λ t. HasTree nodes.items (⟦<MemDataFolder as DataFolder>⟧.state t)) }
+        ensures counts { IfOk result (λ t. t.failing ≡ uncounted fail) }
         ensures opened { IfOk result (λ t. (⟦<MemDataFolder as DataFolder>⟧.state t).opened ≡ []) }
         ensures lost { IfErr result (λ e. Names (tree_at nodes.items) e) }
         ensures rooted { OnOk result (Rooted (tree_at nodes.items)) }
@@ -77,8 +77,8 @@ impl MemDataFolder {
 
     /// What is at a path.
     pub fn node(&self, path: &str) -> Option<&MemNode>
-        ensures { IsSomeAnd (⟦<MemDataFolder as DataFolder>⟧.state self.now).nodes
-            (λ f. option_map (λ n. node_of n.now) result ≡ f path.now) }
+        ensures { HasNode path.now (option_map (λ n. node_of n.now) result)
+            (⟦<MemDataFolder as DataFolder>⟧.state self.now) }
     {
         self.nodes.get(path)
     }
@@ -125,8 +125,7 @@ impl DataFolder for MemDataFolder {
     } };
 
     fn open(&mut self, path: &str) -> Result<(), DeviceError>
-        ensures opens { Opens result path.now (map string_bytes self.old.opened.items)
-            (map string_bytes self.new.opened.items) }
+        ensures opens { Opens result path.now (names_in self.old.opened.items) (names_in self.new.opened.items) }
         ensures same { nodes_at self.new.nodes ≡ nodes_at self.old.nodes }
         ensures fails { FailsWhere (is_to_fail self.old.failing) result }
         ensures counts { self.new.failing ≡ counted self.old.failing }
@@ -141,8 +140,7 @@ impl DataFolder for MemDataFolder {
     }
 
     fn list(&mut self, alloc: Global) -> Result<Vec<FolderEntry>, DeviceError>
-        ensures listing { IfOk result
-            (λ seen. IsTreeListing (nodes_at self.old.nodes) (map (λ s. (string_bytes s.path, s.node)) seen.items)) }
+        ensures listing { IfOk result (λ seen. ListsNodes (nodes_at self.old.nodes) seen.items) }
         ensures same { nodes_at self.new.nodes ≡ nodes_at self.old.nodes }
         ensures fails { FailsWhere (is_to_fail self.old.failing) result }
         ensures counts { self.new.failing ≡ counted self.old.failing }
@@ -161,8 +159,7 @@ impl DataFolder for MemDataFolder {
         at: u64,
         buf: &mut [u8],
     ) -> Result<Option<usize>, DeviceError>
-        ensures bytes { IfOk result
-            (λ n. Reads (file_bytes (nodes_at self.old.nodes (known_path what.now))) at (length buf.old) buf.new n) }
+        ensures bytes { IfOk result (λ n. ReadsKnown (nodes_at self.old.nodes) what.now at buf.old buf.new n) }
         ensures room { IfOk result (λ n. IfSome n (λ n. n ≤ length buf.old)) }
         ensures same { nodes_at self.new.nodes ≡ nodes_at self.old.nodes }
         ensures fails { FailsWhere (is_to_fail self.old.failing) result }
@@ -178,7 +175,7 @@ impl DataFolder for MemDataFolder {
 
     fn size(&mut self, what: &ReadableFile) -> Result<Option<u64>, DeviceError>
         ensures size { IfOk result
-            (λ n. n ≡ option_map length (file_bytes (nodes_at self.old.nodes (known_path what.now)))) }
+            (λ n. n ≡ option_map length (known_bytes (nodes_at self.old.nodes) what.now)) }
         ensures same { nodes_at self.new.nodes ≡ nodes_at self.old.nodes }
         ensures fails { FailsWhere (is_to_fail self.old.failing) result }
         ensures counts { self.new.failing ≡ counted self.old.failing }
@@ -192,13 +189,10 @@ impl DataFolder for MemDataFolder {
     }
 
     fn make(&mut self, folder: &str) -> Result<(), DeviceError>
-        ensures ok { OnOk result
-            (nodes_at self.new.nodes ≡ with_node folder.now (Some folder_node) (nodes_at self.old.nodes)) }
+        ensures ok { OnOk result (nodes_at self.new.nodes ≡ with_folder folder.now (nodes_at self.old.nodes)) }
         ensures err { OnErr result (nodes_at self.new.nodes ≡ nodes_at self.old.nodes) }
-        ensures fails { FailsWhere
-            (is_to_fail self.old.failing || not (may_make (nodes_at self.old.nodes) folder.now)) result }
-        ensures counts { let t = nodes_at self.old.nodes in self.new.failing ≡ tried_on (is_placed t folder.now)
-            (takes_folder (t folder.now)) self.old.failing }
+        ensures fails { FailsUnless (may_make (nodes_at self.old.nodes) folder.now) self.old.failing result }
+        ensures counts { self.new.failing ≡ tried_make (nodes_at self.old.nodes) folder.now self.old.failing }
         ensures opened { self.new.opened.items ≡ self.old.opened.items }
         ensures cause { HasCause self.old.failing.faults self.new.failing.faults result }
     {
@@ -217,13 +211,10 @@ impl DataFolder for MemDataFolder {
 
     fn begin(&mut self, path: &str) -> Result<(), DeviceError>
         // A file that is begun has time 0.
-        ensures ok { OnOk result
-            (nodes_at self.new.nodes ≡ with_node path.now (Some (file [] 0)) (nodes_at self.old.nodes)) }
+        ensures ok { OnOk result (nodes_at self.new.nodes ≡ with_empty_file path.now 0 (nodes_at self.old.nodes)) }
         ensures err { OnErr result (nodes_at self.new.nodes ≡ nodes_at self.old.nodes) }
-        ensures fails { FailsWhere
-            (is_to_fail self.old.failing || not (may_begin (nodes_at self.old.nodes) path.now)) result }
-        ensures counts { let t = nodes_at self.old.nodes in self.new.failing ≡ tried_on (is_placed t path.now)
-            (takes_file (t path.now)) self.old.failing }
+        ensures fails { FailsUnless (may_begin (nodes_at self.old.nodes) path.now) self.old.failing result }
+        ensures counts { self.new.failing ≡ tried_begin (nodes_at self.old.nodes) path.now self.old.failing }
         ensures opened { self.new.opened.items ≡ self.old.opened.items }
         ensures cause { HasCause self.old.failing.faults self.new.failing.faults result }
     {
@@ -245,12 +236,9 @@ impl DataFolder for MemDataFolder {
         ensures known { IfOk result (λ made. made ≡ is_none (nodes_at self.old.nodes path.now)) }
         // A file that is begun has time 0.
         ensures ok { IfOk result
-            (λ made. nodes_at self.new.nodes ≡
-            (if made then with_node path.now (Some (file [] 0))
-            (nodes_at self.old.nodes) else nodes_at self.old.nodes)) }
+            (λ made. nodes_at self.new.nodes ≡ begun_if made path.now (nodes_at self.old.nodes)) }
         ensures err { OnErr result (nodes_at self.new.nodes ≡ nodes_at self.old.nodes) }
-        ensures fails { FailsWhere
-            (is_to_fail self.old.failing || not (is_placed (nodes_at self.old.nodes) path.now)) result }
+        ensures fails { FailsUnless (is_placed (nodes_at self.old.nodes) path.now) self.old.failing result }
         ensures counts { self.new.failing ≡ tried (is_placed (nodes_at self.old.nodes) path.now) self.old.failing }
         ensures opened { self.new.opened.items ≡ self.old.opened.items }
         ensures cause { HasCause self.old.failing.faults self.new.failing.faults result }
@@ -272,11 +260,9 @@ impl DataFolder for MemDataFolder {
     fn append(&mut self, path: &str, bytes: &[u8]) -> Result<(), DeviceError>
         // The file's time stays.
         ensures ok { OnOk result
-            (nodes_at self.new.nodes ≡ with_node path.now
-            (option_map (longer_node bytes.now) (nodes_at self.old.nodes path.now)) (nodes_at self.old.nodes)) }
+            (nodes_at self.new.nodes ≡ with_longer path.now bytes.now (nodes_at self.old.nodes)) }
         ensures err { OnErr result (nodes_at self.new.nodes ≡ nodes_at self.old.nodes) }
-        ensures fails { FailsWhere
-            (is_to_fail self.old.failing || not (is_file (nodes_at self.old.nodes path.now))) result }
+        ensures fails { FailsUnless (is_file (nodes_at self.old.nodes path.now)) self.old.failing result }
         ensures counts { self.new.failing ≡ tried (is_file (nodes_at self.old.nodes path.now)) self.old.failing }
         ensures opened { self.new.opened.items ≡ self.old.opened.items }
         ensures cause { HasCause self.old.failing.faults self.new.failing.faults result }
@@ -294,10 +280,8 @@ impl DataFolder for MemDataFolder {
     fn rename(&mut self, from: &str, to: &str) -> Result<(), DeviceError>
         ensures ok { OnOk result (nodes_at self.new.nodes ≡ moved_node from.now to.now (nodes_at self.old.nodes)) }
         ensures err { OnErr result (nodes_at self.new.nodes ≡ nodes_at self.old.nodes) }
-        ensures fails { FailsWhere
-            (is_to_fail self.old.failing || not (may_move (nodes_at self.old.nodes) from.now to.now)) result }
-        ensures counts { let t = nodes_at self.old.nodes in self.new.failing ≡ tried_on
-            (is_file (t from.now) && is_placed t to.now) (not (is_folder (t to.now))) self.old.failing }
+        ensures fails { FailsUnless (may_move (nodes_at self.old.nodes) from.now to.now) self.old.failing result }
+        ensures counts { self.new.failing ≡ tried_move (nodes_at self.old.nodes) from.now to.now self.old.failing }
         ensures opened { self.new.opened.items ≡ self.old.opened.items }
         ensures cause { HasCause self.old.failing.faults self.new.failing.faults result }
     {
