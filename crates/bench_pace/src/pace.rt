@@ -11,7 +11,7 @@ use memory_workers::MemPartSink;
 use std::alloc::{AllocError, Global};
 use std::io;
 use std::time::Instant;
-use worker_pool::{run_jobs, setup};
+use worker_pool::{Pool, run_jobs, setup};
 use worker_protocol::{Job, Roots};
 
 // A job for each file; none where one can't be asked for.
@@ -41,28 +41,18 @@ pub fn read_all(
     alloc: Global,
     jobs: &[Job],
     roots: &Roots,
-    links: &mut Vec<RealLink>,
+    pool: &mut Pool<RealLink, RoundRobin>,
 ) -> Result<Option<u64>, AllocError>
-    requires few { vec_len links.old < 2 ^ 32 }
+    requires few { vec_len pool.old.links < 2 ^ 32 }
     requires jobs { (length jobs.now < 2 ^ 32) × All (λ j. FitsJob (job_of j)) jobs.now }
     requires roots { FitsRoots (roots_of roots.now) }
 {
-    let mut lost = Vec::new(alloc);
-    if setup(alloc, links, roots, &mut lost).is_err() {
+    if setup(alloc, pool, roots).is_err() {
         return Ok(None);
     }
     let mut keep = MemPartSink::counting(alloc, jobs)?;
-    let mut scheduler = RoundRobin::new();
-    let ending = run_jobs(
-        alloc,
-        jobs,
-        links,
-        &mut scheduler,
-        &mut keep,
-        &mut (),
-        &mut lost,
-    );
-    if ending.is_err() || !lost.is_empty() {
+    let ending = run_jobs(alloc, jobs, pool, &mut keep, &mut ());
+    if ending.is_err() || !pool.lost.is_empty() {
         return Ok(None);
     }
     let mut bytes = 0u64;
@@ -83,9 +73,13 @@ pub fn pace(rt: HostRuntime, asked: &Asked) -> io::Result<Option<(u64, u128)>> {
     let Some(roots) = roots_at(alloc, &asked.folder)? else {
         return Ok(None);
     };
-    let mut links = vec![in alloc; worker(rt, &asked.program)?, worker(rt, &asked.program)?]?;
+    let mut pool = Pool {
+        links: vec![in alloc; worker(rt, &asked.program)?, worker(rt, &asked.program)?]?,
+        scheduler: RoundRobin::new(),
+        lost: Vec::new(alloc),
+    };
     let begun = Instant::now(&rt)?;
-    let Some(bytes) = read_all(alloc, &jobs, &roots, &mut links)? else {
+    let Some(bytes) = read_all(alloc, &jobs, &roots, &mut pool)? else {
         return Ok(None);
     };
     Ok(Some((bytes, begun.elapsed(&rt)?.as_micros())))

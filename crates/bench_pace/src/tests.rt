@@ -4,10 +4,11 @@ ghost use Rattle.worker_protocol.specs.Frames.{FitsJob, FitsRoots};
 ghost use Rattle.worker_protocol.specs.Views.{job_of, roots_of};
 
 use crate::pace::read_all;
-use adapters_process::{RealLink, Scratch};
+use adapters_process::{RealLink, RoundRobin, Scratch};
 use std::alloc::Global;
 use std::test::Fail;
 use std::{fs, io};
+use worker_pool::Pool;
 use worker_protocol::{Frame, Job, Roots, decode_frame};
 
 // The roots `t` and `r`.
@@ -57,13 +58,18 @@ fn beside(rt: HostRuntime) -> Result<(), Fail> {
     let scratch = Scratch::new(rt, "beside")?;
     fs::write(&rt, scratch.below("reply")?.as_str(), REPLY)?;
     let jobs = vec![in alloc; job(alloc)?, job(alloc)?]?;
-    let mut links = vec![in alloc;
+    let links = vec![in alloc;
         child(rt, &scratch.path, "one", "two")?,
         child(rt, &scratch.path, "two", "one")?,
     ]?;
-    let read = read_all(alloc, &jobs, &roots(alloc)?, &mut links)?;
+    let mut pool = Pool {
+        links,
+        scheduler: RoundRobin::new(),
+        lost: Vec::new(alloc),
+    };
+    let read = read_all(alloc, &jobs, &roots(alloc)?, &mut pool)?;
     assert_eq!(rt; read, Some(0));
-    assert_eq!(rt; links.len(), 2);
+    assert_eq!(rt; pool.links.len(), 2);
     for name in ["asked-one", "asked-two"] {
         let asked = fs::read(&rt, scratch.below(name)?.as_str())?;
         assert!(rt; asked.get(..11) == Some(SETUP));

@@ -1,5 +1,5 @@
 -- How the calls of an object in memory are counted. Own.
-use Rattle.std.specs.Prelude.{Bool, nat_eq, if◌then◌else◌, true, ◌≡◌, Result, IsErr, IsErrOf}
+use Rattle.std.specs.Prelude.{Bool, nat_eq, if◌then◌else◌, true, ◌≡◌, [], Result, IsErr, IsErrOf}
 use Rattle.std.specs.List.{list_any}
 use Rattle.base_devices.specs.Links.{bumped}
 use Rattle.base_devices.specs.declared.device_error.DeviceError.{DeviceError}
@@ -18,3 +18,7 @@ counted f = record f { calls = bumped f.calls; faults = if is_to_fail f then bum
 pub record FailsWhere {T : Type 0} (b : Bool) (result : Result T DeviceError) : Type 0 where
   pub always : b ≡ true → IsErr result
   pub only : IsErrOf result Failed → b ≡ true
+
+-- no call is to fail, and none was made
+abbrev pub IsUnfailing : Failing → Type 0
+IsUnfailing f = (f.fail.items ≡ []) × (f.calls ≡ 0) × (f.faults ≡ 0)

@@ -1,5 +1,5 @@
 -- What a keeper in memory holds. Own.
-use Rattle.std.specs.Prelude.{ℕ, Bool, ◌≡◌, [], List, Some, None, map, if◌then◌else◌}
+use Rattle.std.specs.Prelude.{ℕ, Bool, ◌≡◌, [], List, Some, None, map, IfSome, slice_get, if◌then◌else◌}
 use Rattle.worker_protocol.specs.Views.{job_of}
 use Rattle.worker_protocol.specs.PartSinkState.{Held, Done, JobItems, PartSinkState}
 use Rattle.memory_workers.specs.declared.keep.HeldItem.{HeldItem}
@@ -26,3 +26,7 @@ state_of k = record {
 -- nothing was received of the job yet
 abbrev pub IsEmpty : KeptJob → Type 0
 IsEmpty j = (j.ended.items ≡ []) × (j.count ≡ 0) × (j.bytes.items ≡ [])
+
+-- these items of the job have ended
+abbrev pub HaveEnded : MemPartSink → ℕ → List HeldItem → Type 0
+HaveEnded k job items = IfSome (slice_get (state_of k).kept job) (λ j. j.done ≡ map (done_of k.holds) items)

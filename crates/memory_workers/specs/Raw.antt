@@ -1,5 +1,5 @@
 -- What a link that gives fixed bytes counts and gave. Own.
-use Rattle.std.specs.Prelude.{ℕ, List, None}
+use Rattle.std.specs.Prelude.{ℕ, List, None, ◌≡◌, take, drop}
 use Rattle.base_devices.specs.Links.{LinkState, last_five}
 use Rattle.memory_workers.specs.declared.raw.RawLink.{RawLink}
 
@@ -16,3 +16,7 @@ state_of l = record {
   given = last_five l.tape.given;
   known = None;
 }
+
+-- the next bytes, so many of them, are at the front of these
+abbrev pub GivesNext : ℕ → List ℕ → RawLink → RawLink → Type 0
+GivesNext n bytes old new = (take n bytes ≡ take n (rest_of old)) × (rest_of new ≡ drop n (rest_of old))

@@ -1,5 +1,5 @@
 -- What a worker in memory answers, and what a link to it counts and reports. Own.
-use Rattle.std.specs.Prelude.{◌≡◌, ◌==◌, ℕ, Bool, true, false, List, [], ◌∷◌, ◌++◌, length, Option, Some, None, Result, Ok, Err, if◌then◌else◌}
+use Rattle.std.specs.Prelude.{◌≡◌, ◌==◌, ℕ, Bool, true, false, List, [], ◌∷◌, ◌++◌, length, Option, Some, None, Result, Ok, Err, IsSomeAnd, if◌then◌else◌}
 use Rattle.base_devices.specs.Content.{Content}
 use Rattle.base_devices.specs.Links.{LinkState, Modelled}
 use Rattle.base_model.specs.Text.{Text}
@@ -9,6 +9,7 @@ use Rattle.worker_protocol.specs.Frames.{Roots, Job, Frame, FitsRoots, FitsJob, 
 use Rattle.worker_protocol.specs.Frames.Frame.{Setup, Task, Part, End, Vanished, Unread}
 use Rattle.worker_protocol.specs.Reading.{frame_at}
 use Rattle.worker_protocol.specs.Replies.{reply}
+use Rattle.worker_pool.specs.Reads.{Reads}
 use Rattle.memory_workers.specs.declared.worker.SureFiles.{SureFiles}
 use Rattle.memory_workers.specs.declared.worker.Worker.{Worker}
 use Rattle.memory_workers.specs.declared.mem.MemLink.{MemLink}
@@ -79,3 +80,12 @@ known_of l = record {
 
 abbrev pub state_of : MemLink → LinkState
 state_of l = record (raw.state_of l.raw) { known = Some (known_of l) }
+
+-- nothing was sent over the link, whose worker's roots hold these files, and these calls are to fail
+abbrev pub IsFirst : Content → Content → List ℕ → MemLink → Type 0
+IsFirst tree repo fail l = state_of l
+    ≡ record { faults = 0; jobs = 0; reads = 0; given = []; known = Some (known_first tree repo fail) }
+
+-- the link reads these files
+abbrev pub ReadsFiles : Content → Content → MemLink → Type 0
+ReadsFiles tree repo l = IsSomeAnd (state_of l).known (Reads tree repo)

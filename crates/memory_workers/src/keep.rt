@@ -1,10 +1,11 @@
 // A keeper in memory, of all bytes or of their number alone.
-ghost use Rattle.std.specs.Prelude.{◌≡◌, ◌<◌, ◌+◌, ◌^◌, ℕ, Bool, true, false, [], None, ⊤, length, map, slice_get, All, IfOk, OnOk, IfErr, IfSome, IsSomeAnd};
+ghost use Rattle.std.specs.Prelude.{◌≡◌, ◌<◌, ◌+◌, ◌^◌, Bool, true, false, [], None, ⊤, length, map, slice_get, All, IfOk, OnOk, IfErr};
 ghost use Rattle.std.proofs.Common.{refl, ◌∙◌};
 ghost use Rattle.worker_protocol.specs.Views.{job_of};
-ghost use Rattle.worker_protocol.specs.PartSinkState.{KeepLeaves, Adds, Ends, Clears, IsFresh, IsNext, HasRoom};
-ghost use Rattle.memory_workers.specs.Counts.{is_to_fail, counted, FailsWhere};
-ghost use Rattle.memory_workers.specs.Keeps.{kept_of, done_of, state_of, IsEmpty};
+ghost use Rattle.worker_protocol.specs.PartSinkState.{KeepLeaves, Adds, Ends, Clears, IsNext, HasRoom};
+ghost use Rattle.worker_pool.specs.Holdings.{HoldsNothing};
+ghost use Rattle.memory_workers.specs.Counts.{is_to_fail, counted, FailsWhere, IsUnfailing};
+ghost use Rattle.memory_workers.specs.Keeps.{kept_of, state_of, HaveEnded, IsEmpty};
 ghost use Rattle.base_devices.specs.declared.device_error.DeviceError.TheVariants.{NoMemory};
 
 use crate::failing::Failing;
@@ -72,8 +73,7 @@ impl<'a> MemPartSink<'a> {
     /// being 0.
     pub fn new(alloc: Global, jobs: &'a [Job], fail: Vec<u64>) -> Result<Self, AllocError>
         ensures jobs { IfOk result (λ k. (⟦<MemPartSink<'a> as PartSink<()>>⟧.kept k tt).jobs ≡ map job_of jobs.now) }
-        ensures empty { IfOk result (λ k. (j : ℕ) → j < length (map job_of jobs.now)
-            → IsSomeAnd (slice_get (⟦<MemPartSink<'a> as PartSink<()>>⟧.kept k tt).kept j) IsFresh) }
+        ensures empty { IfOk result (λ k. HoldsNothing (map job_of jobs.now) (state_of k)) }
         ensures holds { IfOk result (λ k. k.holds ≡ true) }
         ensures counts { IfOk result (λ k. k.failing ≡ record { fail = fail; calls = 0; faults = 0 }) }
     {
@@ -89,11 +89,9 @@ impl<'a> MemPartSink<'a> {
     /// It counts the bytes, and has none of the jobs yet. No call fails.
     pub fn counting(alloc: Global, jobs: &'a [Job]) -> Result<Self, AllocError>
         ensures jobs { IfOk result (λ k. (⟦<MemPartSink<'a> as PartSink<()>>⟧.kept k tt).jobs ≡ map job_of jobs.now) }
-        ensures empty { IfOk result (λ k. (j : ℕ) → j < length (map job_of jobs.now)
-            → IsSomeAnd (slice_get (⟦<MemPartSink<'a> as PartSink<()>>⟧.kept k tt).kept j) IsFresh) }
+        ensures empty { IfOk result (λ k. HoldsNothing (map job_of jobs.now) (state_of k)) }
         ensures holds { IfOk result (λ k. k.holds ≡ false) }
-        ensures counts { IfOk result
-            (λ k. (k.failing.fail.items ≡ []) × (k.failing.calls ≡ 0) × (k.failing.faults ≡ 0)) }
+        ensures counts { IfOk result (λ k. IsUnfailing k.failing) }
     {
         Ok(MemPartSink {
             alloc,
@@ -106,10 +104,8 @@ impl<'a> MemPartSink<'a> {
 
     /// The items of a job that have ended, in order: none of a job that there isn't.
     pub fn ended(&self, job: usize) -> &[HeldItem]
-        ensures items { IfSome (slice_get (⟦<MemPartSink<'a> as PartSink<()>>⟧.kept self.now tt).kept job)
-            (λ k. k.done ≡ map (done_of self.now.holds) result.now) }
-        ensures none { slice_get (⟦<MemPartSink<'a> as PartSink<()>>⟧.kept self.now tt).kept job ≡ None
-            → result.now ≡ [] }
+        ensures items { HaveEnded self.now job result.now }
+        ensures none { slice_get (state_of self.now).kept job ≡ None → result.now ≡ [] }
     {
         match self.kept.get(job) {
             Some(kept) => &kept.ended,

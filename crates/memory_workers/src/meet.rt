@@ -1,10 +1,10 @@
 // Two links that answer only once both were sent a job.
-ghost use Rattle.std.specs.Prelude.{◌≡◌, ◌⊎◌, Ok, IfOk};
+ghost use Rattle.std.specs.Prelude.{◌≡◌, Ok, IfOk};
 ghost use Rattle.base_devices.specs.Links.{SendLeaves, ReceiveLeaves};
 ghost use Rattle.memory_devices.specs.Image.{named};
 ghost use Rattle.memory_devices.specs.State.{given_at};
 ghost use Rattle.memory_workers.specs.Workers as workers;
-ghost use Rattle.memory_workers.specs.Meeting.{state_of, Begins};
+ghost use Rattle.memory_workers.specs.Meeting.{state_of, Begins, WaitsOrReceives};
 
 use crate::mem::MemLink;
 use base_devices::{DeviceError, Link};
@@ -83,8 +83,7 @@ impl Link for MeetLink {
         ensures leaves { ReceiveLeaves result buf.new (state_of self.old) (state_of self.new) }
         // It gives nothing before it was sent a job, and later nothing or what the link in it gives.
         ensures early { (state_of self.old).jobs ≡ 0 → result ≡ Ok 0 }
-        ensures link { ((result ≡ Ok 0) × (self.new ≡ self.old)) ⊎ ReceiveLeaves result buf.new
-            (workers.state_of self.old.link) (workers.state_of self.new.link) }
+        ensures link { WaitsOrReceives result buf.new self.old self.new }
     {
         if self.link.jobs() == 0 || !self.other.get() {
             return Ok(0);

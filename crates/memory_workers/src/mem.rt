@@ -1,10 +1,10 @@
 // A link to a worker in memory.
-ghost use Rattle.std.specs.Prelude.{◌≡◌, [], Some, length, min, IfOk, OnErr, IsSomeAnd};
+ghost use Rattle.std.specs.Prelude.{◌≡◌, [], length, min, IfOk, OnErr};
 ghost use Rattle.base_devices.specs.Links.{SendLeaves, ReceiveLeaves};
 ghost use Rattle.memory_devices.specs.State.{given_at};
-ghost use Rattle.worker_pool.specs.Reads.{Reads, IsSteadyWorker};
+ghost use Rattle.worker_pool.specs.Reads.{IsSteadyWorker};
 ghost use Rattle.memory_workers.specs.Counts.{is_to_fail, counted, FailsWhere};
-ghost use Rattle.memory_workers.specs.Workers.{known_first, known_of, state_of};
+ghost use Rattle.memory_workers.specs.Workers.{known_of, state_of, IsFirst, ReadsFiles};
 
 use crate::raw::RawLink;
 use crate::worker::Worker;
@@ -27,15 +27,8 @@ impl MemLink {
         repo: Vec<(String, Vec<u8>)>,
         fail: Vec<u64>,
     ) -> Result<Self, AllocError>
-        ensures state { IfOk result (λ l. ⟦<MemLink as Link>⟧.link_state l ≡ record {
-          faults = 0;
-          jobs = 0;
-          reads = 0;
-          given = [];
-          known = Some (known_first (given_at tree.items) (given_at repo.items) fail.items);
-        }) }
-        ensures reads { IfOk result (λ l. IsSomeAnd (⟦<MemLink as Link>⟧.link_state l).known
-            (Reads (given_at tree.items) (given_at repo.items))) }
+        ensures state { IfOk result (IsFirst (given_at tree.items) (given_at repo.items) fail.items) }
+        ensures reads { IfOk result (ReadsFiles (given_at tree.items) (given_at repo.items)) }
         ensures worker { IfOk result (λ l. fail.items ≡ []
             → IsSteadyWorker (⟦<MemLink as Link>⟧.link_state l).known) }
         ensures counts { IfOk result (λ l. l.raw.failing ≡ record { fail = fail; calls = 0; faults = 0 }) }

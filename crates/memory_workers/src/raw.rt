@@ -1,8 +1,8 @@
 // A link that gives fixed bytes.
-ghost use Rattle.std.specs.Prelude.{◌≡◌, ◌++◌, [], length, min, take, drop, slice_get, IfOk, OnOk, OnErr};
+ghost use Rattle.std.specs.Prelude.{◌≡◌, ◌++◌, [], length, min, slice_get, IfOk, OnOk, OnErr};
 ghost use Rattle.base_devices.specs.Links.{is_byte, SendLeaves, ReceiveLeaves};
 ghost use Rattle.memory_workers.specs.Counts.{is_to_fail, counted, FailsWhere};
-ghost use Rattle.memory_workers.specs.Raw.{rest_of, state_of};
+ghost use Rattle.memory_workers.specs.Raw.{rest_of, state_of, GivesNext};
 
 use crate::failing::Failing;
 use crate::tape::Tape;
@@ -95,8 +95,7 @@ impl Link for RawLink {
     fn receive(&mut self, buf: &mut [u8]) -> Result<usize, DeviceError>
         ensures leaves { ReceiveLeaves result buf.new (state_of self.old) (state_of self.new) }
         ensures count { IfOk result (λ n. n ≡ min (length (rest_of self.old)) (length buf.old)) }
-        ensures gives { IfOk result
-            (λ n. (take n buf.new ≡ take n (rest_of self.old)) × (rest_of self.new ≡ drop n (rest_of self.old))) }
+        ensures gives { IfOk result (λ n. GivesNext n buf.new self.old self.new) }
         ensures same { OnErr result (rest_of self.new ≡ rest_of self.old) }
         ensures fails { FailsWhere (is_to_fail self.old.failing) result }
         ensures counts { self.new.failing ≡ counted self.old.failing }

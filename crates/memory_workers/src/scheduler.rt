@@ -20,13 +20,13 @@ impl MemScheduler {
 }
 
 impl Scheduler for MemScheduler {
-    ghost use Rattle.std.specs.Prelude.{◌≡◌, ◌<◌, ◌+◌, ◌%◌, Some, None, slice_get, IfSome, IsNone};
+    ghost use Rattle.std.specs.Prelude.{◌≡◌, ◌<◌, ◌+◌, ◌%◌, Some, None, slice_get, IsNone};
+    ghost use Rattle.memory_workers.specs.Picks.{TakesPick};
 
     fn pick(&mut self, count: u64) -> u64
         requires { 0 < count }
         ensures below { result < count }
-        ensures given { IfSome (slice_get self.old.picks.items self.old.at)
-            (λ n. (result ≡ n % count) × (self.new.at ≡ self.old.at + 1)) }
+        ensures given { TakesPick count result self.old self.new }
         ensures over { slice_get self.old.picks.items self.old.at ≡ None → result ≡ 0 }
         ensures picks { self.new.picks ≡ self.old.picks }
     {

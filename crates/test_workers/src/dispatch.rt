@@ -10,7 +10,7 @@ use base_devices::Link;
 use memory_workers::{MemPartSink, MemScheduler, RawLink};
 use std::alloc::{AllocError, Global};
 use std::process::Abort;
-use worker_pool::{run_jobs, setup};
+use worker_pool::{Pool, run_jobs, setup};
 use worker_protocol::{Frame, FrameFault, Job, decode_frame};
 
 // At most two bytes of `b`.
@@ -68,27 +68,23 @@ fn add_held(text: &mut String, keep: &MemPartSink<'_>, job: usize) -> Result<(),
 /// The result of the two jobs: the ending, the losses, how many links are left, and what is held of each.
 pub(crate) fn known<L: Link>(
     alloc: Global,
-    links: &mut Vec<L>,
+    links: Vec<L>,
     picks: &[u64],
     fail: &[u64],
 ) -> Result<String, FrameFault>
-    requires few { vec_len links.old < 2 ^ 32 }
-    requires ready { AreReady (map L.link_state links.old.items) }
+    requires few { vec_len links < 2 ^ 32 }
+    requires ready { AreReady (map L.link_state links.items) }
 {
     let jobs = jobs_of(alloc, &[ASKS_A, ASKS_B])?;
     let mut keep = MemPartSink::new(alloc, &jobs, fail.to_vec(alloc)?)?;
-    let mut scheduler = MemScheduler::new(picks.to_vec(alloc)?);
-    let mut lost = Vec::new(alloc);
-    let ending = run_jobs(
-        alloc,
-        &jobs,
+    let mut pool = Pool {
         links,
-        &mut scheduler,
-        &mut keep,
-        &mut (),
-        &mut lost,
-    );
-    let left = links.len();
+        scheduler: MemScheduler::new(picks.to_vec(alloc)?),
+        lost: Vec::new(alloc),
+    };
+    let ending = run_jobs(alloc, &jobs, &mut pool, &mut keep, &mut ());
+    let left = pool.links.len();
+    let lost = pool.lost;
     let mut text = format!(in alloc; "{ending:?} {lost:?} {left} left:")?;
     add_held(&mut text, &keep, 0)?;
     add_held(&mut text, &keep, 1)?;
@@ -113,8 +109,8 @@ fn known_two(
 ) -> Result<String, FrameFault> {
     let first = raw_link(alloc, first)?;
     let second = raw_link(alloc, second)?;
-    let mut links = vec![in alloc; first, second]?;
-    known(alloc, &mut links, picks, fail)
+    let links = vec![in alloc; first, second]?;
+    known(alloc, links, picks, fail)
 }
 
 // Two links are picked so, and this call of the keeper fails.
@@ -233,21 +229,16 @@ fn known_long(alloc: Global, picks: &[u64], fail: &[u64]) -> Result<String, Fram
     let first = long_link(alloc, &[])?;
     let second = long_link(alloc, fail)?;
     let third = long_link(alloc, &[])?;
-    let mut links = vec![in alloc; first, second, third]?;
+    let links = vec![in alloc; first, second, third]?;
     let mut keep = MemPartSink::new(alloc, &jobs, Vec::new(alloc))?;
-    let mut scheduler = MemScheduler::new(picks.to_vec(alloc)?);
-    let mut lost = Vec::new(alloc);
-    let ending = run_jobs(
-        alloc,
-        &jobs,
-        &mut links,
-        &mut scheduler,
-        &mut keep,
-        &mut (),
-        &mut lost,
-    );
-    let gone = lost.len();
-    let left = links.len();
+    let mut pool = Pool {
+        links,
+        scheduler: MemScheduler::new(picks.to_vec(alloc)?),
+        lost: Vec::new(alloc),
+    };
+    let ending = run_jobs(alloc, &jobs, &mut pool, &mut keep, &mut ());
+    let gone = pool.lost.len();
+    let left = pool.links.len();
     let mut text = format!(in alloc; "{ending:?} {gone} lost {left} left:")?;
     add_sevens(&mut text, &keep, 0)?;
     add_sevens(&mut text, &keep, 1)?;
@@ -286,10 +277,14 @@ fn known_setup(alloc: Global, one: &[u64], other: &[u64]) -> Result<String, Fram
     };
     let first = raw_link(alloc, Gives(b"", one))?;
     let second = raw_link(alloc, Gives(b"", other))?;
-    let mut links = vec![in alloc; first, second]?;
-    let mut lost = Vec::new(alloc);
-    let ending = setup(alloc, &mut links, &roots, &mut lost);
-    let left = links.len();
+    let mut pool = Pool {
+        links: vec![in alloc; first, second]?,
+        scheduler: MemScheduler::new(Vec::new(alloc)),
+        lost: Vec::new(alloc),
+    };
+    let ending = setup(alloc, &mut pool, &roots);
+    let left = pool.links.len();
+    let lost = pool.lost;
     Ok(format!(in alloc; "{ending:?} {lost:?} {left} left")?)
 }
 

@@ -9,7 +9,7 @@ use memory_devices::named_bytes;
 use memory_workers::{MeetLink, MemLink, MemPartSink, MemScheduler};
 use std::alloc::{AllocError, Global};
 use std::process::Abort;
-use worker_pool::run_jobs;
+use worker_pool::{Pool, run_jobs};
 use worker_protocol::FrameFault;
 
 // At most 70,000 bytes of one file, and at most 65,536 of the next.
@@ -44,8 +44,8 @@ const SECOND_FAILED: &str = "Ok(()) [Lost { place: 1, cause: Device }] 1 left: x
 
 // The result of the two jobs over two workers.
 fn known_two(alloc: Global, fail: &[u64], picks: &[u64]) -> Result<String, FrameFault> {
-    let mut links = links_to(alloc, SHORT_FILES, &[&[], fail])?;
-    known(alloc, &mut links, picks, &[])
+    let links = links_to(alloc, SHORT_FILES, &[&[], fail])?;
+    known(alloc, links, picks, &[])
 }
 
 // Two workers are picked so, and these calls on the second fail.
@@ -70,8 +70,8 @@ fn two_jobs_over_two_workers(rt: HostRuntime) {
 fn known_meeting(alloc: Global) -> Result<String, FrameFault> {
     let files = named_bytes(alloc, SHORT_FILES)?;
     let (one, other) = MeetLink::two(alloc, files, Vec::new(alloc))?;
-    let mut links = vec![in alloc; one, other]?;
-    known(alloc, &mut links, &[], &[])
+    let links = vec![in alloc; one, other]?;
+    known(alloc, links, &[], &[])
 }
 
 #[test]
@@ -98,22 +98,17 @@ fn known_three(
     picks: &[u64],
     fail: &[u64],
 ) -> Result<String, FrameFault> {
-    let mut links = links_to(alloc, files, &[&[], fail, &[]])?;
+    let links = links_to(alloc, files, &[&[], fail, &[]])?;
     let jobs = jobs_of(alloc, &[ASKS_LONG, ASKS_B_AND_C, ASKS_C_AND_A])?;
     let mut keep = MemPartSink::new(alloc, &jobs, Vec::new(alloc))?;
-    let mut scheduler = MemScheduler::new(picks.to_vec(alloc)?);
-    let mut lost = Vec::new(alloc);
-    let ending = run_jobs(
-        alloc,
-        &jobs,
-        &mut links,
-        &mut scheduler,
-        &mut keep,
-        &mut (),
-        &mut lost,
-    );
-    let gone = lost.len();
-    let left = links.len();
+    let mut pool = Pool {
+        links,
+        scheduler: MemScheduler::new(picks.to_vec(alloc)?),
+        lost: Vec::new(alloc),
+    };
+    let ending = run_jobs(alloc, &jobs, &mut pool, &mut keep, &mut ());
+    let gone = pool.lost.len();
+    let left = pool.links.len();
     let mut text = format!(in alloc; "{ending:?} {gone} lost {left} left:")?;
     add_held(&mut text, &keep, 0)?;
     add_held(&mut text, &keep, 1)?;

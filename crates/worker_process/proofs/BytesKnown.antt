@@ -1,11 +1,10 @@
 -- Sending the bytes of an item, part by part.
-use Rattle.std.proofs.Common.{◌≡◌, ◌⊎◌, inl, inr, ℕ, zero, suc, ◌+◌, ◌-◌, ◌<◌, ◌≤◌, Bool, true, false, List, [], ◌∷◌, ◌++◌, length, take, drop, map, min, Option, Some, None, Result, Ok, Err, refl, sym, ◌∙◌, ap, arith, subst, append_assoc}
-use Rattle.std.specs.Prelude.{IfSome, IfOk}
+use Rattle.std.proofs.Common.{◌≡◌, ◌⊎◌, inl, inr, ℕ, zero, suc, ◌+◌, ◌<◌, ◌≤◌, Bool, true, false, List, [], ◌∷◌, ◌++◌, length, take, drop, map, min, Option, Some, None, Result, Ok, Err, refl, sym, ◌∙◌, ap, arith, subst, append_assoc}
+use Rattle.std.specs.Prelude.{IfSome}
 use Rattle.std.specs.Result.{IsErr}
 use Rattle.std.specs.List.{flat_map}
-use Rattle.std.proofs.Math.Seq.{take-add, take-append-add, take-append_seam}
-use Rattle.std.proofs.lemmas.List.{length-take, length-drop, length-append, take-append-le, take_min, take_all, drop-drop}
-use Rattle.std.proofs.lemmas.Grind.{flat_map-append}
+use Rattle.std.proofs.Math.Seq.{take-add, take-append_seam}
+use Rattle.std.proofs.lemmas.List.{length-take, length-drop, take_min, take_all, drop-drop}
 use Rattle.sha1.specs.Sha1.{sha1, Holds}
 use Rattle.sha1.specs.declared.Sha1.{Sha1}
 use Rattle.base_devices.specs.Cause.{Rises}
@@ -16,8 +15,8 @@ use Rattle.worker_protocol.specs.declared.frames.frames.JobKind.{JobKind}
 use Rattle.worker_protocol.specs.declared.frames.frames.JobKind.TheVariants.{Read, Digest}
 use Rattle.worker_protocol.specs.Frames.{Item, Frame, spell, part_size}
 use Rattle.worker_protocol.specs.Frames.Frame.{Part, End, Unread}
-use Rattle.worker_protocol.specs.Replies.{parts, payload, item_rest, item_reply}
-use Rattle.worker_process.specs.Writing.{IsWritten, IsPrefixWritten, Writes}
+use Rattle.worker_protocol.specs.Replies.{payload, item_rest, item_reply}
+use Rattle.worker_process.specs.Writing.{IsWritten, IsPrefixWritten}
 use Rattle.worker_process.specs.Answers.{part_frames, KnownItem, Shows, KnownUnread, IsNextPart}
 use Rattle.worker_process.proofs.Written.{none_written, nothing_written, frames_more, frames_prefix}
 use Rattle.worker_protocol.proofs.ReplyFrames.{parts_none, parts_more}

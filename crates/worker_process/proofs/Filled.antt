@@ -1,10 +1,9 @@
 -- Filling a buffer.
-use Rattle.std.proofs.Common.{◌≡◌, ◌⊎◌, inl, inr, ⊎_elim, ℕ, ◌+◌, ◌-◌, ◌≤◌, List, [], ◌∷◌, ◌++◌, length, take, drop, Option, Some, None, refl, sym, ◌∙◌, ap, arith, subst}
-use Rattle.std.specs.Prelude.{IfSome, IsSomeAnd, min}
-use Rattle.std.proofs.Math.Seq.{take-add, take-append-add}
-use Rattle.std.proofs.lemmas.List.{length-take, length-drop, length-append, take-append-drop, take-append-le, take_all, length-take-le, drop-drop}
-use Rattle.base_devices.specs.Content.{Value, Content, Reads, ReadsPart}
-use Rattle.worker_process.specs.Answers.{Fills}
+use Rattle.std.proofs.Common.{◌≡◌, ◌⊎◌, inl, inr, ⊎_elim, ℕ, ◌+◌, ◌-◌, ◌≤◌, List, ◌++◌, length, take, drop, Option, Some, None, sym, ◌∙◌, ap, arith}
+use Rattle.std.specs.Prelude.{IfSome, IsSomeAnd}
+use Rattle.std.proofs.Math.Seq.{take-add}
+use Rattle.std.proofs.lemmas.List.{drop-drop}
+use Rattle.base_devices.specs.Content.{Value, Content, ReadsPart}
 
 -- this many bytes from a place on are in the buffer; where the last reading gave none, it is full or the file is over
 pub record IsFilled (bytes : List ℕ) (at have last : ℕ) (buf : List ℕ) : Type 0 where

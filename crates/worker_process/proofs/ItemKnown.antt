@@ -1,17 +1,15 @@
 -- Answering an item of which no bytes are known.
-use Rattle.std.proofs.Common.{◌≡◌, inl, inr, ℕ, Bool, true, false, List, [], ◌∷◌, Option, Some, None, Result, Ok, Err, refl, sym, subst}
-use Rattle.std.specs.List.{flat_map}
+use Rattle.std.proofs.Common.{◌≡◌, inl, inr, ℕ, Bool, true, false, [], ◌∷◌, Option, Some, None, Result, Ok, Err, refl, sym, subst}
 use Rattle.base_devices.specs.Content.{Value}
 use Rattle.base_model.specs.Text.{Text}
 use Rattle.worker_process.specs.declared.serve_fault.ServeFault.{ServeFault}
 use Rattle.worker_protocol.specs.declared.frames.frames.Root.{Root}
 use Rattle.worker_protocol.specs.declared.frames.frames.Root.TheVariants.{DataFolder, Repo}
 use Rattle.worker_protocol.specs.declared.frames.frames.JobKind.{JobKind}
-use Rattle.worker_protocol.specs.Frames.{Item, Frame, spell}
+use Rattle.worker_protocol.specs.Frames.{Item}
 use Rattle.worker_protocol.specs.Frames.Frame.{Vanished, Unread}
-use Rattle.worker_protocol.specs.Replies.{item_reply, absent_reply}
-use Rattle.worker_process.specs.Writing.{IsPrefixWritten}
-use Rattle.worker_process.specs.Answers.{FillsPart, GoesOn, AnswersItem, KnownItem, Shows, KnownUnread, KnownAbsent}
+use Rattle.worker_protocol.specs.Replies.{item_reply}
+use Rattle.worker_process.specs.Answers.{FillsPart, KnownItem, KnownUnread, KnownAbsent}
 use Rattle.worker_process.proofs.Written.{none_written}
 
 pub fills_none : (value : Value) (item : Item) (known : ℕ) (room : Text) → FillsPart value item known room None → value ≡ None

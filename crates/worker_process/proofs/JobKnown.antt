@@ -1,11 +1,9 @@
 -- Answering a job, item by item.
-use Rattle.std.proofs.Common.{◌≡◌, ◌⊎◌, inl, inr, ℕ, ◌+◌, ◌<◌, ◌≤◌, Bool, true, false, List, [], ◌∷◌, ◌++◌, length, take, drop, map, get_or, Option, Some, None, Result, Ok, Err, refl, sym, ◌∙◌, ap, subst, arith, append_assoc}
-use Rattle.std.specs.Prelude.{IfSome}
+use Rattle.std.proofs.Common.{◌≡◌, inl, inr, ℕ, ◌+◌, ◌<◌, ◌≤◌, Bool, true, false, List, [], ◌∷◌, ◌++◌, length, take, drop, map, get_or, Option, Some, None, Result, Ok, Err, refl, sym, ◌∙◌, ap, subst, arith, append_assoc}
 use Rattle.std.specs.Result.{IsErr}
 use Rattle.std.specs.List.{flat_map, AllByRecursion}
 use Rattle.std.proofs.lemmas.List.{append-nil, take-append-drop, map-append, map_more, drop_more}
 use Rattle.sha1.specs.Sha1.{sha1}
-use Rattle.base_devices.specs.Cause.{Rises}
 use Rattle.base_devices.specs.Content.{Content, Value}
 use Rattle.base_model.specs.Text.{Text}
 use Rattle.worker_process.specs.declared.serve_fault.ServeFault.{ServeFault}
@@ -15,13 +13,13 @@ use Rattle.worker_protocol.specs.declared.frames.frames.Root.TheVariants.{DataFo
 use Rattle.worker_protocol.specs.declared.frames.frames.JobKind.{JobKind}
 use Rattle.worker_protocol.specs.declared.frames.frames.JobKind.TheVariants.{Read, Digest}
 use Rattle.worker_protocol.specs.Frames.{Item, Job, Frame, spell}
-use Rattle.worker_protocol.specs.Frames.Frame.{Part, End, Vanished, Unread}
+use Rattle.worker_protocol.specs.Frames.Frame.{Part, End}
 use Rattle.worker_protocol.specs.Views.{item_of, items_of}
 use Rattle.worker_protocol.specs.Replies.{parts, payload, item_rest, item_reply, replies, absent_reply}
-use Rattle.worker_process.specs.Writing.{IsWritten, IsPrefixWritten, Writes}
+use Rattle.worker_process.specs.Writing.{IsWritten}
 use Rattle.worker_process.specs.declared.job_reply.Opened.{Opened}
 use Rattle.worker_process.specs.Opening.{FailedRoot}
-use Rattle.worker_process.specs.Answers.{GoesOn, AnswersItem, KnownItem, BreaksOff, AnswersJob, KnownJob, value_of}
+use Rattle.worker_process.specs.Answers.{GoesOn, AnswersItem, KnownItem, AnswersJob, KnownJob, value_of}
 use Rattle.worker_process.proofs.Written.{none_written, frames_more, frames_prefix}
 
 -- ---- replies one after the other

@@ -1,18 +1,18 @@
 -- Receiving a frame, as its bytes come.
-use Rattle.std.proofs.Common.{◌≡◌, ◌≢◌, inl, inr, ℕ, suc, ◌+◌, ◌-◌, ◌<◌, ◌≤◌, ◌^◌, Bool, true, false, List, [], ◌∷◌, ◌++◌, length, take, drop, get_or, min, Option, Some, None, option_map, Result, Ok, Err, refl, sym, ◌∙◌, ap, subst, arith}
+use Rattle.std.proofs.Common.{◌≡◌, ◌≢◌, inl, inr, ℕ, ◌+◌, ◌-◌, ◌<◌, ◌≤◌, ◌^◌, Bool, true, false, [], ◌∷◌, ◌++◌, length, take, drop, get_or, min, Option, Some, None, Result, Ok, Err, refl, sym, ◌∙◌, ap, subst, arith}
 use Rattle.std.specs.Prelude.{◌==◌, nat_lt, if◌then◌else◌, slice_index}
 use Rattle.std.specs.Int.{w32, from_be_bytes}
 use Rattle.std.proofs.lemmas.Bool.Decides.{nat_tests}
-use Rattle.std.proofs.lemmas.List.{append-nil, take-append-le, take-append-drop, length-append, length-drop}
+use Rattle.std.proofs.lemmas.List.{append-nil, take-append-le, length-append, length-drop}
 use Rattle.base_devices.specs.Streams.{Gives, IsOver}
 use Rattle.base_model.specs.Text.{Text}
 use Rattle.worker_protocol.specs.declared.frames.fault.FrameFault.{FrameFault}
 use Rattle.worker_protocol.specs.declared.frames.fault.FrameFault.TheVariants as faults
 use Rattle.worker_process.specs.declared.serve_fault.ServeFault.{ServeFault}
 use Rattle.worker_process.specs.declared.serve_fault.ServeFault.TheVariants.{Form, TooLong, TooMany, Ended, Read, OutputStream, NoMemory}
-use Rattle.worker_protocol.specs.Frames.{Frame, FitsFrame, IsPrefix, spell}
+use Rattle.worker_protocol.specs.Frames.{Frame, IsPrefix, spell}
 use Rattle.worker_protocol.specs.Reading.{◌>>=◌, Rest, body_at, is_type, whole, frame_at, IsCutShort}
-use Rattle.worker_process.specs.Receiving.{size_known, IsInputFault, IsFormAt, StopsAt, IsFullyReceived, FaultAt}
+use Rattle.worker_process.specs.Receiving.{size_known, IsInputFault, StopsAt, IsFullyReceived, FaultAt}
 use Rattle.worker_protocol.proofs.Takes.{bind_ok, test_ok}
 use Rattle.worker_protocol.proofs.Laws.{frame_again}
 

@@ -1,5 +1,5 @@
 -- Serving jobs, one after the other.
-use Rattle.std.proofs.Common.{◌≡◌, ◌⊎◌, inl, inr, ℕ, zero, suc, ◌+◌, ◌-◌, ◌<◌, ◌≤◌, ◌^◌, min, Bool, true, false, List, [], ◌∷◌, ◌++◌, length, map, Option, Some, None, Result, Ok, Err, refl, sym, ◌∙◌, ap, subst, arith, append_assoc}
+use Rattle.std.proofs.Common.{◌≡◌, ◌⊎◌, inl, inr, ℕ, suc, ◌+◌, ◌-◌, ◌<◌, ◌^◌, min, Bool, true, false, List, [], ◌∷◌, ◌++◌, length, map, Option, Some, None, Result, Ok, Err, refl, sym, ◌∙◌, ap, subst, arith, append_assoc}
 use Rattle.std.specs.List.{flat_map, AllByRecursion}
 use Rattle.std.proofs.lemmas.List.{append-nil, map-append, length-map, length-append}
 use Rattle.std.proofs.lemmas.Grind.{flat_map-append}
@@ -14,10 +14,10 @@ use Rattle.worker_process.specs.declared.serve_fault.ServeFault.TheVariants.{For
 use Rattle.worker_protocol.specs.Frames.{Roots, Job, Frame, FitsFrame, spell}
 use Rattle.worker_protocol.specs.Frames.Frame.{Setup, Task}
 use Rattle.worker_process.specs.Opening.{FailedRoot}
-use Rattle.worker_process.specs.Writing.{IsWritten, IsPrefixWritten, Writes, IsOutputFault}
-use Rattle.worker_process.specs.Receiving.{StopsAt, IsFullyReceived, Receives, IsNotOutput}
-use Rattle.worker_process.specs.Answers.{BreaksOff, AnswersJob, KnownJob}
-use Rattle.worker_process.specs.Serving.{Talk, counts, frames_received, jobs_received, bytes_received, next_letter, frame_limit, Counts, count_of, IsLater, Rose, AnswersAll, Talked, EndsAt, WroteAnswers, OpenedAt, Served, ServedNext, ServedJobs, JobsEnd, NotOpened}
+use Rattle.worker_process.specs.Writing.{IsWritten, IsPrefixWritten, IsOutputFault}
+use Rattle.worker_process.specs.Receiving.{StopsAt, IsFullyReceived, IsNotOutput}
+use Rattle.worker_process.specs.Answers.{AnswersJob, KnownJob}
+use Rattle.worker_process.specs.Serving.{bytes_received, Counts, IsLater, Rose, AnswersAll, EndsAt, WroteAnswers, OpenedAt, Served, ServedNext, ServedJobs, JobsEnd, NotOpened}
 use Rattle.worker_process.specs.Serving.Talk.{Silent, Received}
 use Rattle.worker_process.proofs.Written.{none_written, nothing_written, whole_prefix, frames_more, frames_prefix}
 use Rattle.worker_process.proofs.Received.{true_start}

@@ -1,13 +1,12 @@
 -- What several writes have written.
-use Rattle.std.proofs.Common.{◌≡◌, ℕ, ◌+◌, ◌≤◌, List, [], ◌∷◌, ◌++◌, length, min, take, drop, Option, Some, None, option_map, Result, Ok, Err, refl, sym, ap, subst, ◌∙◌, append_assoc, arith}
+use Rattle.std.proofs.Common.{◌≡◌, ℕ, ◌+◌, List, [], ◌∷◌, ◌++◌, length, min, take, drop, Option, Some, None, option_map, refl, sym, ap, subst, ◌∙◌, append_assoc, arith}
 use Rattle.std.specs.List.{flat_map}
 use Rattle.std.proofs.Math.Seq.{take-add, take-append-add, take-length}
 use Rattle.std.proofs.lemmas.List.{take-append-le, take_min}
 use Rattle.std.proofs.lemmas.Grind.{flat_map-append}
 use Rattle.base_model.specs.Text.{Text}
-use Rattle.worker_process.specs.declared.serve_fault.ServeFault.{ServeFault}
 use Rattle.worker_protocol.specs.Frames.{Frame, spell}
-use Rattle.worker_process.specs.Writing.{IsWritten, IsPrefixWritten, Adds, Writes}
+use Rattle.worker_process.specs.Writing.{IsWritten, IsPrefixWritten}
 
 abbrev pub more : Text → Option Text → Option Text
 more added = option_map (λ text. text ++ added)

@@ -1,7 +1,6 @@
 -- What a worker answers to a job, where the roots say what they hold (own).
-use Rattle.std.specs.Prelude.{◌≡◌, ◌⊎◌, ◌<◌, ◌≤◌, ℕ, Bool, true, false, List, [], ◌∷◌, ◌++◌, length, take, drop, Option, Some, None, Result, Ok, Err, IsSome, IsSomeAnd, IfOk}
+use Rattle.std.specs.Prelude.{◌≡◌, ◌⊎◌, ◌<◌, ℕ, Bool, true, false, List, [], ◌∷◌, ◌++◌, length, take, drop, Option, Some, None, Result, Ok, Err, IsSome, IsSomeAnd, IfOk}
 use Rattle.std.specs.List.{flat_map, AllByRecursion}
-use Rattle.base_devices.specs.Cause.{Rises}
 use Rattle.base_devices.specs.Content.{Content, Value}
 use Rattle.base_model.specs.Text.{Text}
 use Rattle.worker_process.specs.declared.serve_fault.ServeFault.{ServeFault}

@@ -3,3 +3,4 @@ pub mod Answers
 pub mod Opening
 pub mod Receiving
 pub mod Serving
+pub mod Parts

@@ -1,12 +1,18 @@
 -- What a worker receives of its input (own).
-use Rattle.std.specs.Prelude.{◌≡◌, ◌≢◌, ◌⊎◌, ◌<◌, ◌≤◌, ◌+◌, ◌-◌, ◌^◌, ℕ, min, [], ◌++◌, length, take, drop, slice_index, Option, Some, None, Result, Ok, Err}
+use Rattle.std.specs.Prelude.{◌≡◌, ◌≢◌, ◌⊎◌, ◌<◌, ◌+◌, ◌-◌, ◌^◌, ℕ, Bool, min, [], ◌++◌, length, take, drop, slice_index, Option, Some, None, Result, Ok, Err, IfOk, MatchBool}
 use Rattle.std.specs.Int.{w32, from_be_bytes}
+use Rattle.base_devices.specs.States.{InputState}
+use Rattle.base_devices.specs.Streams.{Gives}
 use Rattle.base_model.specs.Text.{Text}
+use Rattle.worker_protocol.specs.declared.frames.frames.Job as rust_job
+use Rattle.worker_protocol.specs.declared.frames.frames.Roots as rust_roots
 use Rattle.worker_protocol.specs.declared.frames.fault.FrameFault.TheVariants as faults
 use Rattle.worker_process.specs.declared.serve_fault.ServeFault.{ServeFault}
 use Rattle.worker_process.specs.declared.serve_fault.ServeFault.TheVariants.{Form, TooLong, TooMany, Ended, Read, OutputStream, NoMemory}
 use Rattle.worker_protocol.specs.Frames.{Frame, FitsFrame, spell}
+use Rattle.worker_protocol.specs.Frames.Frame.{Setup, Task}
 use Rattle.worker_protocol.specs.Reading.{frame_at}
+use Rattle.worker_protocol.specs.Views.{job_of, roots_of}
 
 -- the length of the frame at the front of the bytes, by its own length
 abbrev pub size_known : Text → ℕ
@@ -54,6 +60,25 @@ abbrev pub Receives : {X : Type 0} → (X → Frame) → ℕ → ℕ → Text �
 Receives view letter start rest (Ok None) left = (rest ≡ []) × (left ≡ Some [])
 Receives view letter start rest (Ok (Some x)) left = IsFullyReceived (view x.0) x.1 rest left
 Receives view letter start rest (Err e) left = StopsAt letter start rest e
+
+-- the same of an input of which it is known what is left: for the setup, and for a job before whose frame this many
+-- bytes came
+abbrev pub ReceivesSetup : InputState → Result (Option (rust_roots.Roots × ℕ)) ServeFault → InputState → Type 0
+ReceivesSetup old result new =
+    (rest : Text) → old.left ≡ Some rest → Receives (λ r. Setup (roots_of r)) 83 0 rest result new.left
+
+abbrev pub ReceivesJob : ℕ → InputState → Result (Option (rust_job.Job × ℕ)) ServeFault → InputState → Type 0
+ReceivesJob start old result new =
+    (rest : Text) → old.left ≡ Some rest → Receives (λ j. Task (job_of j)) 74 start rest result new.left
+
+-- whatever was to come of the input, with these bytes before it, comes still
+abbrev pub StillGives : Text → InputState → Text → InputState → Type 0
+StillGives bytes old more new = (total : Option Text) → Gives total bytes old.left → Gives total more new.left
+
+-- the result says whether the input is over, where it is known what is left of it
+abbrev pub SaysWhetherOver : InputState → Result Bool ServeFault → Type 0
+SaysWhetherOver old result =
+    (rest : Text) → old.left ≡ Some rest → IfOk result (λ b. MatchBool b (rest ≡ []) (0 < length rest))
 
 -- what looking at the front of a frame finds
 abbrev pub FaultAt : ℕ → Text → ServeFault → Type 0

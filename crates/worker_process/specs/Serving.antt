@@ -7,7 +7,7 @@ use Rattle.base_model.specs.Text.{Text}
 use Rattle.worker_protocol.specs.declared.frames.frames.Root.{Root}
 use Rattle.worker_process.specs.declared.job_reply.Opened.{Opened}
 use Rattle.worker_process.specs.declared.serve_fault.ServeFault.{ServeFault}
-use Rattle.worker_process.specs.declared.serve_fault.ServeFault.TheVariants.{Form, TooLong, TooMany, Ended, Read, OutputStream, NoMemory}
+use Rattle.worker_process.specs.declared.serve_fault.ServeFault.TheVariants.{TooMany, OutputStream, NoMemory}
 use Rattle.worker_protocol.specs.Frames.{Roots, Job, Frame, FitsFrame, spell}
 use Rattle.worker_protocol.specs.Frames.Frame.{Setup, Task}
 use Rattle.worker_process.specs.Writing.{IsWritten, IsPrefixWritten, IsOutputFault}

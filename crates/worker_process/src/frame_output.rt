@@ -1,10 +1,11 @@
 // Writes frames to the parent.
-ghost use Rattle.std.specs.Prelude.{◌≡◌, ◌<◌, ◌≤◌, ◌⊎◌, [], ◌∷◌, take, drop, length, IsErrOf, IfErr};
+ghost use Rattle.std.specs.Prelude.{◌≡◌, ◌<◌, ◌≤◌, ◌⊎◌, [], ◌∷◌, length, IsErrOf, IfErr};
 ghost use Rattle.base_devices.specs.Cause.{Rises};
 ghost use Rattle.worker_process.specs.declared.serve_fault.ServeFault.TheVariants.{OutputStream as OutputFailed};
 ghost use Rattle.worker_protocol.specs.Frames.{FitsFrame, spell};
-ghost use Rattle.worker_protocol.specs.Frames.Frame.{Part};
+ghost use Rattle.worker_protocol.specs.declared.frames.frames.JobKind.TheVariants.{Read};
 ghost use Rattle.worker_protocol.specs.Views.{frame_of};
+ghost use Rattle.worker_process.specs.Parts.{WritesPart};
 ghost use Rattle.worker_process.specs.Writing.{Adds, Writes, IsOutputFault};
 
 use crate::serve_fault::ServeFault;
@@ -64,8 +65,7 @@ pub(crate) fn tell_part<O: OutputStream>(
 ) -> Result<(), ServeFault>
     requires room { length room.old ≡ 32773 }
     requires count { count ≤ 32768 }
-    ensures writes { Writes result (Part (take count (drop 5 room.old)) ∷ []) (O.state out.old).written
-        (O.state out.new).written }
+    ensures writes { WritesPart result Read count room.old (O.state out.old) (O.state out.new) }
     ensures room { length room.new ≡ length room.old }
     ensures sink { IsErrOf result OutputFailed → Rises (O.state out.old).faults (O.state out.new).faults }
     ensures later { (O.state out.old).faults ≤ (O.state out.new).faults }

@@ -8,8 +8,9 @@ ghost use Rattle.worker_protocol.specs.Frames.{part_size};
 ghost use Rattle.worker_protocol.specs.Frames.Frame.{End};
 ghost use Rattle.worker_protocol.specs.Views.{item_of};
 ghost use Rattle.worker_protocol.specs.Replies.{payload};
-ghost use Rattle.worker_process.specs.Answers.{part_frames, Shows, KnownItem, KnownAbsent, KnownUnread};
-ghost use Rattle.worker_process.specs.Writing.{Writes, IsOutputFault};
+ghost use Rattle.worker_process.specs.Answers.{Shows, KnownItem, KnownAbsent, KnownUnread};
+ghost use Rattle.worker_process.specs.Parts.{WritesPart, ItemAnswered};
+ghost use Rattle.worker_process.specs.Writing.{IsOutputFault};
 
 use crate::frame_output::{HEAD_SIZE, PART_SIZE, tell, tell_part};
 use crate::parts::{fill_part, next_part};
@@ -56,8 +57,7 @@ fn tell_bytes<O: OutputStream>(
 ) -> Result<(), ServeFault>
     requires room { length room.old ≡ 32773 }
     requires count { count ≤ 32768 }
-    ensures writes { Writes result (part_frames kind (take count (drop 5 room.old))) (O.state out.old).written
-        (O.state out.new).written }
+    ensures writes { WritesPart result kind count room.old (O.state out.old) (O.state out.new) }
     ensures room { length room.new ≡ length room.old }
     ensures sink { IsErrOf result OutputFailed → Rises (O.state out.old).faults (O.state out.new).faults }
     ensures later { (O.state out.old).faults ≤ (O.state out.new).faults }
@@ -147,9 +147,7 @@ pub(crate) fn answer_item<O: OutputStream, F: Files>(
     room: &mut [u8],
 ) -> Result<bool, ServeFault>
     requires room { length room.old ≡ 32773 }
-    ensures known { IfSome (F.files files.old)
-        (λ f. KnownItem kind (item_of item.now) (f (string_bytes item.now.path))
-        (Rises (F.faults files.old) (F.faults files.new)) result (O.state out.old).written (O.state out.new).written) }
+    ensures known { ItemAnswered result F.files F.faults O.state kind item.now files.old out.old files.new out.new }
     ensures room { length room.new ≡ length room.old }
     ensures files { F.files files.new ≡ F.files files.old }
     ensures place { F.place files.new ≡ F.place files.old }

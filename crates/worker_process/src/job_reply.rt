@@ -1,11 +1,12 @@
 // Answers a job.
-ghost use Rattle.std.specs.Prelude.{◌≡◌, ◌≤◌, ◌⊎◌, Some, false, length, string_bytes, IfErr, IfSome, IsErrOf};
+ghost use Rattle.std.specs.Prelude.{◌≡◌, ◌≤◌, Some, length, IfErr, IsErrOf};
 ghost use Rattle.base_devices.specs.Cause.{Rises};
 ghost use Rattle.base_devices.specs.Content.{Content};
 ghost use Rattle.worker_process.specs.declared.serve_fault.ServeFault.TheVariants.{OutputStream as OutputFailed};
 ghost use Rattle.worker_protocol.specs.Views.{item_of, job_of};
 ghost use Rattle.worker_process.specs.Answers.{value_of, KnownItem, KnownJob};
 ghost use Rattle.worker_process.specs.Opening.{FailedRoot};
+ghost use Rattle.worker_process.specs.Parts.{Answered};
 ghost use Rattle.worker_process.specs.Writing.{IsOutputFault};
 
 use crate::item_answer::{answer_item, tell_unread};
@@ -21,6 +22,13 @@ pub(crate) struct Opened {
     pub repo: bool,
 }
 
+// An item of a job.
+#[derive(Clone, Copy)]
+struct Asked<'a> {
+    kind: JobKind,
+    item: &'a Item,
+}
+
 // Answers an item, and returns whether the reply continues after it.
 fn answer_next<O: OutputStream, F: Files>(
     alloc: Global,
@@ -32,10 +40,7 @@ fn answer_next<O: OutputStream, F: Files>(
     room: &mut [u8],
 ) -> Result<bool, ServeFault>
     requires room { length room.old ≡ 32773 }
-    ensures known { IfSome (F.files files.old)
-        (λ f. KnownItem kind (item_of item.now) (f (string_bytes item.now.path))
-        ((is_open ≡ false) ⊎ Rises (F.faults files.old) (F.faults files.new)) result (O.state out.old).written
-        (O.state out.new).written) }
+    ensures known { Answered is_open result F.files F.faults O.state kind item.now files.old out.old files.new out.new }
     ensures room { length room.new ≡ length room.old }
     ensures files { F.files files.new ≡ F.files files.old }
     ensures place { F.place files.new ≡ F.place files.old }
@@ -58,15 +63,14 @@ fn answer_of_root<O: OutputStream, F: Files, G: Files>(
     tree: &mut F,
     repo: &mut G,
     opened: Opened,
-    kind: JobKind,
-    item: &Item,
+    asked: Asked<'_>,
     room: &mut [u8],
 ) -> Result<bool, ServeFault>
     requires room { length room.old ≡ 32773 }
     ensures known { (ft fr : Content) → F.files tree.old ≡ Some ft → G.files repo.old ≡ Some fr
-        → KnownItem kind (item_of item.now) (value_of ft fr (item_of item.now))
+        → KnownItem asked.entry.kind (item_of asked.entry.item.now) (value_of ft fr (item_of asked.entry.item.now))
         (FailedRoot opened (F.faults tree.old) (G.faults repo.old) (F.faults tree.new)
-        (G.faults repo.new) item.now.root) result (O.state out.old).written (O.state out.new).written }
+        (G.faults repo.new) asked.entry.item.now.root) result (O.state out.old).written (O.state out.new).written }
     ensures room { length room.new ≡ length room.old }
     ensures tree { F.files tree.new ≡ F.files tree.old }
     ensures repo { G.files repo.new ≡ G.files repo.old }
@@ -78,9 +82,17 @@ fn answer_of_root<O: OutputStream, F: Files, G: Files>(
     ensures later { (O.state out.old).faults ≤ (O.state out.new).faults }
     ensures only { IfErr result IsOutputFault }
 {
-    match item.root {
-        Root::DataFolder => answer_next(alloc, out, tree, opened.tree, kind, item, room),
-        Root::Repo => answer_next(alloc, out, repo, opened.repo, kind, item, room),
+    match asked.item.root {
+        Root::DataFolder => answer_next(
+            alloc,
+            out,
+            tree,
+            opened.tree,
+            asked.kind,
+            asked.item,
+            room,
+        ),
+        Root::Repo => answer_next(alloc, out, repo, opened.repo, asked.kind, asked.item, room),
     }
 }
 
@@ -111,7 +123,11 @@ pub(crate) fn answer_job<O: OutputStream, F: Files, G: Files>(
     ensures only { IfErr result IsOutputFault }
 {
     for item in &job.items {
-        if !answer_of_root(alloc, out, tree, repo, opened, job.kind, item, room)? {
+        let asked = Asked {
+            kind: job.kind,
+            item,
+        };
+        if !answer_of_root(alloc, out, tree, repo, opened, asked, room)? {
             return Ok(());
         }
     }

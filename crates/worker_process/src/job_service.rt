@@ -19,6 +19,13 @@ use worker_protocol::Roots;
 /// This many frames are taken, the setup among them.
 const FRAME_LIMIT: u64 = 4_294_967_295;
 
+// Which of the roots were opened, and how many bytes of the input came before the next job.
+#[derive(Clone, Copy)]
+struct Progress {
+    opened: Opened,
+    start: u64,
+}
+
 // Opens a root, and returns whether that was so.
 fn open_root<F: Files>(files: &mut F, root: &str) -> Result<bool, ServeFault>
     ensures opened { IfOk result (λ b. b ≡ true → F.place files.new ≡ root.now) }
@@ -61,15 +68,14 @@ fn serve_next<I: InputFiles, O: OutputStream, F: Files, G: Files>(
     out: &mut O,
     tree: &mut F,
     repo: &mut G,
-    opened: Opened,
+    at: Progress,
     room: &mut [u8],
-    start: u64,
 ) -> Result<Option<u64>, ServeFault>
     requires room { length room.old ≡ 32773 }
     ensures known { (ft fr : Content) (rest : Text) → F.files tree.old ≡ Some ft → G.files repo.old ≡ Some fr
         → (I.state input.old).left ≡ Some rest
-        → ServedNext ft fr (FailedRoot opened (F.faults tree.old) (G.faults repo.old) (F.faults tree.new)
-        (G.faults repo.new)) start rest result (I.state input.new).left (O.state out.old).written
+        → ServedNext ft fr (FailedRoot at.opened (F.faults tree.old) (G.faults repo.old) (F.faults tree.new)
+        (G.faults repo.new)) at.start rest result (I.state input.new).left (O.state out.old).written
         (O.state out.new).written }
     ensures room { length room.new ≡ length room.old }
     ensures tree { F.files tree.new ≡ F.files tree.old }
@@ -83,12 +89,12 @@ fn serve_next<I: InputFiles, O: OutputStream, F: Files, G: Files>(
     ensures sink { IsErrOf result OutputFailed → Rises (O.state out.old).faults (O.state out.new).faults }
     ensures out_later { (O.state out.old).faults ≤ (O.state out.new).faults }
 {
-    let (job, size) = match receive_job(alloc, input, room, start) {
+    let (job, size) = match receive_job(alloc, input, room, at.start) {
         Ok(Some(received_reply)) => received_reply,
         Ok(None) => return Ok(None),
         Err(fault) => return Err(fault),
     };
-    match answer_job(alloc, out, tree, repo, opened, &job, room) {
+    match answer_job(alloc, out, tree, repo, at.opened, &job, room) {
         Ok(()) => Ok(Some(size)),
         Err(fault) => Err(fault),
     }
@@ -133,15 +139,14 @@ fn serve_jobs<I: InputFiles, O: OutputStream, F: Files, G: Files>(
     out: &mut O,
     tree: &mut F,
     repo: &mut G,
-    opened: Opened,
+    at: Progress,
     room: &mut [u8],
-    start: u64,
 ) -> Result<u64, ServeFault>
     requires room { length room.old ≡ 32773 }
     ensures served { (ft fr : Content) (rest : Text) → F.files tree.old ≡ Some ft → G.files repo.old ≡ Some fr
         → (I.state input.old).left ≡ Some rest
-        → ServedJobs ft fr (NotOpened opened) (counts (F.faults tree.old) (G.faults repo.old))
-        (counts (F.faults tree.new) (G.faults repo.new)) start rest result (O.state out.old).written
+        → ServedJobs ft fr (NotOpened at.opened) (counts (F.faults tree.old) (G.faults repo.old))
+        (counts (F.faults tree.new) (G.faults repo.new)) at.start rest result (O.state out.old).written
         (O.state out.new).written }
     ensures tree { F.files tree.new ≡ F.files tree.old }
     ensures repo { G.files repo.new ≡ G.files repo.old }
@@ -153,9 +158,13 @@ fn serve_jobs<I: InputFiles, O: OutputStream, F: Files, G: Files>(
     ensures sink { IsErrOf result OutputFailed → Rises (O.state out.old).faults (O.state out.new).faults }
 {
     let limit = job_limit();
-    let mut place = start;
+    let mut place = at.start;
     for jobs in 0..limit {
-        match serve_next(alloc, input, out, tree, repo, opened, room, place) {
+        let next = Progress {
+            opened: at.opened,
+            start: place,
+        };
+        match serve_next(alloc, input, out, tree, repo, next, room) {
             Ok(Some(size)) => place = place.saturating_add(size),
             Ok(None) => return Ok(jobs),
             Err(fault) => return Err(fault),
@@ -205,5 +214,9 @@ pub fn serve<I: InputFiles, O: OutputStream, F: Files, G: Files>(
         Ok(opened) => opened,
         Err(fault) => return Err(fault),
     };
-    serve_jobs(alloc, input, out, tree, repo, opened, &mut room, size)
+    let at = Progress {
+        opened,
+        start: size,
+    };
+    serve_jobs(alloc, input, out, tree, repo, at, &mut room)
 }

@@ -1,11 +1,8 @@
 // Reads the parts of an item.
-ghost use Rattle.std.specs.Prelude.{◌≡◌, ◌<◌, ◌≤◌, ◌+◌, ◌-◌, ◌^◌, ℕ, Option, Some, min, take, drop, length, string_bytes, IfOk, IfSome};
+ghost use Rattle.std.specs.Prelude.{◌≡◌, ◌<◌, ◌≤◌, ◌+◌, ◌-◌, ◌^◌, min, take, length, IfOk, IfSome};
 ghost use Rattle.base_devices.specs.Cause.{HasCause};
-ghost use Rattle.base_devices.specs.Content.{ReadsPart};
-ghost use Rattle.worker_protocol.specs.Views.{item_of};
-ghost use Rattle.base_model.specs.Text.{Text};
-ghost use Rattle.worker_protocol.specs.Replies.{payload};
-ghost use Rattle.worker_process.specs.Answers.{Fills, FillsPart, IsNextPart};
+ghost use Rattle.worker_process.specs.Answers.{Fills};
+ghost use Rattle.worker_process.specs.Parts.{ReadsOn, FillsPartOf, IsNextPartOf};
 
 use crate::frame_output::{HEAD_SIZE, PART_SIZE};
 use base_devices::{DeviceError, Files};
@@ -21,9 +18,7 @@ fn read_on<F: Files>(
 ) -> Result<usize, DeviceError>
     requires have { have ≤ length buf.old }
     requires within { at + have < 2 ^ 64 }
-    ensures bytes { IfOk result
-        (λ n. IfSome (F.files files.old)
-        (λ f. IfSome (f name.now) (λ b. ReadsPart b (at + have) (length buf.old - have) (drop have buf.new) n))) }
+    ensures bytes { IfOk result (ReadsOn (F.files files.old) name.now at have buf.old buf.new) }
     ensures prefix { take have buf.new ≡ take have buf.old }
     ensures length { length buf.new ≡ length buf.old }
     ensures room { IfOk result (λ n. n ≤ length buf.old - have) }
@@ -86,9 +81,7 @@ pub(crate) fn fill_part<F: Files>(
     requires room { length room.old ≡ 32773 }
     requires known { known ≤ item.now.size }
     requires within { item.now.at + known < 2 ^ 64 }
-    ensures known { IfOk result
-        (λ r. IfSome (F.files files.old)
-        (λ f. FillsPart (f (string_bytes item.now.path)) (item_of item.now) known room.new r)) }
+    ensures known { IfOk result (FillsPartOf (F.files files.old) item.now known room.new) }
     ensures length { length room.new ≡ length room.old }
     ensures room { IfOk result (λ r. IfSome r (λ n. (n ≤ 32768) × (n ≤ item.now.size - known))) }
     ensures within { IfOk result (λ r. IfSome r (λ n. item.now.at + known + n < 2 ^ 64)) }
@@ -118,9 +111,7 @@ pub(crate) fn next_part<F: Files>(
     requires room { length room.old ≡ 32773 }
     requires known { known ≤ item.now.size }
     requires within { item.now.at + known < 2 ^ 64 }
-    ensures known { IfOk result
-        (λ n. IfSome (F.files files.old) (λ f. (bytes : Text) → f (string_bytes item.now.path) ≡ Some bytes
-        → IsNextPart (drop known (payload (item_of item.now) bytes)) last (drop 5 room.new) n)) }
+    ensures known { IfOk result (IsNextPartOf (F.files files.old) item.now known last room.new) }
     ensures length { length room.new ≡ length room.old }
     ensures room { IfOk result (λ n. (n ≤ 32768) × (n ≤ item.now.size - known)) }
     ensures within { IfOk result (λ n. item.now.at + known + n < 2 ^ 64) }

@@ -1,15 +1,14 @@
 // Receives frames from the parent.
-ghost use Rattle.std.specs.Prelude.{◌≡◌, ◌≢◌, ◌<◌, ◌≤◌, ◌+◌, ◌^◌, Option, Some, [], ℕ, take, length, vec_len, Err, OnOk, IfOk, IfErr, IfSome, IfNone, IsErrOf, MatchBool};
+ghost use Rattle.std.specs.Prelude.{◌≡◌, ◌<◌, ◌≤◌, ◌+◌, ◌^◌, Some, length, vec_len, Err, OnOk, IfOk, IfErr, IfSome, IfNone, IsErrOf};
 ghost use Rattle.base_devices.specs.Cause.{Rises};
-ghost use Rattle.base_devices.specs.Streams.{Gives, IsOver};
+ghost use Rattle.base_devices.specs.Streams.{IsOver};
 ghost use Rattle.base_model.specs.Text.{Text};
 ghost use Rattle.worker_process.specs.declared.serve_fault.ServeFault.TheVariants.{Read as InputFailed};
 ghost use Rattle.worker_protocol.specs.declared.frames.fault.FrameFault.TheVariants as faults;
 ghost use Rattle.worker_protocol.specs.Frames.{IsPrefix};
-ghost use Rattle.worker_protocol.specs.Frames.Frame.{Setup, Task};
-ghost use Rattle.worker_protocol.specs.Views.{frame_of, roots_of, job_of};
+ghost use Rattle.worker_protocol.specs.Views.{frame_of};
 ghost use Rattle.worker_protocol.specs.Reading.{frame_at, IsCutShort};
-ghost use Rattle.worker_process.specs.Receiving.{size_known, IsInputFault, IsNotOutput, Receives, FaultAt};
+ghost use Rattle.worker_process.specs.Receiving.{size_known, IsInputFault, IsNotOutput, StillGives, Receives, ReceivesSetup, ReceivesJob, SaysWhetherOver, FaultAt};
 
 use crate::frame_output::HEAD_SIZE;
 use crate::serve_fault::ServeFault;
@@ -29,8 +28,7 @@ fn read_some<I: InputFiles>(
 ) -> Result<usize, ServeFault>
     requires room { 0 < length room.old }
     requires most { 0 < most }
-    ensures given { OnOk result ((total : Option Text) → Gives total bytes.old.items (I.state input.old).left
-        → Gives total bytes.new.items (I.state input.new).left) }
+    ensures given { OnOk result (StillGives bytes.old.items (I.state input.old) bytes.new.items (I.state input.new)) }
     ensures count { IfOk result (λ n. (n ≤ most) × (vec_len bytes.new ≡ vec_len bytes.old + n)) }
     ensures end { IfOk result (λ n. n ≡ 0 → IsOver (I.state input.new).left) }
     ensures room { length room.new ≡ length room.old }
@@ -57,8 +55,7 @@ fn read_to<I: InputFiles>(
 ) -> Result<(), ServeFault>
     requires room { 0 < length room.old }
     requires wanted { vec_len bytes.old ≤ wanted }
-    ensures given { OnOk result ((total : Option Text) → Gives total bytes.old.items (I.state input.old).left
-        → Gives total bytes.new.items (I.state input.new).left) }
+    ensures given { OnOk result (StillGives bytes.old.items (I.state input.old) bytes.new.items (I.state input.new)) }
     ensures wanted { OnOk result (vec_len bytes.new ≤ wanted) }
     ensures end { OnOk result (vec_len bytes.new < wanted → IsOver (I.state input.new).left) }
     ensures room { length room.new ≡ length room.old }
@@ -118,7 +115,7 @@ fn look(alloc: Global, bytes: &[u8], start: u64) -> Result<Option<(Frame, usize)
 
 // The next frame, which is to be of this type, and its length; none where the input is over. This many bytes came
 // before.
-fn receive_reply<I: InputFiles>(
+fn receive_frame<I: InputFiles>(
     alloc: Global,
     input: &mut I,
     room: &mut [u8],
@@ -164,14 +161,13 @@ pub(crate) fn receive_setup<I: InputFiles>(
     room: &mut [u8],
 ) -> Result<Option<(Roots, u64)>, ServeFault>
     requires { 0 < length room.old }
-    ensures received_reply { (rest : Text) → (I.state input.old).left ≡ Some rest
-        → Receives (λ r. Setup (roots_of r)) 83 0 rest result (I.state input.new).left }
+    ensures received_reply { ReceivesSetup (I.state input.old) result (I.state input.new) }
     ensures room { length room.new ≡ length room.old }
     ensures read { IsErrOf result InputFailed → Rises (I.state input.old).faults (I.state input.new).faults }
     ensures later { (I.state input.old).faults ≤ (I.state input.new).faults }
     ensures only { IfErr result IsNotOutput }
 {
-    let Some((frame, size)) = receive_reply(alloc, input, room, b'S', 0)? else {
+    let Some((frame, size)) = receive_frame(alloc, input, room, b'S', 0)? else {
         return Ok(None);
     };
     match frame {
@@ -189,14 +185,13 @@ pub(crate) fn receive_job<I: InputFiles>(
     start: u64,
 ) -> Result<Option<(Job, u64)>, ServeFault>
     requires { 0 < length room.old }
-    ensures received_reply { (rest : Text) → (I.state input.old).left ≡ Some rest
-        → Receives (λ j. Task (job_of j)) 74 start rest result (I.state input.new).left }
+    ensures received_reply { ReceivesJob start (I.state input.old) result (I.state input.new) }
     ensures room { length room.new ≡ length room.old }
     ensures read { IsErrOf result InputFailed → Rises (I.state input.old).faults (I.state input.new).faults }
     ensures later { (I.state input.old).faults ≤ (I.state input.new).faults }
     ensures only { IfErr result IsNotOutput }
 {
-    let Some((frame, size)) = receive_reply(alloc, input, room, b'J', start)? else {
+    let Some((frame, size)) = receive_frame(alloc, input, room, b'J', start)? else {
         return Ok(None);
     };
     match frame {
@@ -213,8 +208,7 @@ pub(crate) fn is_over<I: InputFiles>(
     room: &mut [u8],
 ) -> Result<bool, ServeFault>
     requires { 0 < length room.old }
-    ensures over { (rest : Text) → (I.state input.old).left ≡ Some rest
-        → IfOk result (λ b. MatchBool b (rest ≡ []) (0 < length rest)) }
+    ensures over { SaysWhetherOver (I.state input.old) result }
     ensures room { length room.new ≡ length room.old }
     ensures read { IsErrOf result InputFailed → Rises (I.state input.old).faults (I.state input.new).faults }
     ensures later { (I.state input.old).faults ≤ (I.state input.new).faults }

@@ -2,6 +2,7 @@ pub mod Frames
 pub mod Replies
 pub mod Views
 pub mod Reading
+pub mod Decoding
 pub mod Lists
 pub mod PartSinkState
 pub mod Takes

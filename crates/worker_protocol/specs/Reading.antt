@@ -82,6 +82,10 @@ abbrev pub is_item_path : Root → Text → Bool
 is_item_path root path = is_utf8 path && nat_le (length path) (path_limit root) && list_all is_path_byte path
     && list_all is_element (elements path)
 
+-- the path of an item of this root, after its length
+abbrev pub item_path_at : Root → ℕ → Rest → Result (Text × Rest) FrameFault
+item_path_at root end rest = text_at (is_item_path root) end rest
+
 unfoldable pub item_at : ℕ → Rest → Result (Item × Rest) FrameFault
 item_at end rest = do
   root ← letter_at root_value end rest

@@ -1,10 +1,12 @@
 -- What was taken from a link, and why no more was. Own.
-use Rattle.std.specs.Prelude.{ℕ, true, ◌≡◌, ◌+◌, ◌-◌, ◌^◌, ◌<◌, ◌≤◌, ◌++◌, [], length, take, min, Option, Some, None, IfSome, Result, Ok, Err}
+use Rattle.std.specs.Prelude.{ℕ, true, ◌≡◌, ◌+◌, ◌-◌, ◌^◌, ◌<◌, ◌≤◌, ◌++◌, [], ◌∷◌, length, take, min, Option, Some, None, IfSome, Result, Ok, Err}
+use Rattle.std.specs.Int.{w32, w64, to_be_bytes}
 use Rattle.base_devices.specs.Cause.{Rises}
 use Rattle.base_devices.specs.Links.{LinkState, Modelled, IsSteady, last_five}
 use Rattle.base_devices.specs.declared.device_error.DeviceError.{DeviceError}
 use Rattle.base_devices.specs.declared.device_error.DeviceError.TheVariants.{Failed, NoMemory}
 use Rattle.base_model.specs.Text.{Text}
+use Rattle.base_text.specs.declared.sum.Sum as digests
 use Rattle.worker_protocol.specs.declared.replies.cause.LostCause.{LostCause}
 use Rattle.worker_protocol.specs.declared.replies.cause.LostCause.TheVariants.{Device, Ended, Form, Sum}
 use Rattle.worker_protocol.specs.declared.replies.cause.ReceiveFault.{ReceiveFault}
@@ -15,6 +17,14 @@ abbrev pub TakesPrefix : Option Modelled → Option Modelled → Text → Type 0
 TakesPrefix None new bytes = new ≡ None
 TakesPrefix (Some known) new bytes = (rest : Text) × (known.pending ≡ bytes ++ rest)
     × (new ≡ Some (record known { pending = rest }))
+
+-- the bytes of a frame's type and the length of its body
+abbrev pub head_bytes : ℕ × ℕ → Text
+head_bytes x = x.0 ∷ to_be_bytes w32 x.1
+
+-- the bytes of the number and the digest that end an item
+abbrev pub end_bytes : ℕ × digests.Sum → Text
+end_bytes x = to_be_bytes w64 x.0 ++ x.1.0
 
 -- these bytes were given, and nothing else happened
 pub record Takes (old new : LinkState) (bytes : Text) : Type 0 where

@@ -3,7 +3,7 @@ ghost use Rattle.std.specs.Prelude.{◌≡◌, ◌≤◌, take, drop, length, st
 ghost use Rattle.std.specs.Int.{w16, w32, w64};
 ghost use Rattle.std.specs.Str.{is_utf8};
 ghost use Rattle.worker_protocol.specs.Views.{rest_of};
-ghost use Rattle.worker_protocol.specs.Reading.{Gives, field_at, number_at, letter_at, text_at, root_value, kind_value, is_item_path};
+ghost use Rattle.worker_protocol.specs.Reading.{Gives, field_at, number_at, letter_at, text_at, root_value, kind_value, is_item_path, item_path_at};
 
 use crate::frames::fault::FrameFault;
 use crate::frames::frames::{JobKind, Root};
@@ -164,8 +164,7 @@ pub(crate) fn path_of(
     rest: Rest<'_>,
 ) -> Result<(String, Rest<'_>), FrameFault>
     requires { rest.left ≤ end }
-    ensures value { Gives (λ x. (string_bytes x.0, rest_of x.1)) result
-        (text_at (is_item_path root) end (rest_of rest.entry)) }
+    ensures value { Gives (λ x. (string_bytes x.0, rest_of x.1)) result (item_path_at root end (rest_of rest.entry)) }
     ensures left { IfOk result (λ x. x.1.left ≤ end) }
 {
     let (length, rest) = u16_of(end, rest)?;

@@ -1,10 +1,10 @@
 // Reads the frame at the front of some bytes.
-ghost use Rattle.std.specs.Prelude.{◌≡◌, ◌-◌, ◌≤◌, ◌++◌, List, ℕ, length, drop, IfOk, IfErr, Ok, Err, ◌≢◌};
-ghost use Rattle.worker_protocol.specs.Frames.{FitsFrame, IsPrefix, spell};
-ghost use Rattle.worker_protocol.specs.Frames as known;
+ghost use Rattle.std.specs.Prelude.{◌≡◌, ◌-◌, ◌≤◌, length, drop, IfOk, IfErr, Ok, Err};
+ghost use Rattle.worker_protocol.specs.Frames.{IsPrefix};
 ghost use Rattle.worker_protocol.specs.declared.frames.fault.FrameFault.TheVariants.{Short};
 ghost use Rattle.worker_protocol.specs.Views.{item_of, items_of, frame_of, rest_of};
-ghost use Rattle.worker_protocol.specs.Reading.{Gives, is_type, item_at, items_at, job_at, setup_at, end_at, part_at, body_at, frame_at, read_as, IsCutShort};
+ghost use Rattle.worker_protocol.specs.Decoding.{IsOnlyReading, IsSettled};
+ghost use Rattle.worker_protocol.specs.Reading.{Gives, is_type, item_at, items_at, job_at, setup_at, end_at, part_at, body_at, frame_at, IsCutShort};
 
 use crate::frames::fault::FrameFault;
 use crate::frames::fields::{Rest, field, kind_of, path_of, root_of, text_of, u32_of, u64_of};
@@ -175,13 +175,11 @@ pub fn decode_frame(alloc: Global, bytes: &[u8]) -> Result<(Frame, usize), Frame
     // What is read keeps the rules, and is spelled so.
     ensures found { IfOk result (λ x. IsPrefix bytes.now (frame_of x.0) x.1) }
     // What is spelled so is read, unless memory runs out.
-    ensures only { (f : known.Frame) (rest : List ℕ) → FitsFrame f → bytes.now ≡ spell f ++ rest
-        → Gives (λ x. (frame_of x.0, x.1)) result (read_as f) }
+    ensures only { IsOnlyReading result bytes.now }
     // It is short only where the frame isn't whole.
     ensures short { IfErr result (λ e. e ≡ Short → IsCutShort bytes.now) }
     // Every other answer is the same, whatever bytes follow.
-    ensures settled { (more : List ℕ) → result ≢ Err Short → Gives (λ x. (frame_of x.0, x.1)) result
-        (frame_at (bytes.now ++ more)) }
+    ensures settled { IsSettled result bytes.now }
     // Which fault is the first.
     ensures exact { Gives (λ x. (frame_of x.0, x.1)) result (frame_at bytes.now) }
 {

@@ -1,7 +1,7 @@
 // Fields of a frame, as a link gives them.
-ghost use Rattle.std.specs.Prelude.{◌≡◌, ◌<◌, ◌≤◌, ◌++◌, ◌∷◌, [], ℕ, List, length, slice_index, IfOk, IfErr, OnOk};
+ghost use Rattle.std.specs.Prelude.{◌≡◌, ◌<◌, ◌≤◌, ◌∷◌, [], ℕ, List, length, slice_index, IfOk, IfErr, OnOk};
 ghost use Rattle.std.specs.Int.{w32, w64, to_be_bytes};
-ghost use Rattle.worker_protocol.specs.Takes.{Takes, Filled, FaultLeaves, Refutes, IsShort, Offers, OffersMany};
+ghost use Rattle.worker_protocol.specs.Takes.{Takes, head_bytes, end_bytes, Filled, FaultLeaves, Refutes, IsShort, Offers, OffersMany};
 
 use crate::replies::cause::{LostCause, ReceiveFault};
 use base_devices::{DeviceError, Link};
@@ -109,8 +109,7 @@ pub(crate) fn receive_bytes<L: Link>(
 
 /// A frame's type and the length of its body.
 pub(crate) fn receive_head<L: Link>(link: &mut L, before: u64) -> Result<(u8, u32), ReceiveFault>
-    ensures takes { IfOk result
-        (λ x. Takes (L.link_state link.old) (L.link_state link.new) (x.0 ∷ to_be_bytes w32 x.1)) }
+    ensures takes { IfOk result (λ x. Takes (L.link_state link.old) (L.link_state link.new) (head_bytes x)) }
     ensures lost { IfErr result (λ e. FaultLeaves e before (L.link_state link.old) (L.link_state link.new)) }
     ensures steady { IfErr result (λ e. Refutes e (OffersMany (L.link_state link.old) 5)) }
     ensures short { IfErr result IsShort }
@@ -122,8 +121,7 @@ pub(crate) fn receive_head<L: Link>(link: &mut L, before: u64) -> Result<(u8, u3
 
 /// The number and the digest that end an item.
 pub(crate) fn receive_end<L: Link>(link: &mut L, before: u64) -> Result<(u64, Sum), ReceiveFault>
-    ensures takes { IfOk result
-        (λ x. Takes (L.link_state link.old) (L.link_state link.new) (to_be_bytes w64 x.0 ++ x.1.0)) }
+    ensures takes { IfOk result (λ x. Takes (L.link_state link.old) (L.link_state link.new) (end_bytes x)) }
     ensures lost { IfErr result (λ e. FaultLeaves e before (L.link_state link.old) (L.link_state link.new)) }
     ensures steady { IfErr result (λ e. Refutes e (OffersMany (L.link_state link.old) 28)) }
     ensures short { IfErr result IsShort }

@@ -1,4 +1,4 @@
-use Rattle.std.proofs.Common.{◌≡◌, ◌≤◌, ◌++◌, ◌-◌, List, ℕ, length, take}
+use Rattle.std.proofs.Common.{◌≤◌, ◌-◌, length, take}
 use Rattle.worker_process.specs.Writing.{IsWritten}
 use Rattle.worker_process.proofs.frame_output.write_all.Given as goal
 

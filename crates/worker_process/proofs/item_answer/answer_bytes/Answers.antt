@@ -1,15 +1,8 @@
-use Rattle.std.proofs.Common.{ℕ, Err, ◌≡◌, ◌<◌, ◌≤◌, ◌+◌, Some, length, take, drop, string_bytes, arith, Option, subst, refl, sym, ap, ◌∙◌}
-use Rattle.std.specs.Prelude.{IfSome}
-use Rattle.sha1.specs.Sha1.{Holds}
+use Rattle.std.proofs.Common.{ℕ, Err, ◌≡◌, ◌+◌, Some, arith, subst, ap, ◌∙◌}
 use Rattle.base_devices.specs.Cause.{Rises}
-use Rattle.base_devices.specs.Content.{Content}
 use Rattle.base_devices.specs.declared.device_error.DeviceError.{DeviceError}
 use Rattle.worker_process.specs.declared.serve_fault.ServeFault.TheVariants.{NoMemory}
-use Rattle.base_model.specs.Text.{Text}
-use Rattle.worker_protocol.specs.Frames.{part_size}
 use Rattle.worker_protocol.specs.Views.{item_of}
-use Rattle.worker_protocol.specs.Replies.{payload}
-use Rattle.worker_process.specs.Answers.{KnownItem}
 use Rattle.worker_process.proofs.BytesKnown.{if_some, if_both, any_fault, rises_from, IsKnown, part_failed, part_known, part_hashed, known_next, known_unread, known_stopped, end_known}
 use Rattle.worker_process.proofs.item_answer.answer_bytes.Goals as goal
 

@@ -1,14 +1,10 @@
-use Rattle.std.proofs.Common.{◌≡◌, ◌<◌, ◌≤◌, ◌+◌, ◌++◌, [], ◌∷◌, Bool, true, false, List, Ok, Err, Option, Some, length, take, drop, sym, ap, subst, ◌∙◌, arith, refl}
-use Rattle.std.proofs.lemmas.List.{map_more, take_all}
-use Rattle.base_devices.specs.Content.{Content}
-use Rattle.base_model.specs.Text.{Text}
-use Rattle.worker_protocol.specs.declared.frames.frames.Root.{Root}
+use Rattle.std.proofs.Common.{◌≡◌, ◌+◌, Bool, List, Ok, Err, length, take, drop, sym, ap, subst, ◌∙◌, arith, refl}
+use Rattle.std.proofs.lemmas.List.{take_all}
 use Rattle.worker_protocol.specs.declared.frames.frames.Item as rust_item
 use Rattle.worker_protocol.specs.Frames.{Item}
 use Rattle.worker_protocol.specs.Views.{item_of, items_of}
 use Rattle.worker_process.specs.Opening.{FailedRoot}
 use Rattle.worker_process.specs.Answers.{KnownItem, KnownJob, value_of}
-use Rattle.worker_process.proofs.Written.{none_written}
 use Rattle.worker_process.proofs.JobKnown.{AreAnswered, item_failed, item_stops, item_goes, items_answered, cut_at, one_more, known_for, failed_from, any_job_fault, none_answered}
 use Rattle.worker_process.proofs.job_reply.answer_job.Goals as goal
 

@@ -1,7 +1,5 @@
-use Rattle.std.proofs.Common.{◌≡◌, ◌≤◌, ◌∙◌, ℕ, Err, arith, sym, subst, refl}
-use Rattle.base_model.specs.Text.{Text}
+use Rattle.std.proofs.Common.{◌∙◌, Err, sym, subst}
 use Rattle.worker_process.specs.declared.serve_fault.ServeFault.{ServeFault}
-use Rattle.worker_process.specs.declared.serve_fault.ServeFault.TheVariants.{NoMemory}
 use Rattle.worker_protocol.specs.Views.{roots_of}
 use Rattle.worker_process.specs.Receiving.{StopsAt}
 use Rattle.worker_process.specs.Serving.{counts, Served}

@@ -1,8 +1,6 @@
-use Rattle.std.proofs.Common.{◌≡◌, ◌≤◌, ◌+◌, ℕ, Ok, Err, Some, None, Option, refl, sym, subst, ◌∙◌, arith}
-use Rattle.base_devices.specs.Content.{Content}
-use Rattle.base_model.specs.Text.{Text}
-use Rattle.worker_process.specs.Serving.{counts, JobsEnd, IsLater}
-use Rattle.worker_process.proofs.Served.{Going, going_start, going_more, going_over, going_failed, going_ended}
+use Rattle.std.proofs.Common.{ℕ, subst, ◌∙◌, arith}
+use Rattle.worker_process.specs.Serving.{counts, JobsEnd}
+use Rattle.worker_process.proofs.Served.{going_more, going_over, going_failed, going_ended}
 use Rattle.worker_process.proofs.job_service.serve_jobs.Goals as goal
 
 pub returns-in-Ok-None-clause-served : goal.returns-in-Ok-None-clause-served
@@ -10,8 +8,8 @@ returns-in-Ok-None-clause-served g c = λ ft fr rest tree repo left.
     let i = c.loop-jobs.invariant in
     let r = c.in-Ok-None.ensures in
     let so = i.so_far ft fr rest tree repo left in
-    going_over ft fr c.args.opened (counts (g.F.Files.faults c.args.tree.now) (g.G.Files.faults c.args.repo.now)) (counts (g.F.Files.faults c.loop-jobs.tree) (g.G.Files.faults c.loop-jobs.repo)) (counts (g.F.Files.faults c.serve_next.new.tree) (g.G.Files.faults c.serve_next.new.repo))
-    c.args.start rest c.loop-jobs.jobs c.loop-jobs.place (g.I.InputFiles.state c.loop-jobs.input).left (g.O.OutputStream.state c.args.out.now).written (g.O.OutputStream.state c.loop-jobs.out).written so (record { tree = r.tree_later; repo = r.repo_later })
+    going_over ft fr c.args.at.opened (counts (g.F.Files.faults c.args.tree.now) (g.G.Files.faults c.args.repo.now)) (counts (g.F.Files.faults c.loop-jobs.tree) (g.G.Files.faults c.loop-jobs.repo)) (counts (g.F.Files.faults c.serve_next.new.tree) (g.G.Files.faults c.serve_next.new.repo))
+    c.args.at.start rest c.loop-jobs.jobs c.loop-jobs.place (g.I.InputFiles.state c.loop-jobs.input).left (g.O.OutputStream.state c.args.out.now).written (g.O.OutputStream.state c.loop-jobs.out).written so (record { tree = r.tree_later; repo = r.repo_later })
     (g.I.InputFiles.state c.serve_next.new.input).left (g.O.OutputStream.state c.serve_next.new.out).written
     (rw c.in-Ok-None.field-0-is at (r.known ft fr so.rest (i.tree ∙ tree) (i.repo ∙ repo) so.left_is))
 
@@ -20,8 +18,8 @@ returns-in-Err-clause-served g c = λ ft fr rest tree repo left.
     let i = c.loop-jobs.invariant in
     let r = c.in-Err.ensures in
     let so = i.so_far ft fr rest tree repo left in
-    going_failed ft fr c.args.opened (counts (g.F.Files.faults c.args.tree.now) (g.G.Files.faults c.args.repo.now)) (counts (g.F.Files.faults c.loop-jobs.tree) (g.G.Files.faults c.loop-jobs.repo)) (counts (g.F.Files.faults c.serve_next.new.tree) (g.G.Files.faults c.serve_next.new.repo))
-    c.args.start rest c.loop-jobs.jobs c.loop-jobs.place (g.I.InputFiles.state c.loop-jobs.input).left (g.O.OutputStream.state c.args.out.now).written (g.O.OutputStream.state c.loop-jobs.out).written so (record { tree = r.tree_later; repo = r.repo_later })
+    going_failed ft fr c.args.at.opened (counts (g.F.Files.faults c.args.tree.now) (g.G.Files.faults c.args.repo.now)) (counts (g.F.Files.faults c.loop-jobs.tree) (g.G.Files.faults c.loop-jobs.repo)) (counts (g.F.Files.faults c.serve_next.new.tree) (g.G.Files.faults c.serve_next.new.repo))
+    c.args.at.start rest c.loop-jobs.jobs c.loop-jobs.place (g.I.InputFiles.state c.loop-jobs.input).left (g.O.OutputStream.state c.args.out.now).written (g.O.OutputStream.state c.loop-jobs.out).written so (record { tree = r.tree_later; repo = r.repo_later })
     c.in-Err.fault (g.I.InputFiles.state c.serve_next.new.input).left (g.O.OutputStream.state c.serve_next.new.out).written
     (r.known ft fr so.rest (i.tree ∙ tree) (i.repo ∙ repo) so.left_is)
 
@@ -41,8 +39,8 @@ loop-jobs-preserved g c =
       out_later = omega (arith, i.out_later, r.out_later);
       so_far = λ ft fr rest tree repo left.
           let so = i.so_far ft fr rest tree repo left in
-          going_more ft fr c.args.opened (counts (g.F.Files.faults c.args.tree.now) (g.G.Files.faults c.args.repo.now)) (counts (g.F.Files.faults c.loop-jobs.tree) (g.G.Files.faults c.loop-jobs.repo)) (counts (g.F.Files.faults c.serve_next.new.tree) (g.G.Files.faults c.serve_next.new.repo))
-          c.args.start rest c.loop-jobs.jobs c.loop-jobs.place (g.I.InputFiles.state c.loop-jobs.input).left (g.O.OutputStream.state c.args.out.now).written (g.O.OutputStream.state c.loop-jobs.out).written so (record { tree = r.tree_later; repo = r.repo_later })
+          going_more ft fr c.args.at.opened (counts (g.F.Files.faults c.args.tree.now) (g.G.Files.faults c.args.repo.now)) (counts (g.F.Files.faults c.loop-jobs.tree) (g.G.Files.faults c.loop-jobs.repo)) (counts (g.F.Files.faults c.serve_next.new.tree) (g.G.Files.faults c.serve_next.new.repo))
+          c.args.at.start rest c.loop-jobs.jobs c.loop-jobs.place (g.I.InputFiles.state c.loop-jobs.input).left (g.O.OutputStream.state c.args.out.now).written (g.O.OutputStream.state c.loop-jobs.out).written so (record { tree = r.tree_later; repo = r.repo_later })
           c.in-Ok-Some.size c.saturating_add-place.result (g.I.InputFiles.state c.serve_next.new.input).left (g.O.OutputStream.state c.serve_next.new.out).written (omega (arith, c.saturating_add-place.ensures))
           (rw c.in-Ok-Some.field-0-is at (r.known ft fr so.rest (i.tree ∙ tree) (i.repo ∙ repo) so.left_is));
     }
@@ -51,6 +49,6 @@ pub returns-clause-served : goal.returns-clause-served
 returns-clause-served g c = λ ft fr rest tree repo left.
     let i = c.loop-jobs.invariant in
     let so = i.so_far ft fr rest tree repo left in
-    going_ended ft fr c.args.opened (counts (g.F.Files.faults c.args.tree.now) (g.G.Files.faults c.args.repo.now)) (counts (g.F.Files.faults c.loop-jobs.tree) (g.G.Files.faults c.loop-jobs.repo))
-    c.args.start rest c.loop-jobs.jobs c.loop-jobs.place (g.I.InputFiles.state c.loop-jobs.input).left (g.O.OutputStream.state c.args.out.now).written (g.O.OutputStream.state c.loop-jobs.out).written c.end_of_jobs.result so
+    going_ended ft fr c.args.at.opened (counts (g.F.Files.faults c.args.tree.now) (g.G.Files.faults c.args.repo.now)) (counts (g.F.Files.faults c.loop-jobs.tree) (g.G.Files.faults c.loop-jobs.repo))
+    c.args.at.start rest c.loop-jobs.jobs c.loop-jobs.place (g.I.InputFiles.state c.loop-jobs.input).left (g.O.OutputStream.state c.args.out.now).written (g.O.OutputStream.state c.loop-jobs.out).written c.end_of_jobs.result so
     (λ begin. subst (λ (n : ℕ). JobsEnd n begin so.rest c.end_of_jobs.result) (omega arith) (c.end_of_jobs.ensures.known begin so.rest so.left_is))

@@ -17,5 +17,5 @@ invariant-loop-jobs g l = let F = g.F.Files in let G = g.G.Files in let O = g.O.
   in_later : (I.state l.fn.input).faults ≤ (I.state l.input).faults;
   out_later : (O.state l.fn.out).faults ≤ (O.state l.out).faults;
   so_far : (ft fr : Content) (rest : Text) → F.files l.fn.tree ≡ Some ft → G.files l.fn.repo ≡ Some fr → (I.state l.fn.input).left ≡ Some rest
-      → Going ft fr (NotOpened l.opened) (counts (F.faults l.fn.tree) (G.faults l.fn.repo)) (counts (F.faults l.tree) (G.faults l.repo)) l.start rest l.jobs l.place (I.state l.input).left (O.state l.fn.out).written (O.state l.out).written;
+      → Going ft fr (NotOpened l.at.opened) (counts (F.faults l.fn.tree) (G.faults l.fn.repo)) (counts (F.faults l.tree) (G.faults l.repo)) l.at.start rest l.jobs l.place (I.state l.input).left (O.state l.fn.out).written (O.state l.out).written;
 }

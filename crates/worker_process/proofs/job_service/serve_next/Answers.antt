@@ -1,7 +1,5 @@
-use Rattle.std.proofs.Common.{◌≡◌, inr, ℕ, Err, Some, None, Option, refl, subst}
-use Rattle.worker_process.specs.declared.serve_fault.ServeFault.{ServeFault}
+use Rattle.std.proofs.Common.{inr, refl}
 use Rattle.worker_protocol.specs.Views.{job_of}
-use Rattle.worker_process.specs.Receiving.{IsNotOutput}
 use Rattle.worker_process.proofs.Served.{not_output}
 use Rattle.worker_process.proofs.job_service.serve_next.Goals as goal
 

@@ -1,4 +1,4 @@
-use Rattle.std.proofs.Common.{◌≡◌, ◌+◌, length, arith, string_bytes, rules}
+use Rattle.std.proofs.Common.{string_bytes, rules}
 use Rattle.worker_protocol.specs.Views.{item_of}
 use Rattle.worker_process.proofs.Parted.{fills_after}
 use Rattle.worker_process.proofs.parts.fill_part.Goals as goal

@@ -1,11 +1,6 @@
-use Rattle.std.proofs.Common.{◌≡◌, ◌<◌, ◌⊎◌, arith, inl, inr, string_bytes, Option, Some, drop, refl, sym, ap, ◌∙◌}
-use Rattle.std.specs.Prelude.{IfSome}
-use Rattle.base_devices.specs.Content.{Content}
-use Rattle.base_model.specs.Text.{Text}
+use Rattle.std.proofs.Common.{◌≡◌, ◌<◌, ◌⊎◌, arith, inl, inr, drop}
 use Rattle.worker_protocol.specs.Frames.{part_size}
 use Rattle.worker_protocol.specs.Views.{item_of}
-use Rattle.worker_protocol.specs.Replies.{payload}
-use Rattle.worker_process.specs.Answers.{IsNextPart}
 use Rattle.worker_process.proofs.BytesKnown.{no_next, each_some}
 use Rattle.worker_process.proofs.parts.next_part.Goals as goal
 use Rattle.worker_process.proofs.parts.next_part.Goals.{then-last-lt-PART_SIZE-via-then-last-lt-PART_SIZE, then-last-lt-PART_SIZE-via-else-last-lt-PART_SIZE+then-known-item}

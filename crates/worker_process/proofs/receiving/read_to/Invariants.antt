@@ -1,4 +1,4 @@
-use Rattle.std.proofs.Common.{◌≡◌, ◌<◌, ◌≤◌, ◌-◌, length, vec_len, Option}
+use Rattle.std.proofs.Common.{◌≡◌, ◌≤◌, ◌-◌, length, vec_len, Option}
 use Rattle.base_devices.specs.Streams.{Gives}
 use Rattle.base_model.specs.Text.{Text}
 use Rattle.worker_process.proofs.receiving.read_to.Given as goal

@@ -1,13 +1,10 @@
-use Rattle.std.proofs.Common.{◌≡◌, ◌<◌, ◌≤◌, ◌+◌, ℕ, Some, None, Option, length, take, vec_len, arith, ap, sym, refl, subst, ◌∙◌}
-use Rattle.std.specs.Prelude.{slice_index, IfSome, IfNone, IfErr}
-use Rattle.base_devices.specs.Streams.{Gives}
-use Rattle.base_model.specs.Text.{Text}
+use Rattle.std.proofs.Common.{◌≡◌, ◌<◌, ◌≤◌, ℕ, length, vec_len, arith, ap, sym, subst, ◌∙◌}
 use Rattle.worker_protocol.specs.Views.{frame_of}
 use Rattle.worker_protocol.specs.Frames.{IsPrefix}
 use Rattle.worker_protocol.specs.Reading.{IsCutShort}
-use Rattle.worker_process.specs.Receiving.{IsFullyReceived, size_known, Receives, FaultAt}
+use Rattle.worker_process.specs.Receiving.{IsFullyReceived, size_known}
 use Rattle.worker_process.proofs.Received.{some_bytes, first_byte, was_read, received_other, received_frame, received_fault, size_same, cut_then}
-use Rattle.worker_process.proofs.receiving.receive_reply.Goals as goal
+use Rattle.worker_process.proofs.receiving.receive_frame.Goals as goal
 
 pub returns-then-index-letter-clause-received_reply : goal.returns-then-index-letter-clause-received_reply
 returns-then-index-letter-clause-received_reply g c = λ rest is.

@@ -2,7 +2,7 @@ use Rattle.std.proofs.Common.{◌≡◌, ◌<◌, ◌≤◌, ◌-◌, ◌^◌, l
 use Rattle.base_devices.specs.Streams.{Gives}
 use Rattle.base_model.specs.Text.{Text}
 use Rattle.worker_process.specs.Receiving.{size_known}
-use Rattle.worker_process.proofs.receiving.receive_reply.Given as goal
+use Rattle.worker_process.proofs.receiving.receive_frame.Given as goal
 
 abbrev pub invariant-stages : goal.invariant-stages
 invariant-stages g l = let I = g.I.InputFiles in record {
