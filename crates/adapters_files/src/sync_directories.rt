@@ -92,7 +92,7 @@ pub fn sync_directories(
     if next < folders.len() && may_hold_file_systems(place) {
         next = add_folders_below(place, next, usize::MAX, &mut folders)?;
     }
-    let known = settled.noted.counted(place);
+    let known = settled.noted.known(place);
     let are_many = next < folders.len() || unknown(&settled.noted, &known, &folders) > FEW;
     see_each(&mut settled.noted, &folders);
     settle_root(place, settled, &known)?;
@@ -114,7 +114,7 @@ pub fn sync_directories(
 pub fn sync_directory(place: &Place, settled: &mut SyncedFolders, folder: &str) -> io::Result<()> {
     let mut folders = folders_above(place, settled, folder)?;
     add_folder(place, place.path_of(folder)?, &mut folders)?;
-    let known = settled.noted.counted(place);
+    let known = settled.noted.known(place);
     see_each(&mut settled.noted, &folders);
     let noted = &mut settled.noted;
     sync_each(place, noted, &known, &folders)?;

@@ -55,7 +55,7 @@ fn take_one<K: Locks>(
     };
     match locks.take(folder, name) {
         Ok(LockAnswer::Acquired) => Ok(()),
-        Ok(LockAnswer::Busy) => Err(Halt::Refused(StageFault::Busy {
+        Ok(LockAnswer::Busy) => Err(Halt::Refused(StageFault::Held {
             name: String::from_str(alloc, name)?,
         })),
         Err(error) => Err(halted(Object::Locks, error)),
