@@ -86,8 +86,8 @@ pub fn fetch_after<D: Disk, S: Disk>(
 ) -> Result<Outcome, Halt<GetFault>>
     requires pair { IfSome (D.state repo.old).view.now (λ f. HasValue stanza.now f (archive_info_of info.now)) }
     requires valid { IsArchiveInfo (archive_info_of info.now) }
-    ensures fetched { IfOk result (FetchedUp D.state S.state stanza.now known.now order.now.word.now order.now.segment queue
-        repo.old spool.old spool.new) }
+    ensures fetched { IfOk result (FetchedUp D.state S.state stanza.now known.now order.now.word.now
+        order.now.segment queue repo.old spool.old spool.new) }
     ensures looks { OnlyReads (D.state repo.old) (D.state repo.new) }
     ensures marks { GivesMarks stanza.now [] (S.state spool.old).view (S.state spool.new).view }
     ensures beside { StaysBeside stanza.now (S.state spool.old).view (S.state spool.new).view }

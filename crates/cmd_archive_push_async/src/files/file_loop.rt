@@ -48,8 +48,8 @@ pub(crate) fn drain_files<D: Disk, S: Disk, T: DataFolder>(
     ensures repo_frame { CallsProperly (D.state repo.old) (D.state repo.new) }
     ensures spool_frame { CallsProperly (S.state spool.old) (S.state spool.new) }
     ensures looks { OnlyReadsFolder (T.state tree.old) (T.state tree.new) }
-    ensures cause { IfErr result (EndsAmong D.state S.state T.state stanza.now id names.now repo.old repo.new spool.old spool.new
-        tree.old tree.new) }
+    ensures cause { IfErr result (EndsAmong D.state S.state T.state stanza.now id names.now
+        repo.old repo.new spool.old spool.new tree.old tree.new) }
 {
     let mut drained = Drained {
         pushed: 0,
@@ -85,8 +85,8 @@ pub(crate) fn drain_named<D: Disk, S: Disk, T: DataFolder>(
     ensures repo_frame { CallsProperly (D.state repo.old) (D.state repo.new) }
     ensures spool_frame { CallsProperly (S.state spool.old) (S.state spool.new) }
     ensures looks { OnlyReadsFolder (T.state tree.old) (T.state tree.new) }
-    ensures cause { IfErr result (EndsAmong D.state S.state T.state stanza.now id names.now repo.old repo.new spool.old spool.new
-        tree.old tree.new) }
+    ensures cause { IfErr result (EndsAmong D.state S.state T.state stanza.now id names.now
+        repo.old repo.new spool.old spool.new tree.old tree.new) }
 {
     match clear_marks(alloc, spool, stanza, names) {
         Ok(()) => drain_files(alloc, repo, spool, tree, stanza, id, system, names),

@@ -74,8 +74,8 @@ fn store_log<D: Disk, S: Disk, T: DataFolder>(
     ensures repo_frame { CallsProperly (D.state repo.old) (D.state repo.new) }
     ensures spool_frame { CallsProperly (S.state spool.old) (S.state spool.new) }
     ensures looks { OnlyReadsFolder (T.state tree.old) (T.state tree.new) }
-    ensures cause { IfErr result (EndsAtFile D.state S.state T.state stanza.now id name repo.old repo.new spool.old spool.new
-        tree.old tree.new) }
+    ensures cause { IfErr result (EndsAtFile D.state S.state T.state stanza.now id name
+        repo.old repo.new spool.old spool.new tree.old tree.new) }
 {
     match push_log(alloc, repo, tree, stanza, id, name, system, log) {
         Ok(tried) => mark_tried(alloc, spool, stanza, name, &tried),
@@ -103,8 +103,8 @@ pub(crate) fn store_file<D: Disk, S: Disk, T: DataFolder>(
     ensures repo_frame { CallsProperly (D.state repo.old) (D.state repo.new) }
     ensures spool_frame { CallsProperly (S.state spool.old) (S.state spool.new) }
     ensures looks { OnlyReadsFolder (T.state tree.old) (T.state tree.new) }
-    ensures cause { IfErr result (EndsAtFile D.state S.state T.state stanza.now id name repo.old repo.new spool.old spool.new
-        tree.old tree.new) }
+    ensures cause { IfErr result (EndsAtFile D.state S.state T.state stanza.now id name
+        repo.old repo.new spool.old spool.new tree.old tree.new) }
 {
     let Ok(text) = archive_name_text(alloc, &name) else {
         return Err(Halt::NoMemory);

@@ -38,8 +38,8 @@ pub fn drain<D: Disk, S: Disk, T: DataFolder>(
     ensures repo_frame { CallsProperly (D.state repo.old) (D.state repo.new) }
     ensures spool_frame { CallsProperly (S.state spool.old) (S.state spool.new) }
     ensures looks { OnlyReadsFolder (T.state tree.old) (T.state tree.new) }
-    ensures cause { IfErr result (EndsAtReady D.state S.state T.state stanza.now id repo.old repo.new spool.old spool.new
-        tree.old tree.new) }
+    ensures cause { IfErr result (EndsAtReady D.state S.state T.state stanza.now id
+        repo.old repo.new spool.old spool.new tree.old tree.new) }
 {
     let names = match ready_names(alloc, tree) {
         Ok(names) => names,
