@@ -82,8 +82,8 @@ IsDraftBy b list second equal listing d =
     IsOfflineBy b.stanza.now b.order (backup_info_of list) (basis_files b) second equal listing d
 
 -- it is of whatever nodes the listing was taken
-abbrev pub IsDraftOf : BackupBasis → rust_backup.BackupInfo → ℕ → Listing → Draft → Type 0
-IsDraftOf b list second listing d =
+abbrev pub IsDraftOfTaken : BackupBasis → rust_backup.BackupInfo → ℕ → Listing → Draft → Type 0
+IsDraftOfTaken b list second listing d =
     IsOfflineWith b.stanza.now b.order (taken_files listing) (taken_folders listing) (backup_info_of list)
     (basis_files b) second d
 

@@ -69,9 +69,9 @@ DoesOffline task of pool result state before after =
     (state before) (state after)
 
 -- a backup more is made, of what the folder of the stopped server shows
-abbrev pub BacksUp : {L S T D : Type 0} → OfflineTask → (L → LinkState) → Pool L S → (T → DataFolderState) → T
+abbrev pub MakesIt : {L S T D : Type 0} → OfflineTask → (L → LinkState) → Pool L S → (T → DataFolderState) → T
     → (D → DiskState) → D → D → Outcome → Type 0
-BacksUp task of pool folder tree state before after outcome = OnFinished outcome
+MakesIt task of pool folder tree state before after outcome = OnFinished outcome
     (IsTaken task.stanza.name.now task.stanza.control.now task.order (folder tree).nodes
     (used_in task.order.take of pool) (state before).view.now (state after).view.now)
 

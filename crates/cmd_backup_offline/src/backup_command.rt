@@ -9,7 +9,7 @@ ghost use Rattle.cmd_types.specs.Plans.{backup_lock};
 ghost use Rattle.cmd_setup.specs.Readies.{IsArchiveOf, IsBackupOf};
 ghost use Rattle.cmd_backup_offline.specs.Basing.{old_files};
 ghost use Rattle.cmd_backup_offline.specs.Held.{IsHeld};
-ghost use Rattle.cmd_backup_offline.specs.Tasks.{DoesOffline, OfflineHalts, BacksUp};
+ghost use Rattle.cmd_backup_offline.specs.Tasks.{DoesOffline, OfflineHalts, MakesIt};
 
 use crate::base_manifest::load_base;
 use crate::fault::{OfflineFault, of_backup};
@@ -51,7 +51,7 @@ pub fn back_up_offline<D: Disk, T: DataFolder, C: Clock, K: Locks, L: Link, U: S
     requires backup { IsBackupOf task.stanza.name.now (D.state repo.old).view.now task.stanza.backup }
     // In the log it is a backup of what the used links read, and, unless it is a full one, of what its prior has.
     ensures does { DoesOffline task.entry L.link_state pool.old result D.state repo.old repo.new }
-    ensures taken { IfOk result (BacksUp task.entry L.link_state pool.old T.state tree.old D.state repo.old repo.new) }
+    ensures taken { IfOk result (MakesIt task.entry L.link_state pool.old T.state tree.old D.state repo.old repo.new) }
     ensures beside { StaysBeside task.entry.stanza.name.now (D.state repo.old).view (D.state repo.new).view }
     ensures frame { CallsProperly (D.state repo.old) (D.state repo.new) }
     ensures looks { OnlyReadsFolder (T.state tree.old) (T.state tree.new) }

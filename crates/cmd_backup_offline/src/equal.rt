@@ -7,7 +7,7 @@ ghost use Rattle.worker_pool.specs.Pools.{LeavesLinks, links_in};
 ghost use Rattle.worker_pool.specs.Run.{AreReady};
 ghost use Rattle.backup_plan.specs.Filter.{IsListing, paths_of, most_files};
 ghost use Rattle.backup_plan.specs.Planned.{digests_for};
-ghost use Rattle.backup_plan.specs.Views.{taken_files, taken_folders, taken_of};
+ghost use Rattle.backup_plan.specs.Views.{taken_of};
 ghost use Rattle.backup_make.specs.Storing.{IsPathAt};
 ghost use Rattle.cmd_backup_offline.specs.Basis.{EqualHalts, MarksFiles, marks_for};
 ghost use Rattle.cmd_backup_offline.specs.Equal.{begins_with, first_equal, next_mark};
@@ -107,8 +107,8 @@ fn digest_files<L: Link, U: Scheduler>(
 ) -> Result<Vec<bool>, Halt<BackupFault>>
     requires few { vec_len pool.old.links < 2 ^ 32 }
     requires ready { AreReady (links_in L.link_state pool.old) }
-    requires listing { IsListing (taken_files listing.now) (taken_folders listing.now) }
-    requires few_files { length (taken_files listing.now) ≤ most_files }
+    requires listing { IsListing (map taken_of listing.now.files.items) (map string_bytes listing.now.folders.items) }
+    requires few_files { length (map taken_of listing.now.files.items) ≤ most_files }
     requires order { are_in_order (map (λ e. e.path) (map file_entry_of old.now)) ≡ true }
     requires jobs { map job_of jobs.now ≡ digests_for old.now listing.now.files.items }
     ensures marked { IfOk result (MarksFiles L.link_state pool.old old.now listing.now) }
@@ -141,8 +141,8 @@ pub fn find_equal<L: Link, U: Scheduler>(
 ) -> Result<Vec<bool>, Halt<BackupFault>>
     requires few { vec_len pool.old.links < 2 ^ 32 }
     requires ready { AreReady (links_in L.link_state pool.old) }
-    requires listing { IsListing (taken_files listing.now) (taken_folders listing.now) }
-    requires few_files { length (taken_files listing.now) ≤ most_files }
+    requires listing { IsListing (map taken_of listing.now.files.items) (map string_bytes listing.now.folders.items) }
+    requires few_files { length (map taken_of listing.now.files.items) ≤ most_files }
     requires order { are_in_order (map (λ e. e.path) (map file_entry_of old.now)) ≡ true }
     ensures same { IfOk result (λ equal. length equal.items ≡ length listing.now.files.items) }
     // A mark says that a link reported the digest of the file's entry. Without one the file's digest wasn't asked for,

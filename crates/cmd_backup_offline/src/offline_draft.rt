@@ -1,5 +1,5 @@
 // What the backup is to be made of.
-ghost use Rattle.std.specs.Prelude.{◌≡◌, ◌≤◌, ◌<◌, ◌^◌, length, vec_len, IfOk, IfErr, OnOk};
+ghost use Rattle.std.specs.Prelude.{◌≡◌, ◌≤◌, ◌<◌, ◌^◌, map, length, vec_len, string_bytes, IfOk, IfErr, OnOk};
 ghost use Rattle.base_devices.specs.States.{OnlyReads};
 ghost use Rattle.base_model.specs.InfoFiles.{IsBackupInfo, IsLabel};
 ghost use Rattle.base_model.specs.Values.{backup_info_of};
@@ -7,10 +7,10 @@ ghost use Rattle.worker_pool.specs.Pools.{LeavesLinks, links_in};
 ghost use Rattle.worker_pool.specs.Run.{AreReady};
 ghost use Rattle.backup_plan.specs.Filter.{IsListing, HasFile, most_files};
 ghost use Rattle.backup_plan.specs.Listed.{control_path};
-ghost use Rattle.backup_plan.specs.Views.{taken_files, taken_folders};
+ghost use Rattle.backup_plan.specs.Views.{taken_of};
 ghost use Rattle.backup_make.specs.Draft.{IsDraft};
 ghost use Rattle.cmd_backup_common.specs.Seconds.{IsNext};
-ghost use Rattle.cmd_backup_offline.specs.Basis.{AreLinesOf, DraftHalts, IsDraftBy, IsDraftOf, IsDraftOver, MayBeBasis};
+ghost use Rattle.cmd_backup_offline.specs.Basis.{AreLinesOf, DraftHalts, IsDraftBy, IsDraftOfTaken, IsDraftOver, MayBeBasis};
 
 use crate::backup_messages::{lines_of, warning_of};
 use crate::equal::find_equal;
@@ -37,16 +37,16 @@ pub fn draft_listed<'a>(
     listing: Listing,
     list: BackupInfo,
 ) -> Result<(Draft<'a>, String), NoMemory>
-    requires listing { IsListing (taken_files listing) (taken_folders listing) }
-    requires control { HasFile control_path (taken_files listing) }
-    requires few { length (taken_files listing) ≤ most_files }
+    requires listing { IsListing (map taken_of listing.files.items) (map string_bytes listing.folders.items) }
+    requires control { HasFile control_path (map taken_of listing.files.items) }
+    requires few { length (map taken_of listing.files.items) ≤ most_files }
     requires list { IsBackupInfo (backup_info_of list) }
     requires next { IsNext second (backup_info_of list) }
     requires old { MayBeBasis basis.now list }
     requires same { length equal.now ≡ length listing.files.items }
     ensures draft { IfOk result (λ d. IsDraft d.0) }
     ensures by { IfOk result (λ d. IsDraftBy basis.now list second equal.now listing d.0) }
-    ensures later { IfOk result (λ d. IsDraftOf basis.now list second listing d.0) }
+    ensures later { IfOk result (λ d. IsDraftOfTaken basis.now list second listing d.0) }
     ensures label { IfOk result (λ d. IsLabel d.0.label) }
     ensures lines { IfOk result (λ d. AreLinesOf basis.now list d.0 d.1) }
 {

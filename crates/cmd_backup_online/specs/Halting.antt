@@ -38,7 +38,7 @@ use Rattle.cmd_backup_online.specs.Gathering.{GatherCause}
 use Rattle.cmd_backup_online.specs.Modelled.{OfTalk}
 use Rattle.cmd_backup_online.specs.Preparing.{PrepareCause, ReadyCause}
 use Rattle.cmd_backup_online.specs.Talking.{SpokenCause}
-use Rattle.cmd_backup_online.specs.Tasks.{asked_by}
+use Rattle.cmd_backup_online.specs.Tasks.{asked_task}
 
 -- ---- before the server is asked
 
@@ -136,7 +136,7 @@ abbrev pub OnlineHalts : {L P A D S T V C : Type 0} → OnlineTask → (L → Li
     → Halt OnlineBackupFault → Type 0
 OnlineHalts task of pool others one other state before after spool old new folder tree new_tree connection server
     new_server clock first last = HaltCause
-    (OnlineCause (asked_by task of pool (others one) (others other) (state before) (state after) (folder tree)
+    (OnlineCause (asked_task task of pool (others one) (others other) (state before) (state after) (folder tree)
     (connection server) (connection new_server) (clock first)))
     (rose_in (record none {
       repo = DiskFailed (state before) (state after);

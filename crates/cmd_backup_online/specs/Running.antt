@@ -48,8 +48,8 @@ abbrev pub KeepsBeside : Text → DiskState → DiskState → Type 0
 KeepsBeside stanza old new = StaysBeside stanza old.view new.view
 
 -- the same, where others report steps of this stanza alone
-abbrev pub KeepsStanza : {D : Type 0} → Text → ProcessesState → (D → DiskState) → D → D → Type 0
-KeepsStanza stanza processes state before after = IfSome processes.account
+abbrev pub StaysIn : {D : Type 0} → Text → ProcessesState → (D → DiskState) → D → D → Type 0
+StaysIn stanza processes state before after = IfSome processes.account
     (λ a. a.stanza ≡ stanza → StaysBeside stanza (state before).view (state after).view)
 
 -- the manifest of the backup on which this one is based is that of the disk
@@ -102,8 +102,8 @@ abbrev pub StopsBetween : Begun → ConnectionState → ConnectionState → rust
 StopsBetween begun old new o = StopsWith begun old.pending new.pending (online_of o)
 
 -- a server of this system reported a start and a stop with these
-abbrev pub Reports : ℕ → ConnectionState → ConnectionState → rust_online.Online → Type 0
-Reports system old new o = ShowsOnline system old.pending new.pending (online_of o)
+abbrev pub ReportsBoth : ℕ → ConnectionState → ConnectionState → rust_online.Online → Type 0
+ReportsBoth system old new o = ShowsOnline system old.pending new.pending (online_of o)
 
 -- it was sent the stop
 abbrev pub SendsStop : ConnectionState → ConnectionState → Type 0

@@ -16,8 +16,8 @@ use Rattle.cmd_backup_online.specs.Faults.{online_early}
 use Rattle.cmd_backup_online.specs.Taken.{BacksUpOnline}
 
 -- what of the server's bytes describes the backup
-abbrev pub received_by : OnlineTask → ConnectionState → ConnectionState → Received
-received_by task old new =
+abbrev pub received_task : OnlineTask → ConnectionState → ConnectionState → Received
+received_task task old new =
     record { system = task.stanza.control.now.system; pending = old.pending; left = new.pending }
 
 -- In the log it is a backup of what the used links read, and, unless it is a full one, of what its prior has, after the
@@ -27,7 +27,7 @@ abbrev pub DoesTask : {L S V A D : Type 0} → OnlineTask → (L → LinkState) 
     → (D → DiskState) → D → D → Type 0
 DoesTask task of pool result connection server new_server others first last state before after =
     DoesOnline task.stanza.name.now task.order.later.kind (used_in task.order.later.take of pool)
-    (received_by task (connection server) (connection new_server)) (reached_by online_early result)
+    (received_task task (connection server) (connection new_server)) (reached_by online_early result)
     (others first).account (others last).account (state before).view (state after).view
 
 -- the spool's receipts continue by these steps
@@ -42,13 +42,13 @@ abbrev pub TakesTask : {L S V A D : Type 0} → OnlineTask → (L → LinkState)
     → (V → ConnectionState) → V → V → (A → ProcessesState) → A → A → (D → DiskState) → D → D → Outcome → Type 0
 TakesTask task of pool tree connection server new_server others first last state before after outcome =
     OnFinished outcome (BacksUpOnline task.stanza.name.now task.stanza.control.now task.order.later tree.nodes
-    (received_by task (connection server) (connection new_server)) (used_in task.order.later.take of pool)
+    (received_task task (connection server) (connection new_server)) (used_in task.order.later.take of pool)
     (others first).account (others last).account (state before).view.now (state after).view.now)
 
 -- what there is before it, what the server reported and what there is at its end
-abbrev pub asked_by : {L S : Type 0} → OnlineTask → (L → LinkState) → Pool L S → ProcessesState → ProcessesState
+abbrev pub asked_task : {L S : Type 0} → OnlineTask → (L → LinkState) → Pool L S → ProcessesState → ProcessesState
     → DiskState → DiskState → DataFolderState → ConnectionState → ConnectionState → ClockState → Asked
-asked_by task of pool others new_others repo new_repo tree server new_server clock = record {
+asked_task task of pool others new_others repo new_repo tree server new_server clock = record {
   before = record {
     stanza = task.stanza.name.now;
     known = task.stanza.control.now;
@@ -58,7 +58,7 @@ asked_by task of pool others new_others repo new_repo tree server new_server clo
     used = used_in task.order.later.take of pool;
   };
   kind = task.order.later.kind;
-  received_reply = received_by task server new_server;
+  received_reply = received_task task server new_server;
   most = task.order.archive_timeout;
   turns = others.turns;
   turned = new_others.turns;

@@ -6,7 +6,7 @@ ghost use Rattle.worker_pool.specs.Run.{AreReady};
 ghost use Rattle.cmd_types.specs.Plans.{backup_lock};
 ghost use Rattle.cmd_setup.specs.Readies.{IsArchiveOf, IsBackupOf};
 ghost use Rattle.cmd_backup_online.specs.Halting.{OnlineHalts};
-ghost use Rattle.cmd_backup_online.specs.Running.{KeepsStanza, LeavesServer, SendsTalk, TurnsWithin};
+ghost use Rattle.cmd_backup_online.specs.Running.{StaysIn, LeavesServer, SendsTalk, TurnsWithin};
 ghost use Rattle.cmd_backup_online.specs.Tasks.{DoesTask, MarksTask, TakesTask};
 
 use crate::backup_finish::{NeededLog, conclude, end_backup, wait};
@@ -62,8 +62,8 @@ pub fn back_up_online<
         (D.state repo.old) S.state spool.old spool.new }
     ensures taken { IfOk result (TakesTask task.entry L.link_state pool.old (T.state tree.old)
         V.state server.old server.new A.state processes.old processes.new D.state repo.old repo.new) }
-    ensures beside { KeepsStanza task.entry.stanza.name.now (A.state processes.new) D.state repo.old repo.new }
-    ensures spool_beside { KeepsStanza task.entry.stanza.name.now (A.state processes.new) S.state spool.old spool.new }
+    ensures beside { StaysIn task.entry.stanza.name.now (A.state processes.new) D.state repo.old repo.new }
+    ensures spool_beside { StaysIn task.entry.stanza.name.now (A.state processes.new) S.state spool.old spool.new }
 
     // The talk with the server is ended, where it began: what is refused before is refused as any backup may be.
     ensures sent { OnOk result (SendsTalk task.entry.order (V.state server.old) (V.state server.new)) }

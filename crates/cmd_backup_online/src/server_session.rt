@@ -13,7 +13,7 @@ ghost use Rattle.cmd_types.specs.declared.stages.halt.Halt.TheVariants.{NoMemory
 ghost use Rattle.cmd_backup_offline.specs.Basis.{MayBeBasis};
 ghost use Rattle.cmd_backup_online.specs.Faults.{of_backup};
 ghost use Rattle.cmd_backup_online.specs.Halting.{StopHalts, TalkHalts};
-ghost use Rattle.cmd_backup_online.specs.Running.{LeavesTalk, Reports, SendsStop, SendsTalk, StopsBetween, TalkGathers, TalkGivesUp};
+ghost use Rattle.cmd_backup_online.specs.Running.{LeavesTalk, ReportsBoth, SendsStop, SendsTalk, StopsBetween, TalkGathers, TalkGivesUp};
 
 use crate::fault::{OnlineBackupFault, of_backup, of_talk};
 use crate::online_read::{Gathered, gather};
@@ -107,7 +107,7 @@ pub(crate) fn talk<
     ensures gathered { IfOk result (TalkGathers task.entry L.link_state pool.old T.state tree.old
         D.state repo.old repo.new) }
     ensures online { IfOk result (λ p. IsOnline (online_of p.1)) }
-    ensures known { IfOk result (λ p. Reports task.entry.system (V.state server.old) (V.state server.new) p.1) }
+    ensures known { IfOk result (λ p. ReportsBoth task.entry.system (V.state server.old) (V.state server.new) p.1) }
     ensures sent { OnOk result (SendsTalk task.entry.order (V.state server.old) (V.state server.new)) }
     ensures place { OnOk result ((V.state server.new).place ≡ task.entry.order.socket.now) }
     ensures ended { IfErr result (LeavesTalk (V.state server.old) (V.state server.new)) }

@@ -35,3 +35,20 @@ returns-clause-draft c =
       old_folders = c.requires.old.0;
       old = c.requires.old.1;
     }
+
+pub returns-clause-ordered : goal.returns-clause-ordered
+returns-clause-ordered c =
+    let o = c.args.order.now in
+    let old = map file_entry_of o.old.now in
+    record {
+      stanza_is = refl;
+      label = c.labels_of-prior.ensures.own ∙ ap (λ (es : List rust_entry.Entry). made_label o.kind (prior_for o.kind c.args.cluster.id (map entry_of es)) c.args.second) c.deref.ensures.value;
+      prior = c.labels_of-prior.ensures.prior ∙ ap (λ (es : List rust_entry.Entry). option_map (λ (e : Entry). e.label) (prior_for o.kind c.args.cluster.id (map entry_of es))) c.deref.ensures.value;
+      old = refl;
+      start = refl;
+      cluster_is = refl;
+      choices = refl;
+      listing_is = refl;
+      before_is = refl;
+      planned = c.in_ok-plan.ensures.choices ∙ ap (λ (fs : List rust_taken.Taken). (layout o.settings old (map taken_of fs) c.args.equal.now).choices) c.deref-2.ensures.value;
+    }
