@@ -149,6 +149,10 @@ section_word Verify = codes "verify"
 section_word Info = codes "info"
 section_word Rehearse = codes "rehearse"
 
+-- the section of a command under a name, and that of all commands
+abbrev pub sections_under : Text → Text → List Text
+sections_under name word = (name ++ codes ":" ++ word) ∷ name ∷ []
+
 -- the sections that count, the strongest first
 unfoldable pub sections_of : Text → Verb → List Text
 sections_of stanza verb = (stanza ++ codes ":" ++ section_word verb) ∷ stanza ∷ (codes "global:" ++ section_word verb)

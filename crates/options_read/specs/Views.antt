@@ -1,5 +1,7 @@
 -- What the code's values represent.
-use Rattle.std.specs.Prelude.{◌≡◌, ℕ, List, map, option_map, string_bytes, Result, Ok, Err}
+use Rattle.std.specs.Prelude.{◌≡◌, ℕ, List, map, Option, option_map, String, string_bytes, Result, Ok, Err}
+use Rattle.std.specs.declared.alloc.Global.{Global}
+use Rattle.base_model.specs.Text.{Text}
 use Rattle.options_read.specs.declared.arguments.Style as code_style
 use Rattle.options_read.specs.declared.arguments.Style.TheVariants as styles
 use Rattle.options_read.specs.declared.arguments.Token as code_token
@@ -46,6 +48,14 @@ abbrev pub path_view : ConfigPath → Path
 path_view paths.Nowhere = nowhere
 path_view (paths.Usual place) = usual (string_bytes place)
 path_view (paths.Named place) = named (string_bytes place)
+
+-- the path that was found so far
+abbrev pub path_so_far : Option ConfigPath → Option Path
+path_so_far found = option_map path_view found
+
+-- what each of the strings has
+abbrev pub texts : List (String Global) → List Text
+texts strings = map string_bytes strings
 
 -- the fault is the definition's, unless memory ran out
 abbrev pub Fails : {Y : Type 0} → Usage → Result Y Fault → Type 0

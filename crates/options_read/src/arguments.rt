@@ -2,7 +2,7 @@
 
 ghost use Rattle.std.specs.Prelude.{◌≡◌, ◌++◌, ◌∷◌, [], map, option_map, string_bytes, IfOk, Ok};
 ghost use Rattle.std.specs.List.{list_any};
-ghost use Rattle.options_read.specs.Words.{style_of, style_named, given_shape, denied_shape, other_shape, bare_shape, option_shape, is_plain, body_of, shape, tokens, is_given, add_token, add_tokens, read_arguments, with_word, with_option, no_arguments};
+ghost use Rattle.options_read.specs.Words.{plain, style_of, style_named, given_shape, denied_shape, other_shape, bare_shape, option_shape, is_plain, body_of, shape, tokens, is_given, add_token, add_tokens, read_arguments, with_option, no_arguments};
 ghost use Rattle.options_table.specs.Views.{kind_view};
 ghost use Rattle.options_read.specs.Views.{style_view, token_view, shape_view, arguments_view, given_view, Gives};
 
@@ -202,8 +202,7 @@ fn add_option(alloc: Global, mut arguments: Words, name: &str, value: &str) -> R
 }
 
 fn add_word(alloc: Global, mut arguments: Words, word: &str) -> Result<Words, Usage>
-    ensures { Gives arguments_view result (Ok (with_word (arguments_view arguments) (arguments_view arguments).command
-        word.now)) }
+    ensures { Gives arguments_view result (add_token (arguments_view arguments) (plain word.now)) }
 {
     let word = String::from_str(alloc, word)?;
     if arguments.command.is_none() {

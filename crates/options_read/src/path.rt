@@ -1,8 +1,8 @@
 //! Where the configuration lies.
 
-ghost use Rattle.std.specs.Prelude.{◌≡◌, map, option_map, string_bytes, None};
+ghost use Rattle.std.specs.Prelude.{◌≡◌, map, string_bytes, None};
 ghost use Rattle.options_read.specs.Paths.{add_path, path_after, path_of_arguments};
-ghost use Rattle.options_read.specs.Views.{token_view, path_view, Gives};
+ghost use Rattle.options_read.specs.Views.{token_view, path_view, path_so_far, Gives};
 
 use crate::arguments::{Token, tokens};
 use crate::usage::Usage;
@@ -28,8 +28,7 @@ fn add_path(
     found: Option<ConfigPath>,
     token: Token<'_>,
 ) -> Result<Option<ConfigPath>, Usage>
-    ensures { Gives (λ p. option_map path_view p) result
-        (add_path (option_map path_view found) (token_view token.entry)) }
+    ensures { Gives path_so_far result (add_path (path_so_far found) (token_view token.entry)) }
 {
     match token {
         Token::Unknown(_) => Ok(found),
@@ -65,7 +64,7 @@ fn add_path(
 }
 
 fn path_of(alloc: Global, tokens: &[Token<'_>]) -> Result<Option<ConfigPath>, Usage>
-    ensures { Gives (λ p. option_map path_view p) result (path_after None (map token_view tokens.now)) }
+    ensures { Gives path_so_far result (path_after None (map token_view tokens.now)) }
 {
     let mut found: Option<ConfigPath> = None;
     for token in tokens {

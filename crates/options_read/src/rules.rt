@@ -1,10 +1,10 @@
 //! The rules of arguments and settings, each with its fault.
 
-ghost use Rattle.std.specs.Prelude.{◌≡◌, ◌++◌, [], ◌∷◌, codes, map, min, option_map, string_bytes, IfOk, OnOk};
+ghost use Rattle.std.specs.Prelude.{◌≡◌, ◌++◌, [], map, min, option_map, string_bytes, IfOk, OnOk};
 ghost use Rattle.repo_ini.specs.Views.{settings_of};
-ghost use Rattle.options_read.specs.Settings.{none_wrong, none_lacking, is_known, is_known_for, each_is_for, none_twice, counts, known_settings, unknown_keys, verb_named, command_of, stanza_of, utf8_of, parameters_for, count_of, section_word, sections_of, source_of};
-ghost use Rattle.options_read.specs.Sources.{source_view};
-ghost use Rattle.options_read.specs.Views.{given_view, Gives};
+ghost use Rattle.options_read.specs.Settings.{none_wrong, none_lacking, is_known, is_known_for, each_is_for, none_twice, counts, known_settings, unknown_keys, verb_named, command_of, stanza_of, utf8_of, parameters_for, count_of, section_word, sections_under, sections_of};
+ghost use Rattle.options_read.specs.Sources.{source_view, source_from};
+ghost use Rattle.options_read.specs.Views.{given_view, texts, Gives};
 
 use crate::arguments::Given;
 use crate::source::{Source, is_for, is_lacking, is_wrong, value_given};
@@ -103,8 +103,7 @@ fn counts(sections: &[String], section: &str) -> bool
 // The lines that count: known keys, in these sections.
 #[tactic(auto, unfolding(crate::specs::Settings::known_settings))]
 fn known_settings(table: &[Opt], sections: &[String], lines: Vec<ConfigLine>) -> Vec<ConfigLine>
-    ensures { settings_of result.items ≡ known_settings table.now (map string_bytes sections.now)
-        (settings_of lines.items) }
+    ensures { settings_of result.items ≡ known_settings table.now (texts sections.now) (settings_of lines.items) }
 {
     let mut lines = lines;
     lines.retain(|line| {
@@ -121,8 +120,7 @@ pub(crate) fn source_of(
     sections: Vec<String>,
     lines: Vec<ConfigLine>,
 ) -> Source
-    ensures { source_view result ≡ source_of table.now verb (map given_view given.items)
-        (map string_bytes sections.items) (settings_of lines.items) }
+    ensures { source_view result ≡ source_from table.now verb given.items sections.items lines.items }
 {
     let lines = known_settings(table, &sections, lines);
     Source {
@@ -141,8 +139,7 @@ pub(crate) fn unknown_keys(
     sections: &[String],
     lines: &[ConfigLine],
 ) -> Result<Vec<String>, AllocError>
-    ensures { IfOk result (λ v. map string_bytes v.items ≡ unknown_keys table.now (map string_bytes sections.now)
-        (settings_of lines.now)) }
+    ensures { IfOk result (λ v. texts v.items ≡ unknown_keys table.now (texts sections.now) (settings_of lines.now)) }
 {
     let mut keys: Vec<String> = Vec::new(alloc);
     for line in lines {
@@ -257,8 +254,7 @@ fn add_sections(
     name: &str,
     word: &str,
 ) -> Result<(), AllocError>
-    ensures { OnOk result (map string_bytes sections.new.items ≡ map string_bytes sections.old.items ++
-        (name.now ++ codes ":" ++ word.now) ∷ name.now ∷ []) }
+    ensures { OnOk result (texts sections.new.items ≡ texts sections.old.items ++ sections_under name.now word.now) }
 {
     sections.push(format!(in alloc; "{name}:{word}")?)?;
     sections.push(String::from_str(alloc, name)?)?;

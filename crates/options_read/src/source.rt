@@ -1,12 +1,12 @@
 //! Where the values of options come from.
 
-ghost use Rattle.std.specs.Prelude.{◌≡◌, ◌&&◌, map, option_map, string_bytes, bytes_eq};
+ghost use Rattle.std.specs.Prelude.{◌≡◌, ◌&&◌, map, option_map, bytes_eq};
 ghost use Rattle.std.specs.List.{list_any};
 ghost use Rattle.repo_ini.specs.Views.{settings_of};
 ghost use Rattle.options_table.specs.Table.{verb_eq, is_for, fallback_text, is_required};
 ghost use Rattle.options_read.specs.Settings.{value_given, value_in, value_among, value_configured, known, in_force, value, argument, is_wrong, is_lacking};
 ghost use Rattle.options_table.specs.Views.{fallback_view, value_view};
-ghost use Rattle.options_read.specs.Views.{given_view};
+ghost use Rattle.options_read.specs.Views.{given_view, texts};
 ghost use Rattle.options_read.specs.Sources.{source_view};
 
 use crate::arguments::Given;
@@ -44,8 +44,7 @@ fn value_in<'a>(lines: &'a [ConfigLine], section: &str, key: &str) -> Option<&'a
 }
 
 fn value_among<'a>(lines: &'a [ConfigLine], sections: &[String], key: &str) -> Option<&'a str>
-    ensures { option_map (λ t. t.now) result ≡ value_among (settings_of lines.now)
-        (map string_bytes sections.now) key.now }
+    ensures { option_map (λ t. t.now) result ≡ value_among (settings_of lines.now) (texts sections.now) key.now }
 {
     for section in sections {
         match value_in(lines, section.as_str(), key) {

@@ -5,6 +5,7 @@ use Rattle.serde_json.specs.Data.{Data}
 use Rattle.base_model.specs.Text.{Text, In}
 use Rattle.base_model.specs.InfoText.{Section}
 
+-- the texts of the names
 abbrev pub names_of : List (Bor Text) → List Text
 names_of names = map (λ n. n.now) names
 

@@ -1,7 +1,9 @@
 -- Where the bytes of a manifest's file lie, as a program reports it.
-use Rattle.std.specs.Prelude.{ℕ}
+use Rattle.std.specs.Prelude.{◌≡◌, ℕ}
 use Rattle.base_model.specs.declared.labels.Label.{Label}
+use Rattle.base_model.specs.Place.{place}
 use Rattle.base_model.specs.Text.{Text}
+use Rattle.base_model.specs.Values.{FileEntry}
 use Rattle.base_model.specs.Names.{file_name, bundle_name}
 use Rattle.repo_manifest.specs.declared.byte_places.Holder.{Holder}
 use Rattle.repo_manifest.specs.declared.byte_places.Holder.TheVariants.{Own, Other}
@@ -22,3 +24,7 @@ name_of stanza l (Bundle number) = bundle_name stanza l number
 -- that name, and the byte at which they begin
 abbrev pub place_of : Text → Label → Place → Text × ℕ
 place_of stanza own p = (name_of stanza (holder_of own p.holder) p.spot, p.at)
+
+-- the place is where the bytes of this file lie, whatever the stanza and the backup
+abbrev pub LocatesFile : FileEntry → Place → Type 0
+LocatesFile e p = (stanza : Text) (own : Label) → place_of stanza own p ≡ place stanza own e

@@ -2,6 +2,7 @@
 use Rattle.std.specs.Prelude.{◌≡◌, ℕ, ◌+◌, ◌<◌, ◌≤◌, ◌^◌, List, IfSome, IfNone, codes}
 use Rattle.serde_json.specs.Data.{Data, string}
 use Rattle.base_model.specs.declared.clusters.Cluster.{Cluster}
+use Rattle.base_model.specs.declared.labels.Label.{Label}
 use Rattle.base_model.specs.declared.wal.Span.{Span}
 use Rattle.base_model.specs.declared.wal.WalPart.{WalPart}
 use Rattle.base_model.specs.Text.{Text, In}
@@ -34,12 +35,16 @@ pub record IsLogRead (ks : List Field) (w : WalPart) : Type 0 where
       w.to.0
   pub size : IsSegSize w.size.0 × IsReadAt whole IsSegSize ks (codes "backup-wal-segment-size") w.size.0
 
+-- the prior backup that the keys state
+abbrev pub IsPriorRead : List Field → Label → Type 0
+IsPriorRead ks l = IsLabel l × IsReadAt label_value IsLabel ks (codes "backup-prior") l
+
 -- what the keys say about the backup
 pub record IsHeadRead (ks : List Field) (h : Head) : Type 0 where
   pub label : IsLabel h.label × IsReadAt label_value IsLabel ks (codes "backup-label") h.label
   pub kind : h.kind ≡ label_kind h.label
   pub has : HasItsPrior h.kind h.prior
-  pub prior : IfSome h.prior (λ l. IsLabel l × IsReadAt label_value IsLabel ks (codes "backup-prior") l)
+  pub prior : IfSome h.prior (IsPriorRead ks)
   pub start : (h.start ≤ last_second) × IsReadAt whole (λ t. t ≤ last_second) ks (codes "backup-timestamp-start")
       h.start
   pub stop : (h.stop ≤ last_second) × IsReadAt whole (λ t. t ≤ last_second) ks (codes "backup-timestamp-stop") h.stop

@@ -1,19 +1,15 @@
 // Reads the section `backup`.
-ghost use Rattle.std.specs.Prelude.{◌≡◌, ◌≤◌, List, map, codes, IfOk, IfErr, IfSome};
-ghost use Rattle.base_model.specs.declared.clusters.Cluster.{Cluster};
-ghost use Rattle.base_model.specs.declared.labels.Choices.{Choices};
-ghost use Rattle.base_model.specs.Text.{Text};
+ghost use Rattle.std.specs.Prelude.{◌≤◌, map, IfOk, IfErr, IfSome};
 ghost use Rattle.base_devices.specs.States.{last_second};
 ghost use Rattle.base_model.specs.Fields.{whole};
 ghost use Rattle.base_model.specs.InfoText.{IsInfo};
 ghost use Rattle.base_model.specs.InfoFiles.{IsLabel, label_value};
-ghost use Rattle.base_model.specs.ManifestText.{backup_fields, HasItsPrior};
-ghost use Rattle.base_model.specs.Values.{FileEntry as SpecFile};
+ghost use Rattle.base_model.specs.ManifestText.{HasItsPrior};
 ghost use Rattle.repo_ini.specs.Parts.{key_of, sections_of};
-ghost use Rattle.repo_keys.specs.Agree.{IsKeysOf, IsOrdered};
+ghost use Rattle.repo_keys.specs.Agree.{IsOrdered};
 ghost use Rattle.repo_keys.specs.Fault.{IfForm};
-ghost use Rattle.repo_manifest.specs.Head.{IsHead, manifest_with};
-ghost use Rattle.repo_manifest.specs.Read.{IsHeadRead, IsReadAt};
+ghost use Rattle.repo_manifest.specs.Head.{IsHead, StatesHead};
+ghost use Rattle.repo_manifest.specs.Read.{IsHeadRead, IsPriorRead, IsReadAt};
 ghost use Rattle.repo_manifest.specs.ManifestForm.{IsManifestForm};
 
 use crate::head::Head;
@@ -65,8 +61,7 @@ fn second_at(keys: &[(String, Value)], key: &str) -> u64
 fn prior_of(keys: &[(String, Value)], kind: BackupKind) -> Option<Label>
     requires { IsOrdered (map key_of keys.now) }
     ensures has { HasItsPrior kind result }
-    ensures read { IfSome result (λ l. IsLabel l
-        × IsReadAt label_value IsLabel (map key_of keys.now) (codes "backup-prior") l) }
+    ensures read { IfSome result (IsPriorRead (map key_of keys.now)) }
 {
     match kind {
         BackupKind::Full => None,
@@ -95,8 +90,7 @@ fn head_of(keys: &[(String, Value)]) -> Head
 pub(crate) fn head_in(alloc: Global, parts: &[Part]) -> Result<Head, PartsFault>
     requires { IsInfo (sections_of parts.now) }
     ensures rules { IfOk result (λ h. IsHead h) }
-    ensures known { IfOk result (λ h. (c : Cluster) (o : Choices) (fs : List SpecFile) (ps : List Text)
-        → IsKeysOf (sections_of parts.now) (codes "backup") (backup_fields (manifest_with h c o fs ps))) }
+    ensures known { IfOk result (StatesHead (sections_of parts.now)) }
     ensures fault { IfErr result (λ e. IfForm e (IsManifestForm (sections_of parts.now))) }
 {
     let keys = keys_at(parts, "backup");

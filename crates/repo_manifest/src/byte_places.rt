@@ -1,10 +1,9 @@
 // Where the bytes of a manifest's file lie (pgBackRest user guide, "File Bundling").
 ghost use Rattle.std.specs.Prelude.{◌≡◌, ◌<◌, IfSome, IfNone};
 ghost use Rattle.base_model.specs.declared.labels.Label.{Label};
-ghost use Rattle.base_model.specs.Place.{holder, place};
-ghost use Rattle.base_model.specs.Text.{Text};
+ghost use Rattle.base_model.specs.Place.{holder};
 ghost use Rattle.base_model.specs.Values.{file_entry_of};
-ghost use Rattle.repo_manifest.specs.Locating.{holder_of, place_of};
+ghost use Rattle.repo_manifest.specs.Locating.{holder_of, LocatesFile};
 
 use base_model::{FileEntry, Label};
 
@@ -47,8 +46,7 @@ fn holder_in(entry: &FileEntry) -> Holder
 pub fn locate(entry: &FileEntry) -> Option<Place<'_>>
     ensures none { IfNone result (entry.now.size ≡ 0) }
     ensures size { IfSome result (λ p. (0 < entry.now.size) × (p.size ≡ entry.now.size)) }
-    ensures place { IfSome result (λ p. (stanza : Text) (own : Label)
-        → place_of stanza own p ≡ place stanza own (file_entry_of entry.now)) }
+    ensures place { IfSome result (LocatesFile (file_entry_of entry.now)) }
 {
     if entry.size == 0 {
         return None;

@@ -1,11 +1,9 @@
 // The rules between files and folders.
 ghost use Rattle.std.specs.Prelude.{◌≡◌, ◌++◌, [], map, true, IfOk, IfErr, OnOk, string_bytes};
 ghost use Rattle.base_devices.specs.Order.{are_after};
-ghost use Rattle.base_model.specs.Text.{Text, In};
-ghost use Rattle.base_model.specs.ManifestText.{data_path, HasItsFolders};
-ghost use Rattle.base_model.specs.Values.{file_entry_of, FileEntry as SpecFile};
+ghost use Rattle.base_model.specs.ManifestText.{data_path};
 ghost use Rattle.repo_keys.specs.Fault.{IfForm};
-ghost use Rattle.repo_manifest.specs.Sections.{IsPlaced, IsUnplacedFile, IsUnplacedFolder};
+ghost use Rattle.repo_manifest.specs.Sections.{entries_of, folder_paths, FilesArePlaced, FoldersAreListed, IsUnplacedFile, IsUnplacedFolder};
 
 use crate::path_folders::{is_listed, lacks_folder};
 use base_model::FileEntry;
@@ -36,10 +34,8 @@ pub(crate) fn check_files(
     folders: &[String],
 ) -> Result<(), PartsFault>
     requires { are_after [] (map string_bytes folders.now) ≡ true }
-    ensures placed { OnOk result ((e : SpecFile) → In e (map file_entry_of files.now)
-        → IsPlaced (map string_bytes folders.now) e) }
-    ensures fault { IfErr result
-        (λ e. IfForm e (IsUnplacedFile (map file_entry_of files.now) (map string_bytes folders.now))) }
+    ensures placed { OnOk result (FilesArePlaced (entries_of files.now) (folder_paths folders.now)) }
+    ensures fault { IfErr result (λ e. IfForm e (IsUnplacedFile (entries_of files.now) (folder_paths folders.now))) }
 {
     for file in files {
         if lacks_folder(folders, file.path.as_str()) {
@@ -55,9 +51,8 @@ pub(crate) fn check_files(
 /// Whether each folder on each folder's path is listed.
 pub(crate) fn check_folders(alloc: Global, folders: &[String]) -> Result<(), PartsFault>
     requires { are_after [] (map string_bytes folders.now) ≡ true }
-    ensures placed { OnOk result ((p : Text) → In p (map string_bytes folders.now)
-        → HasItsFolders (map string_bytes folders.now) p) }
-    ensures fault { IfErr result (λ e. IfForm e (IsUnplacedFolder (map string_bytes folders.now))) }
+    ensures placed { OnOk result (FoldersAreListed (folder_paths folders.now)) }
+    ensures fault { IfErr result (λ e. IfForm e (IsUnplacedFolder (folder_paths folders.now))) }
 {
     for folder in folders {
         if lacks_folder(folders, folder.as_str()) {

@@ -30,13 +30,12 @@ fn add_bundle(
 fn add_reference(
     alloc: Global,
     members: &mut Map<String, Value>,
-    reference: Option<Label>,
+    label: Option<Label>,
 ) -> Result<(), NoMemory>
-    requires { IfSome reference IsLabel }
-    ensures { OnOk result (members_view members.new.entries ≡ with_reference reference
-        (members_view members.old.entries)) }
+    requires { IfSome label IsLabel }
+    ensures { OnOk result (members_view members.new.entries ≡ with_reference label (members_view members.old.entries)) }
 {
-    let Some(label) = reference else {
+    let Some(label) = label else {
         return Ok(());
     };
     put(

@@ -5,12 +5,11 @@ ghost use Rattle.serde_json.specs.Data.{Data};
 ghost use Rattle.serde_json.specs.View.{view};
 ghost use Rattle.base_text.specs.Sum.{IsSum};
 ghost use Rattle.base_model.specs.Json.{IsValue};
-ghost use Rattle.base_model.specs.Fields.{Field};
 ghost use Rattle.base_model.specs.InfoFiles.{IsLabel};
 ghost use Rattle.base_model.specs.ManifestText.{file_field};
 ghost use Rattle.base_model.specs.Values.{file_entry_of, FileEntry as SpecFile};
-ghost use Rattle.repo_manifest.specs.Alone.{IsFile};
-ghost use Rattle.repo_manifest.specs.FileFacts.{file_with};
+ghost use Rattle.repo_manifest.specs.Alone.{IsFile, IsBundlePlace};
+ghost use Rattle.repo_manifest.specs.FileFacts.{file_with, IsFit, SumIs, BundleIs, OffsetIs, FactsAre, StatesFile, StatesNoFile};
 
 use crate::entries::file_value;
 use crate::known::FileFacts;
@@ -25,8 +24,7 @@ use std::alloc::Global;
 
 fn sum_in(value: &Value) -> Option<Sum>
     ensures sum { IfSome result (λ s. IsSum s.0) }
-    ensures only { (e : SpecFile) → IsFile e → view value.now ≡ (file_field e).1
-        → option_map (λ s. s.0) result ≡ Some e.sum }
+    ensures only { SumIs (view value.now) result }
 {
     sum_of(value.get("checksum")?)
 }
@@ -58,23 +56,20 @@ fn reference_in(value: &Value) -> Option<Option<Label>>
 }
 
 fn number_in(value: &Value) -> Option<u32>
-    ensures { (e : SpecFile) → (b : Bundled) → IsFile e → e.bundle ≡ Some b
-        → view value.now ≡ (file_field e).1
-        → result ≡ Some b.number }
+    ensures { BundleIs (view value.now) result }
 {
     small_of(value.get("bni")?)
 }
 
 fn at_in(value: &Value) -> Option<u64>
-    ensures { (e : SpecFile) → (b : Bundled) → e.bundle ≡ Some b → view value.now ≡ (file_field e).1
-        → result ≡ Some b.at }
+    ensures { OffsetIs (view value.now) result }
 {
     whole_of(value.get("bno")?)
 }
 
 // The place in a bundle, where there is one.
 fn bundle_in(value: &Value) -> Option<Option<Bundled>>
-    ensures rules { IfSome result (λ o. IfSome o (λ b. (1 ≤ b.number) × (b.number < 2 ^ 32) × (b.at < 2 ^ 64))) }
+    ensures rules { IfSome result (λ o. IfSome o IsBundlePlace) }
     ensures only { (e : SpecFile) → IsFile e → view value.now ≡ (file_field e).1 → result ≡ Some e.bundle }
 {
     if value.get("bni").is_none() {
@@ -97,8 +92,7 @@ fn is_of_nothing(sum: &Sum) -> bool
 
 // A file without bytes has no place, and the sum of the empty text.
 fn is_fit(known: &FileFacts) -> bool
-    ensures { IsTrue result ↔ (known.now.size ≡ 0 → (known.now.sum.0 ≡ sha1 []) × (known.now.reference ≡ None)
-        × (known.now.bundle ≡ None)) }
+    ensures { IsTrue result ↔ IsFit known.now }
 {
     if known.size > 0 {
         return true;
@@ -116,10 +110,8 @@ fn is_fit(known: &FileFacts) -> bool
 fn known_in(value: &Value) -> Option<FileFacts>
     ensures sum { IfSome result (λ t. IsSum t.sum.0) }
     ensures reference { IfSome result (λ t. IfSome t.reference IsLabel) }
-    ensures bundle { IfSome result
-        (λ t. IfSome t.bundle (λ b. (1 ≤ b.number) × (b.number < 2 ^ 32) × (b.at < 2 ^ 64))) }
-    ensures only { (e : SpecFile) → IsFile e → view value.now ≡ (file_field e).1
-        → option_map (file_with e.path) result ≡ Some e }
+    ensures bundle { IfSome result (λ t. IfSome t.bundle IsBundlePlace) }
+    ensures only { FactsAre (view value.now) result }
 {
     let bundle = bundle_in(value)?;
     let sum = sum_in(value)?;
@@ -141,11 +133,8 @@ fn read_as_known(alloc: Global, value: &Value) -> Result<Option<FileFacts>, NoMe
     ensures is { IfOk result (λ o. IfSome o (λ t. view value.now ≡ (file_field (file_with [] t)).1)) }
     ensures sum { IfOk result (λ o. IfSome o (λ t. IsSum t.sum.0)) }
     ensures reference { IfOk result (λ o. IfSome o (λ t. IfSome t.reference IsLabel)) }
-    ensures bundle { IfOk result
-        (λ o. IfSome o (λ t. IfSome t.bundle (λ b. (1 ≤ b.number) × (b.number < 2 ^ 32) × (b.at < 2 ^ 64)))) }
-    ensures empty { IfOk result
-        (λ o. IfSome o (λ t. t.size ≡ 0 → (t.sum.0 ≡ sha1 []) × (t.reference ≡ None)
-        × (t.bundle ≡ None))) }
+    ensures bundle { IfOk result (λ o. IfSome o (λ t. IfSome t.bundle IsBundlePlace)) }
+    ensures empty { IfOk result (λ o. IfSome o IsFit) }
     ensures none { IfOk result (λ o. IfNone o ((e : SpecFile) → IsFile e → view value.now ≢ (file_field e).1)) }
 {
     let Some(known) = known_in(value) else {
@@ -170,11 +159,8 @@ pub(crate) fn read_file(
 ) -> Result<Option<FileEntry>, NoMemory>
     requires { IsValue (view value.now) }
     ensures rules { IfOk result (λ o. IfSome o (λ e. IsFile (file_entry_of e))) }
-    ensures is { IfOk result
-        (λ o. IfSome o (λ e. (let k : Field = (key.now, view value.now) in k) ≡ file_field (file_entry_of e))) }
-    ensures none { IfOk result
-        (λ o. IfNone o ((e : SpecFile) → IsFile e
-        → (let k : Field = (key.now, view value.now) in k) ≢ file_field e)) }
+    ensures is { IfOk result (λ o. IfSome o (λ e. StatesFile (key.now, view value.now) (file_entry_of e))) }
+    ensures none { IfOk result (λ o. IfNone o (StatesNoFile (key.now, view value.now))) }
 {
     let Some(path) = path_in(key) else {
         return Ok(None);

@@ -1,13 +1,13 @@
 // The sections of files and folders.
-ghost use Rattle.std.specs.Prelude.{◌≡◌, ◌∷◌, ◌++◌, map, IfOk, OnOk, IfSome, string_bytes};
+ghost use Rattle.std.specs.Prelude.{◌≡◌, ◌++◌, map, IfOk, OnOk, IfSome};
 ghost use Rattle.std.specs.List.{AllByRecursion};
 ghost use Rattle.serde_json.specs.View.{view};
-ghost use Rattle.base_model.specs.Fields.{section};
 ghost use Rattle.base_model.specs.InfoFiles.{IsLabel};
-ghost use Rattle.base_model.specs.ManifestText.{file_field, folder_field};
+ghost use Rattle.base_model.specs.ManifestText.{file_field};
 ghost use Rattle.base_model.specs.Values.{file_entry_of};
-ghost use Rattle.repo_ini.specs.Parts.{section_of, sections_of};
-ghost use Rattle.repo_manifest.specs.Sections.{target_file, target_path, root_field};
+ghost use Rattle.repo_ini.specs.Parts.{sections_of};
+ghost use Rattle.repo_keys.specs.Agree.{StatesSection};
+ghost use Rattle.repo_manifest.specs.Sections.{target_file, target_path, entries_of, file_section, folder_fields};
 
 use crate::cross_rules::key_of;
 use crate::entries::file_value;
@@ -36,10 +36,7 @@ fn entry_value(alloc: Global, file: &FileEntry) -> Result<Value, NoMemory>
 // The section of these files.
 fn files_part(alloc: Global, files: &[FileEntry]) -> Result<Part, NoMemory>
     requires { AllByRecursion (λ e. IfSome e.reference IsLabel) files.now }
-    ensures { IfOk result (λ p. section_of p ≡ record {
-      name = target_file;
-      keys = map file_field (map file_entry_of files.now);
-    }) }
+    ensures { IfOk result (StatesSection target_file (map file_field (entries_of files.now))) }
 {
     let mut part = Part::new(alloc, "target:file")?;
     for file in files {
@@ -57,8 +54,7 @@ pub(crate) fn add_files(
     files: &[FileEntry],
 ) -> Result<(), NoMemory>
     requires { AllByRecursion (λ e. IfSome e.reference IsLabel) files.now }
-    ensures { OnOk result (sections_of parts.new.items ≡ sections_of parts.old.items
-        ++ section target_file (map file_field (map file_entry_of files.now))) }
+    ensures { OnOk result (sections_of parts.new.items ≡ sections_of parts.old.items ++ file_section files.now) }
 {
     if files.is_empty() {
         return Ok(());
@@ -69,10 +65,7 @@ pub(crate) fn add_files(
 
 /// The section of these folders, with the data folder itself.
 pub(crate) fn folders_part(alloc: Global, folders: &[String]) -> Result<Part, NoMemory>
-    ensures { IfOk result (λ p. section_of p ≡ record {
-      name = target_path;
-      keys = root_field ∷ map folder_field (map string_bytes folders.now);
-    }) }
+    ensures { IfOk result (StatesSection target_path (folder_fields folders.now)) }
 {
     let mut part = Part::new(alloc, "target:path")?;
     part.add(alloc, "pg_data", Value::Object(Map::new(alloc)))?;

@@ -6,7 +6,7 @@ ghost use Rattle.base_model.specs.ManifestText.{file_field};
 ghost use Rattle.base_model.specs.Values.{file_entry_of};
 ghost use Rattle.repo_ini.specs.Parts.{key_of};
 ghost use Rattle.repo_manifest.specs.Alone.{IsFile};
-ghost use Rattle.repo_keys.specs.Fault.{IfForm};
+ghost use Rattle.repo_keys.specs.Fault.{IsFaultIn};
 ghost use Rattle.repo_manifest.specs.Sections.{target_file, IsNoFile};
 
 use crate::file_reader::read_file;
@@ -23,8 +23,7 @@ pub(crate) fn files_of(
     requires { AllByRecursion IsKey (map key_of keys.now) }
     ensures files { IfOk result (λ v. AllByRecursion IsFile (map file_entry_of v.items)) }
     ensures keys { IfOk result (λ v. map file_field (map file_entry_of v.items) ≡ map key_of keys.now) }
-    ensures fault { IfErr result
-        (λ e. IfForm e (λ section key. (section ≡ target_file) × IsNoFile (map key_of keys.now) key)) }
+    ensures fault { IfErr result (IsFaultIn target_file (IsNoFile (map key_of keys.now))) }
 {
     let mut files = Vec::new(alloc);
     for k in keys {

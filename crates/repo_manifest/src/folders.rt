@@ -3,14 +3,12 @@ ghost use Rattle.std.specs.Prelude.{◌≡◌, ◌≢◌, ◌∷◌, ◌↔◌, 
 ghost use Rattle.std.specs.List.{AllByRecursion};
 ghost use Rattle.serde_json.specs.Data.{object, no_members};
 ghost use Rattle.serde_json.specs.View.{view};
-ghost use Rattle.base_model.specs.Text.{Text};
-ghost use Rattle.base_model.specs.Fields.{Field};
 ghost use Rattle.base_model.specs.ManifestText.{folder_field};
 ghost use Rattle.repo_ini.specs.Parts.{key_of};
 ghost use Rattle.repo_keys.specs.Agree.{IsOrdered};
 ghost use Rattle.repo_manifest.specs.Alone.{IsDirectory};
-ghost use Rattle.repo_keys.specs.Fault.{IfForm};
-ghost use Rattle.repo_manifest.specs.Sections.{target_path, root_field, IsNoDirectory, IsNoFolder, IsRootKey};
+ghost use Rattle.repo_keys.specs.Fault.{IsFaultIn};
+ghost use Rattle.repo_manifest.specs.Sections.{target_path, root_field, StatesFolder, StatesNoFolder, IsNoDirectory, IsNoFolder, IsRootKey};
 
 use crate::paths::{below, is_signal, path_in};
 use repo_keys::{PartsFault, form};
@@ -29,10 +27,8 @@ fn is_plain(value: &Value) -> bool
 
 /// The folder whose key and value these are.
 fn read_folder<'a>(key: &'a str, value: &Value) -> Option<&'a str>
-    ensures some { IfSome result
-        (λ p. IsDirectory p.now × ((let k : Field = (key.now, view value.now) in k) ≡ folder_field p.now)) }
-    ensures none { IfNone result ((p : Text) → IsDirectory p
-        → (let k : Field = (key.now, view value.now) in k) ≢ folder_field p) }
+    ensures some { IfSome result (λ p. StatesFolder (key.now, view value.now) p.now) }
+    ensures none { IfNone result (StatesNoFolder (key.now, view value.now)) }
 {
     let path = path_in(key)?;
     if is_signal(path) {
@@ -55,8 +51,7 @@ fn is_root(k: &(String, Value)) -> bool
 fn more_of(alloc: Global, keys: &[(String, Value)]) -> Result<Vec<String>, PartsFault>
     ensures folders { IfOk result (λ v. AllByRecursion IsDirectory (map string_bytes v.items)) }
     ensures keys { IfOk result (λ v. map folder_field (map string_bytes v.items) ≡ map key_of keys.now) }
-    ensures fault { IfErr result
-        (λ e. IfForm e (λ section key. (section ≡ target_path) × IsNoDirectory (map key_of keys.now) key)) }
+    ensures fault { IfErr result (IsFaultIn target_path (IsNoDirectory (map key_of keys.now))) }
 {
     let mut folders = Vec::new(alloc);
     for k in keys {
@@ -70,7 +65,7 @@ fn more_of(alloc: Global, keys: &[(String, Value)]) -> Result<Vec<String>, Parts
 
 // The fault of keys that don't begin with the data folder's own.
 fn fault_of_root(alloc: Global, key: &str) -> PartsFault
-    ensures { IfForm result (λ section k. (section ≡ target_path) × IsRootKey key.now k) }
+    ensures { IsFaultIn target_path (IsRootKey key.now) result }
 {
     if below(key).is_some() {
         form(alloc, "target:path", "pg_data")
@@ -85,8 +80,7 @@ pub(crate) fn folders_of(alloc: Global, keys: &[(String, Value)]) -> Result<Vec<
     ensures folders { IfOk result (λ v. AllByRecursion IsDirectory (map string_bytes v.items)) }
     ensures keys { IfOk result (λ v. map key_of keys.now
         ≡ root_field ∷ map folder_field (map string_bytes v.items)) }
-    ensures fault { IfErr result
-        (λ e. IfForm e (λ section key. (section ≡ target_path) × IsNoFolder (map key_of keys.now) key)) }
+    ensures fault { IfErr result (IsFaultIn target_path (IsNoFolder (map key_of keys.now))) }
 {
     let [root, rest @ ..] = keys else {
         return Err(form(alloc, "target:path", "pg_data"));

@@ -1,12 +1,8 @@
 // Writes the section `backup`.
-ghost use Rattle.std.specs.Prelude.{◌≡◌, ◌∷◌, [], ◌++◌, codes, IfOk, OnOk, IfSome, string_bytes};
-ghost use Rattle.serde_json.specs.Data.{string};
-ghost use Rattle.base_model.specs.declared.wal.WalPart.{WalPart};
-ghost use Rattle.base_model.specs.Fields.{whole};
-ghost use Rattle.base_model.specs.InfoFiles.{IsLabel, kind_text, label_value, segment_value};
-ghost use Rattle.base_model.specs.ManifestText.{lsn_text, optional};
+ghost use Rattle.std.specs.Prelude.{◌≡◌, ◌++◌, codes, IfOk, OnOk, IfSome};
+ghost use Rattle.base_model.specs.InfoFiles.{IsLabel};
 ghost use Rattle.repo_ini.specs.Parts.{keys_of, section_of};
-ghost use Rattle.repo_manifest.specs.Head.{head_fields};
+ghost use Rattle.repo_manifest.specs.Head.{head_fields, then_span, then_positions, prior_field, time_fields, size_field};
 
 use crate::head::Head;
 use crate::positions::lsn_text;
@@ -21,9 +17,7 @@ use std::alloc::Global;
 // The segments between which the log lies.
 fn add_span(alloc: Global, part: &mut Part, wal: Option<WalPart>) -> Result<(), NoMemory>
     ensures name { part.new.name ≡ part.old.name }
-    ensures keys { OnOk result (keys_of part.new ≡ keys_of part.old
-        ++ optional (codes "backup-archive-start") (λ (w : WalPart). segment_value w.span.start) wal
-        ++ optional (codes "backup-archive-stop") (λ (w : WalPart). segment_value w.span.stop) wal) }
+    ensures keys { OnOk result (keys_of part.new ≡ then_span (keys_of part.old) wal) }
 {
     let Some(wal) = wal else {
         return Ok(());
@@ -38,9 +32,7 @@ fn add_span(alloc: Global, part: &mut Part, wal: Option<WalPart>) -> Result<(), 
 // The positions between which it lies.
 fn add_positions(alloc: Global, part: &mut Part, wal: Option<WalPart>) -> Result<(), NoMemory>
     ensures name { part.new.name ≡ part.old.name }
-    ensures keys { OnOk result (keys_of part.new ≡ keys_of part.old
-        ++ optional (codes "backup-lsn-start") (λ (w : WalPart). string (lsn_text w.from.0)) wal
-        ++ optional (codes "backup-lsn-stop") (λ (w : WalPart). string (lsn_text w.to.0)) wal) }
+    ensures keys { OnOk result (keys_of part.new ≡ then_positions (keys_of part.old) wal) }
 {
     let Some(wal) = wal else {
         return Ok(());
@@ -55,8 +47,7 @@ fn add_positions(alloc: Global, part: &mut Part, wal: Option<WalPart>) -> Result
 fn add_prior(alloc: Global, part: &mut Part, prior: Option<Label>) -> Result<(), NoMemory>
     requires { IfSome prior IsLabel }
     ensures name { part.new.name ≡ part.old.name }
-    ensures keys { OnOk result (keys_of part.new ≡ keys_of part.old
-        ++ optional (codes "backup-prior") label_value prior) }
+    ensures keys { OnOk result (keys_of part.new ≡ keys_of part.old ++ prior_field prior) }
 {
     let Some(label) = prior else {
         return Ok(());
@@ -69,10 +60,7 @@ fn add_prior(alloc: Global, part: &mut Part, prior: Option<Label>) -> Result<(),
 // The times and the kind, which each manifest has.
 fn add_times(alloc: Global, part: &mut Part, head: &Head) -> Result<(), NoMemory>
     ensures name { part.new.name ≡ part.old.name }
-    ensures keys { OnOk result (keys_of part.new ≡ keys_of part.old
-        ++ (codes "backup-timestamp-start", whole head.now.start)
-        ∷ (codes "backup-timestamp-stop", whole head.now.stop)
-        ∷ (codes "backup-type", string (kind_text head.now.kind)) ∷ []) }
+    ensures keys { OnOk result (keys_of part.new ≡ keys_of part.old ++ time_fields head.now) }
 {
     let kind = kind_value(alloc, head.kind)?;
     part.add(alloc, "backup-timestamp-start", Value::from(head.start))?;
@@ -83,8 +71,7 @@ fn add_times(alloc: Global, part: &mut Part, head: &Head) -> Result<(), NoMemory
 
 fn add_size(alloc: Global, part: &mut Part, wal: Option<WalPart>) -> Result<(), NoMemory>
     ensures name { part.new.name ≡ part.old.name }
-    ensures keys { OnOk result (keys_of part.new ≡ keys_of part.old
-        ++ optional (codes "backup-wal-segment-size") (λ (w : WalPart). whole w.size.0) wal) }
+    ensures keys { OnOk result (keys_of part.new ≡ keys_of part.old ++ size_field wal) }
 {
     let Some(wal) = wal else {
         return Ok(());

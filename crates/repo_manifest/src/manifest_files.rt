@@ -1,21 +1,13 @@
 // Loads and saves manifests.
-ghost use Rattle.std.specs.Prelude.{◌≡◌, ◌≤◌, ◌<◌, false, IfOk, IfErr, IfSome, OnOk, IsErrOf, length, string_bytes};
-ghost use Rattle.base_devices.specs.States.{OnlyReads, CallsProperly};
-ghost use Rattle.base_devices.specs.Moments.{is_unsynced};
-ghost use Rattle.base_devices.specs.Crash.{Crash, Ends, NowChanges, FirstOf, AllOf};
-ghost use Rattle.base_devices.specs.Cause.{Rises};
+ghost use Rattle.std.specs.Prelude.{◌≡◌, ◌≤◌, IfOk, IfErr, OnOk, IsErrOf, length, string_bytes};
+ghost use Rattle.base_devices.specs.States.{OnlyReads, CallsProperly, DiskFailed};
 ghost use Rattle.base_disk.specs.Store.{ChangesOnly};
-ghost use Rattle.base_model.specs.Create.{member_writes};
-ghost use Rattle.base_model.specs.InfoText.{info_text};
 ghost use Rattle.base_model.specs.InfoFiles.{IsLabel};
-ghost use Rattle.base_model.specs.ManifestText.{manifest_limit, manifest_sections, IsManifest, IsManifestText};
-ghost use Rattle.base_model.specs.Names.{copy_of, manifest_name};
-ghost use Rattle.base_model.specs.Pair.{PairIs};
+ghost use Rattle.base_model.specs.ManifestText.{manifest_limit, IsManifest};
+ghost use Rattle.base_model.specs.Names.{manifest_name};
 ghost use Rattle.base_model.specs.Values.{manifest_of};
-ghost use Rattle.repo_pair.specs.Causes.{PairCause};
 ghost use Rattle.repo_pair.specs.Member.{IsOfPair};
-ghost use Rattle.repo_manifest.specs.Keeping.{manifest_text, own_name, IfTooLong};
-ghost use Rattle.repo_manifest.specs.ManifestForm.{IsManifestForm};
+ghost use Rattle.repo_manifest.specs.Keeping.{manifest_text, own_name, IfTooLong, HoldsManifest, RefusesLoad, SavesManifest, SavesManifestNow, EndsManifest, EndsManifestNow, RefusesLength};
 
 use crate::encoder::encode;
 use crate::stored::{LIMIT, Stored};
@@ -44,14 +36,13 @@ pub fn load_manifest<D: Disk>(
     label: &Label,
 ) -> Result<Manifest, InfoFault>
     requires { IsLabel label.now }
-    ensures found { IfOk result (λ m. IfSome (D.state d.old).view.now
-        (λ f. PairIs IsManifestText f (manifest_name stanza.now label.now) (manifest_of m))) }
+    ensures found { IfOk result
+        (λ m. HoldsManifest (manifest_name stanza.now label.now) m (D.state d.old)) }
     ensures valid { IfOk result (λ m. IsManifest (manifest_of m)) }
     ensures within { IfOk result (λ m. length (manifest_text (manifest_of m)) ≤ manifest_limit) }
     ensures looks { OnlyReads (D.state d.old) (D.state d.new) }
     ensures cause { IfErr result
-        (PairCause IsManifestText IsManifestForm manifest_limit (manifest_name stanza.now label.now)
-        (D.state d.old).view.now (Rises (D.state d.old).faults (D.state d.new).faults)) }
+        (RefusesLoad (manifest_name stanza.now label.now) (D.state d.old) (D.state d.new)) }
 {
     let Ok(name) = manifest_name(alloc, stanza, label) else {
         return Err(InfoFault::NoMemory);
@@ -68,26 +59,15 @@ pub fn save_manifest<D: Disk>(
     m: &Manifest,
 ) -> Result<(), WriteFault>
     requires { IsManifest (manifest_of m.now) }
-    ensures crash { is_unsynced (D.state d.old).view (own_name stanza.now m.now) ≡ false
-        → is_unsynced (D.state d.old).view (copy_of (own_name stanza.now m.now)) ≡ false
-        → Crash (FirstOf (member_writes (own_name stanza.now m.now) (manifest_text (manifest_of m.now))))
-        (D.state d.old).view (D.state d.new).view }
-    ensures whole { OnOk result (is_unsynced (D.state d.old).view (own_name stanza.now m.now) ≡ false
-        → is_unsynced (D.state d.old).view (copy_of (own_name stanza.now m.now)) ≡ false
-        → Ends (AllOf (member_writes (own_name stanza.now m.now) (manifest_text (manifest_of m.now))))
-        (D.state d.old).view (D.state d.new).view) }
-    ensures now_part { NowChanges
-        (FirstOf (member_writes (own_name stanza.now m.now) (manifest_text (manifest_of m.now))))
-        (D.state d.old).view.now (D.state d.new).view.now }
-    ensures now_whole { OnOk result
-        (NowChanges (AllOf (member_writes (own_name stanza.now m.now) (manifest_text (manifest_of m.now))))
-        (D.state d.old).view.now (D.state d.new).view.now) }
+    ensures crash { SavesManifest stanza.now m.now (D.state d.old) (D.state d.new) }
+    ensures whole { OnOk result (EndsManifest stanza.now m.now (D.state d.old) (D.state d.new)) }
+    ensures now_part { SavesManifestNow stanza.now m.now (D.state d.old) (D.state d.new) }
+    ensures now_whole { OnOk result (EndsManifestNow stanza.now m.now (D.state d.old) (D.state d.new)) }
     ensures only { ChangesOnly (IsOfPair (own_name stanza.now m.now)) (D.state d.old).view (D.state d.new).view }
     ensures frame { CallsProperly (D.state d.old) (D.state d.new) }
     ensures within { OnOk result (length (manifest_text (manifest_of m.now)) ≤ manifest_limit) }
-    ensures long { IfErr result (λ e. IfTooLong e
-        (λ n. (n ≡ length (manifest_text (manifest_of m.now))) × (manifest_limit < n) × (d.new ≡ d.old))) }
-    ensures cause { IsErrOf result WriteFault.Disk → Rises (D.state d.old).faults (D.state d.new).faults }
+    ensures long { IfErr result (λ e. IfTooLong e (RefusesLength m.now (d.new ≡ d.old))) }
+    ensures cause { IsErrOf result WriteFault.Disk → DiskFailed (D.state d.old) (D.state d.new) }
 {
     let name = manifest_name(alloc, stanza, &m.label)?;
     let text = encode(alloc, m)?;

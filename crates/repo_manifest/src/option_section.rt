@@ -1,15 +1,12 @@
 // The choices, as the section `backup:option` states them.
-ghost use Rattle.std.specs.Prelude.{◌≡◌, map, codes, Bool, is_some, IfOk, IfErr};
+ghost use Rattle.std.specs.Prelude.{◌≡◌, map, codes, Bool, IfOk, IfErr};
 ghost use Rattle.serde_json.specs.Data.{boolean};
 ghost use Rattle.base_model.specs.Text.{In};
 ghost use Rattle.base_model.specs.InfoText.{IsInfo};
-ghost use Rattle.base_model.specs.ManifestText.{manifest_sections, IsManifest};
-ghost use Rattle.base_model.specs.Values.{Manifest as SpecManifest};
-ghost use Rattle.repo_ini.specs.Parts.{key_of, section_of, sections_of};
-ghost use Rattle.repo_keys.specs.Agree.{AgreeAt, IsOrdered};
-ghost use Rattle.repo_keys.specs.Agree.{IsKeysOf};
+ghost use Rattle.repo_ini.specs.Parts.{key_of, sections_of};
+ghost use Rattle.repo_keys.specs.Agree.{IsOrdered, StatesSection};
 ghost use Rattle.repo_keys.specs.Fault.{IfForm};
-ghost use Rattle.repo_manifest.specs.Head.{choice_fields};
+ghost use Rattle.repo_manifest.specs.Head.{choice_fields, SaysOnline, StatesChoices};
 ghost use Rattle.repo_manifest.specs.ManifestForm.{IsManifestForm};
 
 use base_model::Choices;
@@ -35,10 +32,7 @@ fn truth_at(keys: &[(String, Value)], key: &str) -> bool
 
 /// The section of the choices, which states too whether a server was asked.
 pub(crate) fn choices_part(alloc: Global, choices: &Choices, online: bool) -> Result<Part, NoMemory>
-    ensures { IfOk result (λ p. section_of p ≡ record {
-      name = codes "backup:option";
-      keys = choice_fields choices.now online;
-    }) }
+    ensures { IfOk result (StatesSection (codes "backup:option") (choice_fields choices.now online)) }
 {
     let mut part = Part::new(alloc, "backup:option")?;
     part.add(alloc, "option-bundle", Value::Bool(choices.bundle))?;
@@ -50,10 +44,8 @@ pub(crate) fn choices_part(alloc: Global, choices: &Choices, online: bool) -> Re
 /// The choices that the section states.
 pub(crate) fn choices_in(alloc: Global, parts: &[Part], online: bool) -> Result<Choices, PartsFault>
     requires info { IsInfo (sections_of parts.now) }
-    requires online { (m : SpecManifest) → IsManifest m → AgreeAt (manifest_sections m) (sections_of parts.now)
-        (codes "backup") (codes "backup-archive-start") → is_some m.wal ≡ online }
-    ensures known { IfOk result
-        (λ o. IsKeysOf (sections_of parts.now) (codes "backup:option") (choice_fields o online)) }
+    requires online { SaysOnline (sections_of parts.now) online }
+    ensures known { IfOk result (StatesChoices (sections_of parts.now) online) }
     ensures fault { IfErr result (λ e. IfForm e (IsManifestForm (sections_of parts.now))) }
 {
     let keys = keys_at(parts, "backup:option");

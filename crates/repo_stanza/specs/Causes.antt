@@ -1,6 +1,7 @@
 -- Why a stanza isn't made.
 use Rattle.std.specs.Prelude.{◌≡◌, ◌≢◌, List, ◌∷◌, ℕ, Option, IfSome, string_bytes}
 use Rattle.base_devices.specs.Content.{Content}
+use Rattle.base_devices.specs.States.{DiskState, DiskFailed}
 use Rattle.base_model.specs.declared.labels.Label.{Label}
 use Rattle.base_model.specs.declared.clusters.ClusterId.{ClusterId}
 use Rattle.base_model.specs.Text.{Text}
@@ -80,6 +81,10 @@ module _ {V : Type 0} (IsTextOf : V → Text → Type 0) (IsForm : List Section 
   ReadCause name now rose NoMemory = Unit {0}
   ReadCause name now rose other = ⊥
 
+  -- the same from one state of the disk to another
+  abbrev pub ReadFails : Text → DiskState → DiskState → StanzaFault → Type 0
+  ReadFails name old new e = ReadCause name old.view.now (DiskFailed old new) e
+
 -- why a repository isn't free of these names
 abbrev pub FoundCause : (Text → Type 0) → Option Content → Type 0 → StanzaFault → Type 0
 FoundCause These now rose (FilesFound name) = IfSome now (λ f. IsFirst These f (string_bytes name))
@@ -87,12 +92,18 @@ FoundCause These now rose Disk = rose
 FoundCause These now rose NoMemory = Unit {0}
 FoundCause These now rose other = ⊥
 
+abbrev pub FoundFails : (Text → Type 0) → DiskState → DiskState → StanzaFault → Type 0
+FoundFails These old new e = FoundCause These old.view.now (DiskFailed old new) e
+
 -- why a repository without a stanza isn't unused
 abbrev pub UnusedCause : Text → Option Content → Type 0 → StanzaFault → Type 0
 UnusedCause stanza now rose (FilesFound name) = IfSome now (λ f. HasFiles stanza f (string_bytes name))
 UnusedCause stanza now rose Disk = rose
 UnusedCause stanza now rose NoMemory = Unit {0}
 UnusedCause stanza now rose other = ⊥
+
+abbrev pub UnusedFails : Text → DiskState → DiskState → StanzaFault → Type 0
+UnusedFails stanza old new e = UnusedCause stanza old.view.now (DiskFailed old new) e
 
 -- Why create gives this fault, from what the disk held as it began, and whether the disk's count of faults rose.
 abbrev pub CreateCause : Text → Control → Option Content → Type 0 → StanzaFault → Type 0
@@ -104,6 +115,9 @@ CreateCause stanza known now rose (ArchiveLost label) = IfSome now (λ f. HasLos
 CreateCause stanza known now rose (FilesFound name) = IfSome now (λ f. HasFiles stanza f (string_bytes name))
 CreateCause stanza known now rose Disk = rose
 CreateCause stanza known now rose NoMemory = Unit {0}
+
+abbrev pub CreateFails : Text → Control → DiskState → DiskState → StanzaFault → Type 0
+CreateFails stanza known old new e = CreateCause stanza known old.view.now (DiskFailed old new) e
 
 -- what holds where the stanza is refused for what the disk holds
 abbrev pub OnContent : StanzaFault → Type 0 → Type 0

@@ -7,3 +7,5 @@ pub mod Pairs
 pub mod Synced
 pub mod Owned
 pub mod Unused
+pub mod Saved
+pub mod Making

@@ -1,11 +1,11 @@
 -- What a repository without info files may still hold of a stanza.
-use Rattle.std.specs.Prelude.{◌≡◌, ◌⊎◌, true, List, ◌∷◌, ◌++◌, None, IsSome, IsTrue, string_bytes}
+use Rattle.std.specs.Prelude.{◌≡◌, ◌⊎◌, true, List, [], ◌∷◌, ◌++◌, None, IsSome, IsTrue, string_bytes}
 use Rattle.base_devices.specs.declared.disk.Found.{Found}
 use Rattle.base_devices.specs.Content.{Content, is_below}
 use Rattle.base_devices.specs.Order.{is_before}
 use Rattle.base_model.specs.declared.labels.Label.{Label}
 use Rattle.base_model.specs.Text.{Text, In}
-use Rattle.base_model.specs.Names.{label_folder}
+use Rattle.base_model.specs.Names.{archive_folder, backup_folder, label_folder}
 use Rattle.base_model.specs.InfoFiles.{IsLabel}
 use Rattle.base_model.specs.Represents.{IsArchiveFile, IsVacant}
 use Rattle.repo_stanza.specs.Pairs.{LacksStanza}
@@ -50,3 +50,17 @@ pub record FindsFirst (These : Text → Type 0) (found : List Found) (x : Found)
   pub parts : found ≡ earlier ++ x ∷ later
   pub passed : FindsNone These earlier
   pub is : These (string_bytes x.name)
+
+-- this holds of the stanza whose folder of the archive, or of the backups, is this prefix without its slash
+abbrev pub ForArchiveOf : Text → (Text → Type 0) → Type 0
+ForArchiveOf prefix Holds = (stanza : Text) → prefix ≡ archive_folder stanza ++ 47 ∷ [] → Holds stanza
+
+abbrev pub ForBackupsOf : Text → (Text → Type 0) → Type 0
+ForBackupsOf prefix Holds = (stanza : Text) → prefix ≡ backup_folder stanza ++ 47 ∷ [] → Holds stanza
+
+-- of what was found this is the first archive file, or the first in the folder of a label
+abbrev pub IsFirstArchived : Text → List Found → Found → Type 0
+IsFirstArchived prefix found x = ForArchiveOf prefix (λ stanza. FindsFirst (IsArchiveFile stanza) found x)
+
+abbrev pub IsFirstInLabel : Text → List Found → Found → Type 0
+IsFirstInLabel prefix found x = ForBackupsOf prefix (λ stanza. FindsFirst (IsInLabel stanza) found x)

@@ -1,22 +1,16 @@
 // Makes a stanza, or keeps the one that is there.
-ghost use Rattle.std.specs.Prelude.{◌≡◌, ◌≤◌, ◌⊎◌, None, Some, OnOk, IfOk, IfErr, IfNone, IfSome, IsSome};
+ghost use Rattle.std.specs.Prelude.{◌≡◌, OnOk, IfOk, IfErr, IfNone, IfSome, IsSome};
 ghost use Rattle.base_devices.specs.States.{CallsProperly, OnlyReads};
 ghost use Rattle.base_devices.specs.Moments.{LeavesNoMore};
-ghost use Rattle.base_devices.specs.Cause.{Rises};
 ghost use Rattle.base_disk.specs.Store.{ChangesOnly};
-ghost use Rattle.base_model.specs.Repository.{Repository, Stanza};
-ghost use Rattle.base_model.specs.Represents.{Represents};
-ghost use Rattle.base_model.specs.Steps.{step, Create};
-ghost use Rattle.base_model.specs.Steady.{IsSteady, EachImage};
-ghost use Rattle.base_model.specs.Now.{NowRepresents, HasNewPairs};
-ghost use Rattle.repo_stanza.specs.Owned.{IsOfPairs};
-ghost use Rattle.repo_stanza.specs.ControlFile.{first_cluster};
-ghost use Rattle.repo_stanza.specs.Pairs.{HasStanzaOf, IsStanzaOf, PairsAgree};
-ghost use Rattle.repo_stanza.specs.Unused.{IsUnused};
 ghost use Rattle.base_model.specs.InfoFiles.{IsArchiveInfo, IsBackupInfo, IsLabel};
 ghost use Rattle.base_model.specs.Values.{archive_info_of, backup_info_of};
-ghost use Rattle.repo_stanza.specs.Judging.{KeepsStanza};
-ghost use Rattle.repo_stanza.specs.Causes.{CreateCause, OnContent, IfNew, IfSame, IfLost};
+ghost use Rattle.repo_stanza.specs.Owned.{IsOfPairs};
+ghost use Rattle.repo_stanza.specs.Pairs.{HasStanzaOf};
+ghost use Rattle.repo_stanza.specs.Unused.{IsUnused};
+ghost use Rattle.repo_stanza.specs.Judging.{AreKept};
+ghost use Rattle.repo_stanza.specs.Making.{NowHas, HadNoStanza, HadStanzaOf, MayMake, HasMade, MakesPairs, PairsAgreeAfter, ImagesMayMake, HasMadeSteady};
+ghost use Rattle.repo_stanza.specs.Causes.{CreateFails, OnContent, IfNew, IfSame, IfLost};
 
 use crate::control::Control;
 use crate::fault::StanzaFault;
@@ -45,15 +39,11 @@ fn find_kept<D: Disk>(
     control: &Control,
 ) -> Result<Option<PairValues>, StanzaFault>
     ensures lacking { IfOk result (λ o. IfNone o (IfSome (D.state d.old).view.now (IsUnused stanza.now))) }
-    ensures kept { IfOk result
-        (λ o. IfSome o (λ k. IfSome (D.state d.old).view.now
-        (λ f. KeepsStanza stanza.now control.now f (archive_info_of k.archive) (backup_info_of k.backup)))) }
+    ensures kept { IfOk result (λ o. IfSome o (AreKept stanza.now control.now (D.state d.old))) }
     ensures archive { IfOk result (λ o. IfSome o (λ k. IsArchiveInfo (archive_info_of k.archive))) }
     ensures backup { IfOk result (λ o. IfSome o (λ k. IsBackupInfo (backup_info_of k.backup))) }
     ensures looks { OnlyReads (D.state d.old) (D.state d.new) }
-    ensures cause { IfErr result
-        (CreateCause stanza.now control.now (D.state d.old).view.now
-        (Rises (D.state d.old).faults (D.state d.new).faults)) }
+    ensures cause { IfErr result (CreateFails stanza.now control.now (D.state d.old) (D.state d.new)) }
     ensures label { IfErr result (λ e. IfLost e IsLabel) }
 {
     match look(alloc, d, stanza, control)? {
@@ -75,44 +65,25 @@ pub fn create<D: Disk>(
     control: &Control,
 ) -> Result<Created, StanzaFault>
     // After every answer, and after every crash, the stanza is as before or made, and at Ok it is made.
-    ensures part { (r : Repository) → IsSome (D.state d.old).view.now
-        → NowRepresents stanza.now r (D.state d.old).view.now
-        → NowRepresents stanza.now r (D.state d.new).view.now ⊎ NowRepresents stanza.now
-        (step r (Create (first_cluster control.now))) (D.state d.new).view.now }
-    ensures done { OnOk result ((r : Repository) → IsSome (D.state d.old).view.now
-        → NowRepresents stanza.now r (D.state d.old).view.now
-        → NowRepresents stanza.now (step r (Create (first_cluster control.now))) (D.state d.new).view.now) }
-    ensures moves { (r : Repository) → IsSteady stanza.now r (D.state d.old).view → IsSome (D.state d.old).view.now
-        → EachImage stanza.now (λ g. Represents stanza.now g r ⊎ Represents stanza.now g
-        (step r (Create (first_cluster control.now)))) (D.state d.old).view (D.state d.new).view }
-    ensures made { OnOk result ((r : Repository) → IsSteady stanza.now r (D.state d.old).view
-        → IsSome (D.state d.old).view.now
-        → IsSteady stanza.now (step r (Create (first_cluster control.now))) (D.state d.new).view) }
+    ensures part { MayMake stanza.now control.now (D.state d.old) (D.state d.new) }
+    ensures done { OnOk result (HasMade stanza.now control.now (D.state d.old) (D.state d.new)) }
+    ensures moves { ImagesMayMake stanza.now control.now (D.state d.old) (D.state d.new) }
+    ensures made { OnOk result (HasMadeSteady stanza.now control.now (D.state d.old) (D.state d.new)) }
     // New comes only where the disk has no stanza, no archive file of it and nothing in the folder of a label, and Same
     // where it has a stanza of this cluster.
     ensures lacking { IfOk result (λ c. IfNew c (IfSome (D.state d.old).view.now (IsUnused stanza.now))) }
-    ensures new { IfOk result
-        (λ c. IfNew c ((r : Repository) → IsSome (D.state d.old).view.now
-        → NowRepresents stanza.now r (D.state d.old).view.now → r ≡ None)) }
+    ensures new { IfOk result (λ c. IfNew c (HadNoStanza stanza.now (D.state d.old))) }
     ensures members { IfOk result
-        (λ c. IfNew c (IsSome (D.state d.old).view.now → IfSome (D.state d.new).view.now
-        (HasNewPairs stanza.now (first_cluster control.now)))) }
-    ensures having { IfOk result
-        (λ c. IfSame c (IfSome (D.state d.old).view.now (HasStanzaOf stanza.now control.now))) }
-    ensures same { IfOk result
-        (λ c. IfSame c ((r : Repository) → IsSome (D.state d.old).view.now
-        → NowRepresents stanza.now r (D.state d.old).view.now
-        → (s : Stanza) × (r ≡ Some s) × IsStanzaOf control.now s)) }
-    ensures agrees { OnOk result (IsSome (D.state d.old).view.now
-        → IfSome (D.state d.new).view.now (PairsAgree stanza.now)) }
+        (λ c. IfNew c (MakesPairs stanza.now control.now (D.state d.old) (D.state d.new))) }
+    ensures having { IfOk result (λ c. IfSame c (NowHas (D.state d.old) (HasStanzaOf stanza.now control.now))) }
+    ensures same { IfOk result (λ c. IfSame c (HadStanzaOf stanza.now control.now (D.state d.old))) }
+    ensures agrees { OnOk result (PairsAgreeAfter stanza.now (D.state d.old) (D.state d.new)) }
     ensures refused { IfErr result (λ e. OnContent e ((D.state d.new).view.now ≡ (D.state d.old).view.now)) }
     ensures rests { IfErr result (λ e. OnContent e (LeavesNoMore (D.state d.old).view (D.state d.new).view)) }
     ensures known { IsSome (D.state d.old).view.now → IsSome (D.state d.new).view.now }
     ensures only { ChangesOnly (IsOfPairs stanza.now) (D.state d.old).view (D.state d.new).view }
     ensures frame { CallsProperly (D.state d.old) (D.state d.new) }
-    ensures cause { IfErr result
-        (CreateCause stanza.now control.now (D.state d.old).view.now
-        (Rises (D.state d.old).faults (D.state d.new).faults)) }
+    ensures cause { IfErr result (CreateFails stanza.now control.now (D.state d.old) (D.state d.new)) }
     ensures label { IfErr result (λ e. IfLost e IsLabel) }
 {
     match find_kept(alloc, d, stanza, control)? {

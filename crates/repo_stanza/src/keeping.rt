@@ -1,18 +1,13 @@
 // Mends the pairs of a stanza.
-ghost use Rattle.std.specs.Prelude.{◌≡◌, ◌≤◌, false, OnOk, IfSome, IsSome, IsErrOf};
-ghost use Rattle.base_devices.specs.States.{CallsProperly};
-ghost use Rattle.base_devices.specs.Moments.{is_unsynced};
-ghost use Rattle.base_devices.specs.Crash.{Crash, NowChanges, SomeOf};
-ghost use Rattle.base_devices.specs.Cause.{Rises};
+ghost use Rattle.std.specs.Prelude.{OnOk, IsErrOf};
+ghost use Rattle.base_devices.specs.States.{CallsProperly, DiskFailed};
 ghost use Rattle.base_disk.specs.Store.{ChangesOnly};
-ghost use Rattle.base_model.specs.Names.{archive_info, backup_info, copy_of};
-ghost use Rattle.base_model.specs.Create.{member_writes};
+ghost use Rattle.base_model.specs.Names.{archive_info, backup_info};
 ghost use Rattle.base_model.specs.Values.{archive_info_of, backup_info_of};
 ghost use Rattle.base_model.specs.InfoFiles.{IsArchiveInfo, IsBackupInfo};
 ghost use Rattle.repo_pair.specs.Member.{IsOfPair};
 ghost use Rattle.repo_stanza.specs.Owned.{IsOfPairs};
-ghost use Rattle.repo_stanza.specs.Synced.{AreSynced};
-ghost use Rattle.repo_stanza.specs.HealingPair.{archive_text, backup_text, mending_writes, HoldBoth, HaveTexts};
+ghost use Rattle.repo_stanza.specs.Saved.{archive_write, backup_write, MendsPair, MendsPairNow, PairHasText, MendsPairs, MendsPairsNow, PairsHaveTexts};
 
 use crate::names::{archive_info_name, backup_info_name};
 use crate::pair_rules::PairValues;
@@ -29,19 +24,12 @@ fn keep_archive<D: Disk>(
     value: &ArchiveInfo,
 ) -> Result<(), SaveFault>
     requires { IsArchiveInfo (archive_info_of value.now) }
-    ensures crash { is_unsynced (D.state d.old).view (archive_info stanza.now) ≡ false
-        → is_unsynced (D.state d.old).view (copy_of (archive_info stanza.now)) ≡ false
-        → Crash (SomeOf (member_writes (archive_info stanza.now) (archive_text (archive_info_of value.now))))
-        (D.state d.old).view (D.state d.new).view }
-    ensures now_part { NowChanges
-        (SomeOf (member_writes (archive_info stanza.now) (archive_text (archive_info_of value.now))))
-        (D.state d.old).view.now (D.state d.new).view.now }
-    ensures healed_pair { OnOk result
-        (IfSome (D.state d.new).view.now
-        (HoldBoth (archive_info stanza.now) (archive_text (archive_info_of value.now)))) }
+    ensures crash { MendsPair (archive_write stanza.now value.now) (D.state d.old) (D.state d.new) }
+    ensures now_part { MendsPairNow (archive_write stanza.now value.now) (D.state d.old) (D.state d.new) }
+    ensures healed_pair { OnOk result (PairHasText (archive_write stanza.now value.now) (D.state d.new)) }
     ensures only { ChangesOnly (IsOfPair (archive_info stanza.now)) (D.state d.old).view (D.state d.new).view }
     ensures frame { CallsProperly (D.state d.old) (D.state d.new) }
-    ensures cause { IsErrOf result SaveFault.Disk → Rises (D.state d.old).faults (D.state d.new).faults }
+    ensures cause { IsErrOf result SaveFault.Disk → DiskFailed (D.state d.old) (D.state d.new) }
 {
     let name = archive_info_name(alloc, stanza)?;
     heal_members(alloc, d, name.as_str(), value)?;
@@ -56,18 +44,12 @@ fn keep_backup<D: Disk>(
     value: &BackupInfo,
 ) -> Result<(), SaveFault>
     requires { IsBackupInfo (backup_info_of value.now) }
-    ensures crash { is_unsynced (D.state d.old).view (backup_info stanza.now) ≡ false
-        → is_unsynced (D.state d.old).view (copy_of (backup_info stanza.now)) ≡ false
-        → Crash (SomeOf (member_writes (backup_info stanza.now) (backup_text (backup_info_of value.now))))
-        (D.state d.old).view (D.state d.new).view }
-    ensures now_part { NowChanges
-        (SomeOf (member_writes (backup_info stanza.now) (backup_text (backup_info_of value.now))))
-        (D.state d.old).view.now (D.state d.new).view.now }
-    ensures healed_pair { OnOk result
-        (IfSome (D.state d.new).view.now (HoldBoth (backup_info stanza.now) (backup_text (backup_info_of value.now)))) }
+    ensures crash { MendsPair (backup_write stanza.now value.now) (D.state d.old) (D.state d.new) }
+    ensures now_part { MendsPairNow (backup_write stanza.now value.now) (D.state d.old) (D.state d.new) }
+    ensures healed_pair { OnOk result (PairHasText (backup_write stanza.now value.now) (D.state d.new)) }
     ensures only { ChangesOnly (IsOfPair (backup_info stanza.now)) (D.state d.old).view (D.state d.new).view }
     ensures frame { CallsProperly (D.state d.old) (D.state d.new) }
-    ensures cause { IsErrOf result SaveFault.Disk → Rises (D.state d.old).faults (D.state d.new).faults }
+    ensures cause { IsErrOf result SaveFault.Disk → DiskFailed (D.state d.old) (D.state d.new) }
 {
     let name = backup_info_name(alloc, stanza)?;
     heal_members(alloc, d, name.as_str(), value)?;
@@ -83,19 +65,12 @@ pub(crate) fn keep_stanza<D: Disk>(
 ) -> Result<(), SaveFault>
     requires archive { IsArchiveInfo (archive_info_of kept.now.archive) }
     requires backup { IsBackupInfo (backup_info_of kept.now.backup) }
-    ensures crash { AreSynced stanza.now (D.state d.old).view
-        → Crash (SomeOf (mending_writes stanza.now (archive_text (archive_info_of kept.now.archive))
-        (backup_text (backup_info_of kept.now.backup)))) (D.state d.old).view (D.state d.new).view }
-    ensures now_part { NowChanges
-        (SomeOf (mending_writes stanza.now (archive_text (archive_info_of kept.now.archive))
-        (backup_text (backup_info_of kept.now.backup)))) (D.state d.old).view.now (D.state d.new).view.now }
-    ensures healed_pair { OnOk result (IsSome (D.state d.old).view.now
-        → IfSome (D.state d.new).view.now
-        (HaveTexts stanza.now (archive_text (archive_info_of kept.now.archive))
-        (backup_text (backup_info_of kept.now.backup)))) }
+    ensures crash { MendsPairs stanza.now kept.now (D.state d.old) (D.state d.new) }
+    ensures now_part { MendsPairsNow stanza.now kept.now (D.state d.old) (D.state d.new) }
+    ensures healed_pair { OnOk result (PairsHaveTexts stanza.now kept.now (D.state d.old) (D.state d.new)) }
     ensures only { ChangesOnly (IsOfPairs stanza.now) (D.state d.old).view (D.state d.new).view }
     ensures frame { CallsProperly (D.state d.old) (D.state d.new) }
-    ensures cause { IsErrOf result SaveFault.Disk → Rises (D.state d.old).faults (D.state d.new).faults }
+    ensures cause { IsErrOf result SaveFault.Disk → DiskFailed (D.state d.old) (D.state d.new) }
 {
     keep_archive(alloc, d, stanza, &kept.archive)?;
     keep_backup(alloc, d, stanza, &kept.backup)?;

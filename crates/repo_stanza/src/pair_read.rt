@@ -1,15 +1,12 @@
 // Reads the two pairs of a stanza, which fit together or are refused.
-ghost use Rattle.std.specs.Prelude.{◌≡◌, ◌≤◌, [], None, Some, IfOk, IfErr, IfSome, IfNone, IsSomeAnd};
+ghost use Rattle.std.specs.Prelude.{IfOk, IfErr, IfSome, IfNone};
 ghost use Rattle.base_devices.specs.States.{OnlyReads};
-ghost use Rattle.base_devices.specs.Moments.{LeavesNoMore};
-ghost use Rattle.base_devices.specs.Cause.{Rises};
-ghost use Rattle.base_model.specs.Names.{archive_info, backup_info};
-ghost use Rattle.base_model.specs.Pair.{PairIs, PairAbsent};
+ghost use Rattle.base_model.specs.Pair.{PairAbsent};
 ghost use Rattle.base_model.specs.Values.{archive_info_of, backup_info_of};
-ghost use Rattle.base_model.specs.InfoFiles.{IsArchiveInfo, IsBackupInfo, IsArchiveText, IsBackupText, IsLabel};
+ghost use Rattle.base_model.specs.InfoFiles.{IsArchiveInfo, IsBackupInfo, IsLabel};
 ghost use Rattle.repo_stanza.specs.Pairs.{LacksStanza};
-ghost use Rattle.repo_stanza.specs.Judging.{Validates, IsOf, Refuses, KeepsStanza};
-ghost use Rattle.repo_stanza.specs.Causes.{CreateCause, ReadCause, IfLost};
+ghost use Rattle.repo_stanza.specs.Judging.{Refuses, StateNothing, KeepsValues, AreKept, PairHolds};
+ghost use Rattle.repo_stanza.specs.Causes.{CreateFails, ReadFails, IfLost};
 
 use crate::control::Control;
 use crate::fault::StanzaFault;
@@ -27,14 +24,12 @@ fn read_pair<D: Disk, I: ReadInfo>(
     d: &mut D,
     name: &str,
 ) -> Result<Option<I>, StanzaFault>
-    ensures found { IfOk result
-        (λ o. IfSome o (λ v. IfSome (D.state d.old).view.now (λ f. PairIs I.IsText f name.now (I.value v)))) }
+    ensures found { IfOk result (λ o. IfSome o (λ v. PairHolds I.IsText name.now (D.state d.old) (I.value v))) }
     ensures missing { IfOk result (λ o. IfNone o (IfSome (D.state d.old).view.now (λ f. PairAbsent f name.now))) }
     ensures valid { IfOk result (λ o. IfSome o I.is_valid) }
     ensures looks { OnlyReads (D.state d.old) (D.state d.new) }
     ensures cause { IfErr result
-        (ReadCause I.IsText I.IsForm I.limit name.now (D.state d.old).view.now
-        (Rises (D.state d.old).faults (D.state d.new).faults)) }
+        (ReadFails I.IsText I.IsForm I.limit name.now (D.state d.old) (D.state d.new)) }
     ensures label { IfErr result (λ e. IfLost e IsLabel) }
 {
     match load_pair::<D, I>(alloc, d, name) {
@@ -59,12 +54,8 @@ fn judge(
 ) -> Result<Option<PairValues>, StanzaFault>
     requires archive { IfSome archive (λ a. IsArchiveInfo (archive_info_of a)) }
     requires backup { IfSome backup (λ b. IsBackupInfo (backup_info_of b)) }
-    ensures nothing { IfOk result
-        (λ o. IfNone o ((archive ≡ None) × IfSome backup (λ b. (backup_info_of b).backups ≡ []))) }
-    ensures kept { IfOk result
-        (λ o. IfSome o (λ k. (archive ≡ Some k.archive) × IsSomeAnd backup
-        (λ b. Validates (archive_info_of k.archive) (backup_info_of b) (backup_info_of k.backup))
-        × IsOf known.now (archive_info_of k.archive))) }
+    ensures nothing { IfOk result (λ o. IfNone o (StateNothing archive backup)) }
+    ensures kept { IfOk result (λ o. IfSome o (KeepsValues known.now archive backup)) }
     ensures archive { IfOk result (λ o. IfSome o (λ k. IsArchiveInfo (archive_info_of k.archive))) }
     ensures backup { IfOk result (λ o. IfSome o (λ k. IsBackupInfo (backup_info_of k.backup))) }
     ensures refused { IfErr result (Refuses known.now archive backup name) }
@@ -93,15 +84,11 @@ pub(crate) fn look<D: Disk>(
     known: &Control,
 ) -> Result<Option<PairValues>, StanzaFault>
     ensures lacking { IfOk result (λ o. IfNone o (IfSome (D.state d.old).view.now (LacksStanza stanza.now))) }
-    ensures kept { IfOk result
-        (λ o. IfSome o (λ k. IfSome (D.state d.old).view.now
-        (λ f. KeepsStanza stanza.now known.now f (archive_info_of k.archive) (backup_info_of k.backup)))) }
+    ensures kept { IfOk result (λ o. IfSome o (AreKept stanza.now known.now (D.state d.old))) }
     ensures archive { IfOk result (λ o. IfSome o (λ k. IsArchiveInfo (archive_info_of k.archive))) }
     ensures backup { IfOk result (λ o. IfSome o (λ k. IsBackupInfo (backup_info_of k.backup))) }
     ensures looks { OnlyReads (D.state d.old) (D.state d.new) }
-    ensures cause { IfErr result
-        (CreateCause stanza.now known.now (D.state d.old).view.now
-        (Rises (D.state d.old).faults (D.state d.new).faults)) }
+    ensures cause { IfErr result (CreateFails stanza.now known.now (D.state d.old) (D.state d.new)) }
     ensures label { IfErr result (λ e. IfLost e IsLabel) }
 {
     let archive_name = archive_info_name(alloc, stanza)?;

@@ -1,13 +1,12 @@
 // Whether the values of a stanza's two pairs fit together, and are of a cluster.
-ghost use Rattle.std.specs.Prelude.{◌≡◌, ◌≢◌, ◌⊎◌, ◌+◌, ◌<◌, ◌≤◌, ◌∷◌, ◌++◌, true, false, List, [], length, map, slice_get, IfOk, IfErr, IfSome, IfNone, OnOk};
+ghost use Rattle.std.specs.Prelude.{◌≡◌, ◌≢◌, ◌⊎◌, ◌+◌, ◌<◌, ◌≤◌, ◌∷◌, ◌++◌, true, false, [], length, map, slice_get, IfOk, IfErr, IfSome, IfNone, OnOk};
 ghost use Rattle.base_model.specs.declared.clusters.Cluster.{Cluster};
 ghost use Rattle.base_model.specs.Text.{In};
 ghost use Rattle.base_model.specs.Values.{archive_info_of, backup_info_of, entry_of, Entry as SpecEntry};
 ghost use Rattle.base_model.specs.InfoFiles.{IsArchiveInfo, IsBackupInfo, IsLabel};
 ghost use Rattle.base_model.specs.Repository.{identity_of};
 ghost use Rattle.repo_stanza.specs.Pairs.{DifferFirst, HasPending};
-ghost use Rattle.repo_stanza.specs.HealingPair.{backup_text};
-ghost use Rattle.repo_stanza.specs.Judging.{Validates, IsOf, ShowsDifference, ShowsOther, ShowsLost, Unfit};
+ghost use Rattle.repo_stanza.specs.Judging.{IsValidated, IsNoLonger, IsOf, ListsNone, ShowsDifference, ShowsOther, ShowsLost, Unfit};
 ghost use Rattle.repo_stanza.specs.Causes.{IfLost};
 
 use crate::control::Control;
@@ -77,8 +76,7 @@ fn has_pending(archive: &ArchiveInfo, backup: &BackupInfo) -> bool
     requires { IsBackupInfo (backup_info_of backup.now) }
     ensures one { result ≡ true → length backup.now.history.items ≡ length archive.now.history.items + 1 }
     ensures current { result ≡ true → backup.now.current ≡ length backup.now.history.items }
-    ensures unused { result ≡ true → (e : SpecEntry) → In e (backup_info_of backup.now).backups
-        → e.db ≢ backup.now.current }
+    ensures unused { result ≡ true → ListsNone (backup_info_of backup.now) backup.now.current }
     ensures other { result ≡ false → ¬ HasPending (archive_info_of archive.now) (backup_info_of backup.now) }
 {
     if backup.history.len() != archive.history.len() + 1 {
@@ -94,13 +92,12 @@ fn has_pending(archive: &ArchiveInfo, backup: &BackupInfo) -> bool
 fn without_last(mut backup: BackupInfo) -> BackupInfo
     requires valid { IsBackupInfo (backup_info_of backup) }
     requires some { 2 ≤ length backup.history.items }
-    requires unused { (e : SpecEntry) → In e (backup_info_of backup).backups
-        → e.db ≢ length backup.history.items }
+    requires unused { ListsNone (backup_info_of backup) (length backup.history.items) }
     ensures history { (last : Cluster) × (backup.history.items ≡ result.history.items ++ last ∷ []) }
     ensures current { result.current ≡ length result.history.items }
     ensures backups { (backup_info_of result).backups ≡ (backup_info_of backup).backups }
     ensures valid { IsBackupInfo (backup_info_of result) }
-    ensures shorter { length (backup_text (backup_info_of result)) ≤ length (backup_text (backup_info_of backup)) }
+    ensures shorter { IsNoLonger backup result }
 {
     backup.history.pop();
     backup.current = backup.history.len() as u32;
@@ -111,11 +108,9 @@ fn without_last(mut backup: BackupInfo) -> BackupInfo
 pub fn validate_list(archive: &ArchiveInfo, backup: BackupInfo) -> Result<BackupInfo, StanzaFault>
     requires archive { IsArchiveInfo (archive_info_of archive.now) }
     requires backup { IsBackupInfo (backup_info_of backup) }
-    ensures settled { IfOk result
-        (λ w. Validates (archive_info_of archive.now) (backup_info_of backup) (backup_info_of w)) }
+    ensures settled { IfOk result (IsValidated archive.now backup) }
     ensures valid { IfOk result (λ w. IsBackupInfo (backup_info_of w)) }
-    ensures shorter { IfOk result
-        (λ w. length (backup_text (backup_info_of w)) ≤ length (backup_text (backup_info_of backup))) }
+    ensures shorter { IfOk result (IsNoLonger backup) }
     ensures differ { IfErr result (ShowsDifference (archive_info_of archive.now) (backup_info_of backup)) }
     ensures label { IfErr result (λ e. IfLost e IsLabel) }
 {
@@ -161,8 +156,7 @@ pub fn fit_list(
 ) -> Result<BackupInfo, StanzaFault>
     requires archive { IsArchiveInfo (archive_info_of archive.now) }
     requires backup { IsBackupInfo (backup_info_of backup) }
-    ensures settled { IfOk result
-        (λ w. Validates (archive_info_of archive.now) (backup_info_of backup) (backup_info_of w)) }
+    ensures settled { IfOk result (IsValidated archive.now backup) }
     ensures of { OnOk result (IsOf known.now (archive_info_of archive.now)) }
     ensures valid { IfOk result (λ w. IsBackupInfo (backup_info_of w)) }
     ensures unfit { IfErr result (Unfit known.now (archive_info_of archive.now) (backup_info_of backup)) }
@@ -182,8 +176,7 @@ pub(crate) fn fit(
     requires archive { IsArchiveInfo (archive_info_of archive) }
     requires backup { IsBackupInfo (backup_info_of backup) }
     ensures archive { IfOk result (λ k. k.archive ≡ archive) }
-    ensures settled { IfOk result
-        (λ k. Validates (archive_info_of archive) (backup_info_of backup) (backup_info_of k.backup)) }
+    ensures settled { IfOk result (λ k. IsValidated archive backup k.backup) }
     ensures of { IfOk result (λ k. IsOf known.now (archive_info_of archive)) }
     ensures valid { IfOk result (λ k. IsBackupInfo (backup_info_of k.backup)) }
     ensures unfit { IfErr result (Unfit known.now (archive_info_of archive) (backup_info_of backup)) }

@@ -1,17 +1,14 @@
 // Saves the pairs of a new stanza.
-ghost use Rattle.std.specs.Prelude.{◌≡◌, ◌≤◌, false, IfOk, OnOk, IsErrOf};
-ghost use Rattle.base_devices.specs.States.{CallsProperly};
-ghost use Rattle.base_devices.specs.Moments.{is_unsynced};
-ghost use Rattle.base_devices.specs.Crash.{Crash, Ends, NowChanges, FirstOf, AllOf};
-ghost use Rattle.base_devices.specs.Cause.{Rises};
+ghost use Rattle.std.specs.Prelude.{◌≡◌, IfOk, OnOk, IsErrOf};
+ghost use Rattle.base_devices.specs.States.{CallsProperly, DiskFailed};
 ghost use Rattle.base_disk.specs.Store.{ChangesOnly};
-ghost use Rattle.base_model.specs.Names.{archive_info, backup_info, copy_of};
+ghost use Rattle.base_model.specs.Names.{archive_info, backup_info};
 ghost use Rattle.base_model.specs.InfoFiles.{IsCluster};
 ghost use Rattle.base_model.specs.Values.{archive_info_of, backup_info_of};
+ghost use Rattle.base_model.specs.Create.{first_archive, first_backup};
 ghost use Rattle.repo_pair.specs.Member.{IsOfPair};
 ghost use Rattle.repo_stanza.specs.Owned.{IsOfPairs};
-ghost use Rattle.repo_stanza.specs.Synced.{AreSynced};
-ghost use Rattle.base_model.specs.Create.{first_archive, first_backup, first_archive_text, first_backup_text, member_writes, pair_writes};
+ghost use Rattle.repo_stanza.specs.Saved.{new_archive, new_backup, SavesPair, SavesPairNow, EndsPair, EndsPairNow, SavesPairs, SavesPairsNow, EndsPairs, EndsPairsNow};
 
 use crate::names::{archive_info_name, backup_info_name};
 use crate::pair_rules::identity_of;
@@ -48,23 +45,15 @@ fn save_backup<D: Disk>(
 ) -> Result<(), SaveFault>
     requires first { cluster.now.id ≡ 1 }
     requires is_cluster { IsCluster cluster.now }
-    ensures crash { is_unsynced (D.state d.old).view (backup_info stanza.now) ≡ false
-        → is_unsynced (D.state d.old).view (copy_of (backup_info stanza.now)) ≡ false
-        → Crash (FirstOf (member_writes (backup_info stanza.now) (first_backup_text cluster.now)))
-        (D.state d.old).view
-        (D.state d.new).view }
-    ensures whole { OnOk result (is_unsynced (D.state d.old).view (backup_info stanza.now) ≡ false
-        → is_unsynced (D.state d.old).view (copy_of (backup_info stanza.now)) ≡ false
-        → Ends (AllOf (member_writes (backup_info stanza.now) (first_backup_text cluster.now))) (D.state d.old).view
-        (D.state d.new).view) }
-    ensures now_part { NowChanges (FirstOf (member_writes (backup_info stanza.now) (first_backup_text cluster.now)))
-        (D.state d.old).view.now (D.state d.new).view.now }
+    ensures crash { SavesPair (new_backup stanza.now cluster.now) (D.state d.old) (D.state d.new) }
+    ensures whole { OnOk result
+        (EndsPair (new_backup stanza.now cluster.now) (D.state d.old) (D.state d.new)) }
+    ensures now_part { SavesPairNow (new_backup stanza.now cluster.now) (D.state d.old) (D.state d.new) }
     ensures now_whole { OnOk result
-        (NowChanges (AllOf (member_writes (backup_info stanza.now) (first_backup_text cluster.now)))
-        (D.state d.old).view.now (D.state d.new).view.now) }
+        (EndsPairNow (new_backup stanza.now cluster.now) (D.state d.old) (D.state d.new)) }
     ensures only { ChangesOnly (IsOfPair (backup_info stanza.now)) (D.state d.old).view (D.state d.new).view }
     ensures frame { CallsProperly (D.state d.old) (D.state d.new) }
-    ensures cause { IsErrOf result SaveFault.Disk → Rises (D.state d.old).faults (D.state d.new).faults }
+    ensures cause { IsErrOf result SaveFault.Disk → DiskFailed (D.state d.old) (D.state d.new) }
 {
     let name = backup_info_name(alloc, stanza)?;
     let value = first_backup(alloc, cluster)?;
@@ -81,22 +70,15 @@ fn save_archive<D: Disk>(
 ) -> Result<(), SaveFault>
     requires first { cluster.now.id ≡ 1 }
     requires is_cluster { IsCluster cluster.now }
-    ensures crash { is_unsynced (D.state d.old).view (archive_info stanza.now) ≡ false
-        → is_unsynced (D.state d.old).view (copy_of (archive_info stanza.now)) ≡ false
-        → Crash (FirstOf (member_writes (archive_info stanza.now) (first_archive_text cluster.now)))
-        (D.state d.old).view (D.state d.new).view }
-    ensures whole { OnOk result (is_unsynced (D.state d.old).view (archive_info stanza.now) ≡ false
-        → is_unsynced (D.state d.old).view (copy_of (archive_info stanza.now)) ≡ false
-        → Ends (AllOf (member_writes (archive_info stanza.now) (first_archive_text cluster.now))) (D.state d.old).view
-        (D.state d.new).view) }
-    ensures now_part { NowChanges (FirstOf (member_writes (archive_info stanza.now) (first_archive_text cluster.now)))
-        (D.state d.old).view.now (D.state d.new).view.now }
+    ensures crash { SavesPair (new_archive stanza.now cluster.now) (D.state d.old) (D.state d.new) }
+    ensures whole { OnOk result
+        (EndsPair (new_archive stanza.now cluster.now) (D.state d.old) (D.state d.new)) }
+    ensures now_part { SavesPairNow (new_archive stanza.now cluster.now) (D.state d.old) (D.state d.new) }
     ensures now_whole { OnOk result
-        (NowChanges (AllOf (member_writes (archive_info stanza.now) (first_archive_text cluster.now)))
-        (D.state d.old).view.now (D.state d.new).view.now) }
+        (EndsPairNow (new_archive stanza.now cluster.now) (D.state d.old) (D.state d.new)) }
     ensures only { ChangesOnly (IsOfPair (archive_info stanza.now)) (D.state d.old).view (D.state d.new).view }
     ensures frame { CallsProperly (D.state d.old) (D.state d.new) }
-    ensures cause { IsErrOf result SaveFault.Disk → Rises (D.state d.old).faults (D.state d.new).faults }
+    ensures cause { IsErrOf result SaveFault.Disk → DiskFailed (D.state d.old) (D.state d.new) }
 {
     let name = archive_info_name(alloc, stanza)?;
     let value = first_archive(alloc, cluster)?;
@@ -113,17 +95,13 @@ pub(crate) fn save_pairs<D: Disk>(
 ) -> Result<(), SaveFault>
     requires first { cluster.now.id ≡ 1 }
     requires is_cluster { IsCluster cluster.now }
-    ensures crash { AreSynced stanza.now (D.state d.old).view
-        → Crash (FirstOf (pair_writes stanza.now cluster.now)) (D.state d.old).view (D.state d.new).view }
-    ensures whole { OnOk result (AreSynced stanza.now (D.state d.old).view
-        → Ends (AllOf (pair_writes stanza.now cluster.now)) (D.state d.old).view (D.state d.new).view) }
-    ensures now_part { NowChanges (FirstOf (pair_writes stanza.now cluster.now)) (D.state d.old).view.now
-        (D.state d.new).view.now }
-    ensures now_whole { OnOk result
-        (NowChanges (AllOf (pair_writes stanza.now cluster.now)) (D.state d.old).view.now (D.state d.new).view.now) }
+    ensures crash { SavesPairs stanza.now cluster.now (D.state d.old) (D.state d.new) }
+    ensures whole { OnOk result (EndsPairs stanza.now cluster.now (D.state d.old) (D.state d.new)) }
+    ensures now_part { SavesPairsNow stanza.now cluster.now (D.state d.old) (D.state d.new) }
+    ensures now_whole { OnOk result (EndsPairsNow stanza.now cluster.now (D.state d.old) (D.state d.new)) }
     ensures only { ChangesOnly (IsOfPairs stanza.now) (D.state d.old).view (D.state d.new).view }
     ensures frame { CallsProperly (D.state d.old) (D.state d.new) }
-    ensures cause { IsErrOf result SaveFault.Disk → Rises (D.state d.old).faults (D.state d.new).faults }
+    ensures cause { IsErrOf result SaveFault.Disk → DiskFailed (D.state d.old) (D.state d.new) }
 {
     save_backup(alloc, d, stanza, cluster)?;
     save_archive(alloc, d, stanza, cluster)?;

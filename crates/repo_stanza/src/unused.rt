@@ -1,16 +1,14 @@
 // Whether a repository without a stanza still holds files of one.
-ghost use Rattle.std.specs.Prelude.{◌≡◌, ◌≤◌, ◌==◌, true, false, [], ◌∷◌, ◌++◌, IfNone, IfOk, IfErr, IfSome, OnOk, position, string_bytes};
+ghost use Rattle.std.specs.Prelude.{◌≡◌, ◌==◌, true, false, IfNone, IfOk, IfErr, IfSome, OnOk, position, string_bytes};
 ghost use Rattle.base_devices.specs.States.{OnlyReads};
 ghost use Rattle.base_devices.specs.Moments.{LeavesNoMore};
-ghost use Rattle.base_devices.specs.Cause.{Rises};
 ghost use Rattle.base_model.specs.InfoFiles.{IsLabel};
-ghost use Rattle.base_model.specs.Names.{archive_folder, backup_folder};
 ghost use Rattle.base_model.specs.Represents.{IsArchiveFile};
 ghost use Rattle.base_model.specs.Text.{Text, ◌⫽◌};
 ghost use Rattle.archive_lookup.specs.Paths.{Lacks};
 ghost use Rattle.repo_stanza.specs.Pairs.{LacksStanza};
-ghost use Rattle.repo_stanza.specs.Unused.{IsInLabel, IsUnused, HasNone, FindsNone, FindsFirst};
-ghost use Rattle.repo_stanza.specs.Causes.{FoundCause, UnusedCause, IfLost};
+ghost use Rattle.repo_stanza.specs.Unused.{IsInLabel, IsUnused, HasNone, FindsNone, ForArchiveOf, ForBackupsOf, IsFirstArchived, IsFirstInLabel};
+ghost use Rattle.repo_stanza.specs.Causes.{FoundFails, UnusedFails, IfLost};
 
 use crate::fault::StanzaFault;
 use archive_lookup::read_path;
@@ -35,20 +33,16 @@ fn first_element(path: &[u8]) -> Option<&[u8]>
 
 // Whether the path is that of an archive file, after the stanza's folder of the archive with its slash.
 fn is_archived(path: &[u8], prefix: &[u8]) -> bool
-    ensures archived { result ≡ true → (stanza : Text) → prefix.now ≡ archive_folder stanza ++ 47 ∷ []
-        → IsArchiveFile stanza path.now }
-    ensures other { result ≡ false → (stanza : Text) → prefix.now ≡ archive_folder stanza ++ 47 ∷ []
-        → ¬ IsArchiveFile stanza path.now }
+    ensures archived { result ≡ true → ForArchiveOf prefix.now (λ stanza. IsArchiveFile stanza path.now) }
+    ensures other { result ≡ false → ForArchiveOf prefix.now (λ stanza. ¬ IsArchiveFile stanza path.now) }
 {
     read_path(path, prefix).is_some()
 }
 
 // Whether the path lies in the folder of a label, after the stanza's folder of the backups with its slash.
 fn is_in_label(path: &[u8], prefix: &[u8]) -> bool
-    ensures within { result ≡ true → (stanza : Text) → prefix.now ≡ backup_folder stanza ++ 47 ∷ []
-        → IsInLabel stanza path.now }
-    ensures other { result ≡ false → (stanza : Text) → prefix.now ≡ backup_folder stanza ++ 47 ∷ []
-        → ¬ IsInLabel stanza path.now }
+    ensures within { result ≡ true → ForBackupsOf prefix.now (λ stanza. IsInLabel stanza path.now) }
+    ensures other { result ≡ false → ForBackupsOf prefix.now (λ stanza. ¬ IsInLabel stanza path.now) }
 {
     let Some(below) = path.strip_prefix(prefix) else {
         return false;
@@ -61,10 +55,8 @@ fn is_in_label(path: &[u8], prefix: &[u8]) -> bool
 
 // The first of the names that is an archive file's.
 fn first_archived<'a>(found: &'a [Found], prefix: &str) -> Option<&'a Found>
-    ensures some { IfSome result (λ x. (stanza : Text) → prefix.now ≡ archive_folder stanza ++ 47 ∷ []
-        → FindsFirst (IsArchiveFile stanza) found.now x.now) }
-    ensures none { IfNone result ((stanza : Text) → prefix.now ≡ archive_folder stanza ++ 47 ∷ []
-        → FindsNone (IsArchiveFile stanza) found.now) }
+    ensures some { IfSome result (λ x. IsFirstArchived prefix.now found.now x.now) }
+    ensures none { IfNone result (ForArchiveOf prefix.now (λ stanza. FindsNone (IsArchiveFile stanza) found.now)) }
 {
     for each in found {
         if is_archived(each.name.as_bytes(), prefix.as_bytes()) {
@@ -76,10 +68,8 @@ fn first_archived<'a>(found: &'a [Found], prefix: &str) -> Option<&'a Found>
 
 // The first of the names that lies in the folder of a label.
 fn first_in_label<'a>(found: &'a [Found], prefix: &str) -> Option<&'a Found>
-    ensures some { IfSome result (λ x. (stanza : Text) → prefix.now ≡ backup_folder stanza ++ 47 ∷ []
-        → FindsFirst (IsInLabel stanza) found.now x.now) }
-    ensures none { IfNone result ((stanza : Text) → prefix.now ≡ backup_folder stanza ++ 47 ∷ []
-        → FindsNone (IsInLabel stanza) found.now) }
+    ensures some { IfSome result (λ x. IsFirstInLabel prefix.now found.now x.now) }
+    ensures none { IfNone result (ForBackupsOf prefix.now (λ stanza. FindsNone (IsInLabel stanza) found.now)) }
 {
     for each in found {
         if is_in_label(each.name.as_bytes(), prefix.as_bytes()) {
@@ -93,8 +83,7 @@ fn first_in_label<'a>(found: &'a [Found], prefix: &str) -> Option<&'a Found>
 fn check_archive<D: Disk>(alloc: Global, d: &mut D, stanza: &str) -> Result<(), StanzaFault>
     ensures none { OnOk result (IfSome (D.state d.old).view.now (HasNone (IsArchiveFile stanza.now))) }
     ensures looks { OnlyReads (D.state d.old) (D.state d.new) }
-    ensures cause { IfErr result (FoundCause (IsArchiveFile stanza.now) (D.state d.old).view.now
-        (Rises (D.state d.old).faults (D.state d.new).faults)) }
+    ensures cause { IfErr result (FoundFails (IsArchiveFile stanza.now) (D.state d.old) (D.state d.new)) }
 {
     let folder = format!(in alloc; "archive/{stanza}")?;
     let prefix = format!(in alloc; "{folder}/")?;
@@ -112,8 +101,7 @@ fn check_archive<D: Disk>(alloc: Global, d: &mut D, stanza: &str) -> Result<(), 
 fn check_backups<D: Disk>(alloc: Global, d: &mut D, stanza: &str) -> Result<(), StanzaFault>
     ensures none { OnOk result (IfSome (D.state d.old).view.now (HasNone (IsInLabel stanza.now))) }
     ensures looks { OnlyReads (D.state d.old) (D.state d.new) }
-    ensures cause { IfErr result (FoundCause (IsInLabel stanza.now) (D.state d.old).view.now
-        (Rises (D.state d.old).faults (D.state d.new).faults)) }
+    ensures cause { IfErr result (FoundFails (IsInLabel stanza.now) (D.state d.old) (D.state d.new)) }
 {
     let folder = format!(in alloc; "backup/{stanza}")?;
     let prefix = format!(in alloc; "{folder}/")?;
@@ -137,8 +125,7 @@ pub(crate) fn check_unused<D: Disk>(
     requires { IfSome (D.state d.old).view.now (LacksStanza stanza.now) }
     ensures unused { OnOk result (IfSome (D.state d.old).view.now (IsUnused stanza.now)) }
     ensures looks { OnlyReads (D.state d.old) (D.state d.new) }
-    ensures cause { IfErr result (UnusedCause stanza.now (D.state d.old).view.now
-        (Rises (D.state d.old).faults (D.state d.new).faults)) }
+    ensures cause { IfErr result (UnusedFails stanza.now (D.state d.old) (D.state d.new)) }
     ensures label { IfErr result (λ e. IfLost e IsLabel) }
 {
     check_archive(alloc, d, stanza)?;

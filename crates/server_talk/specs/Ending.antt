@@ -10,3 +10,8 @@ pub record StartsAt (size : SegSize) (from : Lsn) (segment : Segment) (w : WalPa
   pub size_is : w.size ≡ size
   pub from_is : w.from ≡ from
   pub segment_is : w.span.start ≡ segment
+
+-- the part of the log between these ends
+abbrev pub wal_of : SegSize → Segment → Segment → Lsn → Lsn → WalPart
+wal_of size start stop from to =
+    record { span = record { start = start; stop = stop }; from = from; to = to; size = size }

@@ -12,3 +12,5 @@ pub mod System
 pub mod Telling
 pub mod Ending
 pub mod Causes
+pub mod Calls
+pub mod BackupCalls

@@ -10,6 +10,9 @@ pub record Message : Type 0 where
   pub kind : ℕ
   pub body : List ℕ
 
+abbrev pub of_kind : ℕ → List ℕ → Message
+of_kind kind body = record { kind = kind; body = body }
+
 -- the kind that is due: R and Z at the start, then T, D, C and Z for each query
 abbrev pub due : Phase → ℕ
 due Granted = 82

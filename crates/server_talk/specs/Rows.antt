@@ -45,6 +45,10 @@ pub record IsStartRow (t : Talk) (s : Started) : Type 0 where
   pub position : IsLsn lsn s.lsn.0
   pub named : IsSegment s.segment
 
+-- the two texts state none
+abbrev pub StatesNoPlace : Text → Text → Type 0
+StatesNoPlace lsn segment = (at : ℕ) (s : Segment) → IsLsn lsn at → IsSegment s → segment ≢ segment_text s
+
 pub data StartOutcome (t : Talk) : Result Started Fault → Type 0 where
   started : (s : Started) → IsStartRow t s → StartOutcome t (Ok s)
   unstarted : ((s : Started) → ¬ IsStartRow t s) → StartOutcome t (Err (form t.row_end))
@@ -54,6 +58,10 @@ pub record Stop : Type 0 where
   pub segment : Segment
   pub label_file : Text
   pub map_file : Text
+
+-- a row of three texts, and of one more that may be NULL
+abbrev pub four_cells : Text → Text → Text → Option Text → List (Option Text)
+four_cells a b c d = Some a ∷ Some b ∷ Some c ∷ d ∷ []
 
 -- a position, the name of its segment, and the contents of two files, of which the second may be NULL
 pub record IsStopRow (t : Talk) (s : Stop) : Type 0 where

@@ -1,5 +1,5 @@
 -- What the code's values represent.
-use Rattle.std.specs.Prelude.{List, map, Option, option_map, string_bytes, String}
+use Rattle.std.specs.Prelude.{ℕ, ◌+◌, List, length, map, Option, option_map, string_bytes, String}
 use Rattle.std.specs.declared.alloc.Global.{Global}
 use Rattle.base_model.specs.Text.{Text}
 use Rattle.server_talk.specs.declared.session.cells.Left as code_left
@@ -13,11 +13,18 @@ use Rattle.server_talk.specs.Message.{Message}
 use Rattle.server_talk.specs.Talk.{Talk, Taken}
 
 -- what the messages and the talk of the code represent
+abbrev pub cell_view : Option (String Global) → Option Text
+cell_view c = option_map string_bytes c
+
 abbrev pub cells_view : List (Option (String Global)) → List (Option Text)
 cells_view cs = map (λ c. option_map string_bytes c) cs
 
 abbrev pub left_view : code_left.Left → Left
 left_view l = record { cells = cells_view l.cells.items; at = l.at; rest = l.rest.now }
+
+-- the place where what is left ends
+abbrev pub end_place : code_left.Left → ℕ
+end_place l = l.at + length l.rest.now
 
 abbrev pub message_view : code_message.Message → Message
 message_view m = record { kind = m.kind; body = m.body.items }

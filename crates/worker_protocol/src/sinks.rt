@@ -1,9 +1,8 @@
 //! The trait of what takes the bytes that workers read.
 //!
 //! No function. `PartSink` says what its three calls leave: the bytes of an item in order, each part but the last of
-//! the
-//! full size; its end; a job begun anew. A relation of the keeper's own holds over each call. Each call asks that its
-//! device has what it counts on, and leaves it so at Ok.
+//! the full size; its end; a job begun anew. A relation of the keeper's own holds over each call. Each call asks that
+//! its device has what it counts on, and leaves it so at Ok.
 
 ghost use Rattle.std.specs.Prelude.{◌<◌, length, OnOk};
 ghost use Rattle.worker_protocol.specs.PartSinkState.{PartSinkState, KeepLeaves, Adds, Ends, Clears, IsNext, HasRoom};

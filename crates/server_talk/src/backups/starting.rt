@@ -1,12 +1,9 @@
 // Starts a backup.
-ghost use Rattle.std.specs.Prelude.{◌≡◌, ◌≤◌, ◌<◌, ◌+◌, ◌^◌, ◌++◌, length, OnOk, IfOk, IfErr, option_map};
-ghost use Rattle.base_devices.specs.Cause.{Rises};
+ghost use Rattle.std.specs.Prelude.{◌≡◌, ◌≤◌, ◌<◌, ◌+◌, ◌^◌, length, OnOk, IfOk, IfErr};
 ghost use Rattle.base_model.specs.ManifestText.{IsSegSize};
-ghost use Rattle.server_talk.specs.Rows.{system_query, start_query};
-ghost use Rattle.server_talk.specs.Sends.{query_of};
-ghost use Rattle.server_talk.specs.Views.{session_view};
-ghost use Rattle.server_talk.specs.Telling.{starting, Begins, ShowsOf, ShowsBegun};
-ghost use Rattle.server_talk.specs.Causes.{TalkCause, ShowsFault, StartCause, Closes};
+ghost use Rattle.server_talk.specs.Calls.{SendsAll};
+ghost use Rattle.server_talk.specs.Telling.{starting, ShowsBegun};
+ghost use Rattle.server_talk.specs.BackupCalls.{beginning, ShowsStart, RefusesBeginning, RefusesStart, TalkIsClosed};
 
 use crate::backups::begun::Begun;
 use crate::backups::fault::OnlineFault;
@@ -24,15 +21,12 @@ fn begin<V: ServerConnection>(
     system: u64,
     fast: bool,
 ) -> Result<(SegSize, Started), ServerFault>
-    ensures known { IfOk result (λ p. ShowsOf (V.state connection.old).pending (V.state connection.new).pending
-        (λ bytes. Begins system (session_view session.old, bytes)) (record { size = p.0.0; at = p.1 })
-        (session_view session.new)) }
+    ensures known { IfOk result
+        (ShowsStart V.state system session.old session.new connection.old connection.new) }
     ensures sized { IfOk result (λ p. IsSegSize p.0.0) }
-    ensures sent { OnOk result ((V.state connection.new).sent ≡ option_map
-        (λ sent. sent ++ (query_of system_query ++ query_of (start_query fast))) (V.state connection.old).sent) }
+    ensures sent { OnOk result (SendsAll V.state (beginning fast) connection.old connection.new) }
     ensures place { (V.state connection.new).place ≡ (V.state connection.old).place }
-    ensures cause { IfErr result (TalkCause (Rises (V.state connection.old).faults (V.state connection.new).faults)
-        (ShowsFault (V.state connection.old).pending (λ bytes. Begins system (session_view session.old, bytes)))) }
+    ensures cause { IfErr result (RefusesBeginning V.state system session.old connection.old connection.new) }
     ensures later { (V.state connection.old).faults ≤ (V.state connection.new).faults }
 {
     let size = match check_system(alloc, connection, session, system) {
@@ -59,13 +53,11 @@ pub fn start<V: ServerConnection>(
     requires { length user.now + length database.now + 97 < 2 ^ 32 }
     ensures known { IfOk result (ShowsBegun system (V.state connection.old).pending (V.state connection.new).pending) }
     ensures sized { IfOk result (λ b. IsSegSize b.size.0) }
-    ensures sent { OnOk result ((V.state connection.new).sent ≡ option_map
-        (λ sent. sent ++ starting user.now database.now fast) (V.state connection.old).sent) }
+    ensures sent { OnOk result
+        (SendsAll V.state (starting user.now database.now fast) connection.old connection.new) }
     ensures place { OnOk result ((V.state connection.new).place ≡ path.now) }
-    ensures cause { IfErr result (StartCause system (V.state connection.old).pending
-        (Rises (V.state connection.old).faults (V.state connection.new).faults)) }
-    ensures closed { IfErr result (Closes (Rises (V.state connection.old).faults (V.state connection.new).faults)
-        (V.state connection.new).sent) }
+    ensures cause { IfErr result (RefusesStart V.state system connection.old connection.new) }
+    ensures closed { IfErr result (TalkIsClosed V.state connection.old connection.new) }
     ensures later { (V.state connection.old).faults ≤ (V.state connection.new).faults }
 {
     let mut session = match open(alloc, connection, path, user, database) {

@@ -1,11 +1,12 @@
 // Stops a backup.
-ghost use Rattle.std.specs.Prelude.{◌≡◌, ◌≤◌, ◌++◌, OnOk, IfOk, IfErr, option_map};
-ghost use Rattle.base_devices.specs.Cause.{Rises};
+ghost use Rattle.std.specs.Prelude.{◌≡◌, ◌≤◌, OnOk, IfOk, IfErr};
 ghost use Rattle.base_model.specs.ManifestText.{IsSegSize, IsWalPart};
 ghost use Rattle.server_talk.specs.Views.{stopped_view};
 ghost use Rattle.server_talk.specs.Ending.{StartsAt};
-ghost use Rattle.server_talk.specs.Telling.{stopping, finished_stop, ShowsStop};
-ghost use Rattle.server_talk.specs.Causes.{Misses, StopCause, Closes};
+ghost use Rattle.server_talk.specs.Calls.{SendsAll};
+ghost use Rattle.server_talk.specs.Telling.{stopping, finished_stop};
+ghost use Rattle.server_talk.specs.Causes.{Misses};
+ghost use Rattle.server_talk.specs.BackupCalls.{ShowsFinished, RefusesStop, TalkIsClosed};
 
 use crate::backups::begun::{Begun, Finished};
 use crate::backups::fault::OnlineFault;
@@ -53,15 +54,11 @@ pub fn stop<V: ServerConnection>(
     // It starts where the backup did, and keeps the rules that a manifest has for it.
     ensures fits { IfOk result (λ s. IsWalPart s.wal) }
     ensures begins { IfOk result (λ s. StartsAt backup.size backup.from backup.segment s.wal) }
-    ensures known { IfOk result (λ s. ShowsStop backup (V.state connection.old).pending (V.state connection.new).pending
-        (finished_stop s)) }
-    ensures sent { OnOk result ((V.state connection.new).sent ≡ option_map (λ sent. sent ++ stopping)
-        (V.state connection.old).sent) }
+    ensures known { IfOk result (ShowsFinished V.state backup connection.old connection.new) }
+    ensures sent { OnOk result (SendsAll V.state stopping connection.old connection.new) }
     ensures place { (V.state connection.new).place ≡ (V.state connection.old).place }
-    ensures cause { IfErr result (StopCause backup (V.state connection.old).pending (V.state connection.new).pending
-        (Rises (V.state connection.old).faults (V.state connection.new).faults)) }
-    ensures closed { IfErr result (Closes (Rises (V.state connection.old).faults (V.state connection.new).faults)
-        (V.state connection.new).sent) }
+    ensures cause { IfErr result (RefusesStop V.state backup connection.old connection.new) }
+    ensures closed { IfErr result (TalkIsClosed V.state connection.old connection.new) }
     ensures later { (V.state connection.old).faults ≤ (V.state connection.new).faults }
 {
     let Begun {

@@ -1,7 +1,7 @@
 // Ends a talk before its backup has ended.
 ghost use Rattle.std.specs.Prelude.{◌≡◌, ◌≢◌, ◌≤◌, ◌⊎◌, OnOk};
 ghost use Rattle.server_talk.specs.declared.session.fault.ServerFault.TheVariants.{NoMemory as WithoutMemory};
-ghost use Rattle.server_talk.specs.Reads.{Sends};
+ghost use Rattle.server_talk.specs.Calls.{SendsOrFails};
 ghost use Rattle.server_talk.specs.Sends.{closing};
 ghost use Rattle.server_talk.specs.declared.backups.fault.OnlineFault.TheVariants.{Server};
 
@@ -13,9 +13,7 @@ use base_text::NoMemory;
 
 // Ends a session. That this failed isn't reported, except when out of memory.
 fn leave<V: ServerConnection>(connection: &mut V, session: Session) -> Result<(), NoMemory>
-    ensures sent { OnOk result (Sends (V.state connection.old).faults (V.state connection.new).faults (V.state
-        connection.old).sent
-        (V.state connection.new).sent closing) }
+    ensures sent { OnOk result (SendsOrFails V.state closing connection.old connection.new) }
     ensures pending { (V.state connection.new).pending ≡ (V.state connection.old).pending }
     ensures place { (V.state connection.new).place ≡ (V.state connection.old).place }
     ensures later { (V.state connection.old).faults ≤ (V.state connection.new).faults }
@@ -30,9 +28,7 @@ fn leave<V: ServerConnection>(connection: &mut V, session: Session) -> Result<()
 /// Ends the session of a backup that is given up, and the server then drops the backup. That this failed isn't
 /// reported, except when out of memory.
 pub fn abandon<V: ServerConnection>(connection: &mut V, backup: Begun) -> Result<(), NoMemory>
-    ensures sent { OnOk result (Sends (V.state connection.old).faults (V.state connection.new).faults (V.state
-        connection.old).sent
-        (V.state connection.new).sent closing) }
+    ensures sent { OnOk result (SendsOrFails V.state closing connection.old connection.new) }
     ensures pending { (V.state connection.new).pending ≡ (V.state connection.old).pending }
     ensures place { (V.state connection.new).place ≡ (V.state connection.old).place }
     ensures later { (V.state connection.old).faults ≤ (V.state connection.new).faults }
@@ -47,8 +43,7 @@ pub(crate) fn part<V: ServerConnection>(
     fault: OnlineFault,
 ) -> OnlineFault
     ensures fault { (result ≡ fault) ⊎ (result ≡ Server WithoutMemory) }
-    ensures sent { result ≢ Server WithoutMemory → Sends (V.state connection.old).faults (V.state connection.new).faults
-        (V.state connection.old).sent (V.state connection.new).sent closing }
+    ensures sent { result ≢ Server WithoutMemory → SendsOrFails V.state closing connection.old connection.new }
     ensures pending { (V.state connection.new).pending ≡ (V.state connection.old).pending }
     ensures place { (V.state connection.new).place ≡ (V.state connection.old).place }
     ensures later { (V.state connection.old).faults ≤ (V.state connection.new).faults }

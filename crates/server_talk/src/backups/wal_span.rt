@@ -2,6 +2,7 @@
 ghost use Rattle.std.specs.Prelude.{◌≡◌, IfSome, IfNone};
 ghost use Rattle.base_model.specs.ManifestText.{IsSegSize, IsWalPart};
 ghost use Rattle.repo_names.specs.Spans.{IsSpanOf};
+ghost use Rattle.server_talk.specs.Ending.{wal_of};
 
 use base_model::{Span, WalPart};
 use repo_names::{Lsn, SegSize, Segment, is_span};
@@ -16,8 +17,7 @@ pub(crate) fn wal_part(
 ) -> Option<WalPart>
     requires { IsSegSize size.0 }
     ensures part { IfSome result IsWalPart }
-    ensures value { IfSome result
-        (λ w. w ≡ record { span = record { start = start; stop = stop }; from = from; to = to; size = size }) }
+    ensures value { IfSome result (λ w. w ≡ wal_of size start stop from to) }
     ensures none { IfNone result (¬ IsSpanOf size.0 (record { start = start; stop = stop })) }
 {
     let span = Span { start, stop };

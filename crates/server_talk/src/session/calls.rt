@@ -1,11 +1,10 @@
 // What a session's calls send and receive.
-ghost use Rattle.std.specs.Prelude.{◌≡◌, ◌<◌, ◌+◌, ◌^◌, ◌++◌, length, OnOk, OnErr, IfErr, option_map};
+ghost use Rattle.std.specs.Prelude.{◌≡◌, ◌<◌, ◌+◌, ◌^◌, length, OnOk, OnErr, IfErr};
 ghost use Rattle.server_talk.specs.declared.session.phase.Phase.TheVariants.{Heading};
 ghost use Rattle.server_talk.specs.Sends.{startup_of, query_of, closing};
-ghost use Rattle.server_talk.specs.Session.{start_at, row_at};
-ghost use Rattle.server_talk.specs.Talk.{talk_at};
-ghost use Rattle.server_talk.specs.Views.{session_view, cells_view, talk_view};
-ghost use Rattle.server_talk.specs.Reads.{IsOutside, Reads, HasCause, Sends};
+ghost use Rattle.server_talk.specs.Views.{session_view};
+ghost use Rattle.server_talk.specs.Reads.{IsOutside, HasCause};
+ghost use Rattle.server_talk.specs.Calls.{SendsAll, IsParted, ReadsTalk, ReadsStart, ReadsRow};
 
 use crate::session::fault::ServerFault;
 use crate::session::phase::Phase;
@@ -23,8 +22,7 @@ fn receive_out<V: ServerConnection>(
     columns: u16,
     session: Session,
 ) -> Result<Talk, ServerFault>
-    ensures read { Reads talk_view result (V.state connection.old).pending (V.state connection.new).pending
-        (talk_at phase columns (session_view session)) }
+    ensures read { ReadsTalk V.state phase columns session result connection.old connection.new }
     ensures sent { (V.state connection.new).sent ≡ (V.state connection.old).sent }
     ensures place { (V.state connection.new).place ≡ (V.state connection.old).place }
     ensures cause { HasCause (V.state connection.old).faults (V.state connection.new).faults result }
@@ -48,15 +46,11 @@ pub fn open<V: ServerConnection>(
     database: &str,
 ) -> Result<Session, ServerFault>
     requires { length user.now + length database.now + 97 < 2 ^ 32 }
-    ensures read { Reads session_view result (V.state connection.old).pending (V.state connection.new).pending start_at }
+    ensures read { ReadsStart V.state result connection.old connection.new }
     ensures sent { OnOk result
-        ((V.state connection.new).sent ≡ option_map (λ s. s ++ startup_of user.now database.now) (V.state
-        connection.old).sent) }
+        (SendsAll V.state (startup_of user.now database.now) connection.old connection.new) }
     ensures parted { IfErr result
-        (λ e. ¬ IsOutside e → Sends (V.state connection.old).faults (V.state connection.new).faults (V.state
-        connection.old).sent
-        (V.state connection.new).sent
-        (startup_of user.now database.now ++ closing)) }
+        (IsParted V.state (startup_of user.now database.now) connection.old connection.new) }
     ensures place { OnOk result ((V.state connection.new).place ≡ path.now) }
     ensures cause { HasCause (V.state connection.old).faults (V.state connection.new).faults result }
 {
@@ -78,10 +72,8 @@ pub(crate) fn ask<V: ServerConnection>(
     columns: u16,
 ) -> Result<Talk, ServerFault>
     requires { length text.now + 5 < 2 ^ 32 }
-    ensures read { Reads talk_view result (V.state connection.old).pending (V.state connection.new).pending
-        (talk_at Heading columns (session_view session.now)) }
-    ensures sent { OnOk result ((V.state connection.new).sent ≡ option_map (λ s. s ++ query_of text.now)
-        (V.state connection.old).sent) }
+    ensures read { ReadsTalk V.state Heading columns session.now result connection.old connection.new }
+    ensures sent { OnOk result (SendsAll V.state (query_of text.now) connection.old connection.new) }
     ensures place { (V.state connection.new).place ≡ (V.state connection.old).place }
     ensures cause { HasCause (V.state connection.old).faults (V.state connection.new).faults result }
 {
@@ -100,11 +92,9 @@ pub fn ask_row<V: ServerConnection>(
     columns: u16,
 ) -> Result<Vec<Option<String>>, ServerFault>
     requires { length text.now + 5 < 2 ^ 32 }
-    ensures read { Reads (λ v. record { cells = cells_view v.items; taken = session_view session.new }) result
-        (V.state connection.old).pending (V.state connection.new).pending (row_at columns (session_view session.old)) }
+    ensures read { ReadsRow V.state columns session.old session.new result connection.old connection.new }
     ensures kept { OnErr result (session_view session.new ≡ session_view session.old) }
-    ensures sent { OnOk result ((V.state connection.new).sent ≡ option_map (λ s. s ++ query_of text.now)
-        (V.state connection.old).sent) }
+    ensures sent { OnOk result (SendsAll V.state (query_of text.now) connection.old connection.new) }
     ensures place { (V.state connection.new).place ≡ (V.state connection.old).place }
     ensures cause { HasCause (V.state connection.old).faults (V.state connection.new).faults result }
 {
@@ -119,8 +109,7 @@ pub fn ask_row<V: ServerConnection>(
 
 /// Ends a session.
 pub fn close<V: ServerConnection>(connection: &mut V, session: Session) -> Result<(), ServerFault>
-    ensures sent { OnOk result ((V.state connection.new).sent ≡ option_map (λ s. s ++ closing) (V.state
-        connection.old).sent) }
+    ensures sent { OnOk result (SendsAll V.state closing connection.old connection.new) }
     ensures pending { (V.state connection.new).pending ≡ (V.state connection.old).pending }
     ensures place { (V.state connection.new).place ≡ (V.state connection.old).place }
     ensures outside { IfErr result IsOutside }

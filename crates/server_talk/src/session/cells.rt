@@ -2,7 +2,7 @@
 ghost use Rattle.std.specs.Prelude.{◌≢◌, ◌≤◌, ◌<◌, ◌+◌, ◌^◌, length, IfOk, IfErr};
 ghost use Rattle.server_talk.specs.declared.session.fault.ServerFault.TheVariants.{ServerConnection};
 ghost use Rattle.server_talk.specs.Cells.{next_cell, text_cell, cells};
-ghost use Rattle.server_talk.specs.Views.{left_view, cells_view};
+ghost use Rattle.server_talk.specs.Views.{left_view, end_place, cells_view};
 ghost use Rattle.server_talk.specs.Reads.{Gives};
 
 use crate::session::fault::ServerFault;
@@ -27,8 +27,7 @@ fn text_cell<'a>(
     rest: &'a [u8],
 ) -> Result<Left<'a>, ServerFault>
     requires { left.at + 4 + length text.now < 2 ^ 64 }
-    ensures place { IfOk result
-        (λ l. l.at + length l.rest.now ≤ left.entry.at + 4 + length text.now + length rest.now) }
+    ensures place { IfOk result (λ l. end_place l ≤ left.entry.at + 4 + length text.now + length rest.now) }
     ensures value { Gives left_view result (text_cell (left_view left.entry) (length text.now) text.now rest.now) }
     ensures cause { IfErr result (λ e. e ≢ ServerConnection) }
 {
@@ -49,7 +48,7 @@ fn next_cell<'a>(alloc: Global, mut left: Left<'a>) -> Result<Left<'a>, ServerFa
     requires { left.at + 4 + length left.rest.now < 2 ^ 64 }
     ensures value { Gives left_view result (next_cell (left_view left.entry)) }
     ensures cause { IfErr result (λ e. e ≢ ServerConnection) }
-    ensures place { IfOk result (λ l. l.at + length l.rest.now ≤ left.entry.at + length left.entry.rest.now) }
+    ensures place { IfOk result (λ l. end_place l ≤ end_place left.entry) }
 {
     let (prefix, rest) = match left.rest.split_at_checked(4) {
         Some(parts) => parts,

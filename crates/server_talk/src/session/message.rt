@@ -1,9 +1,10 @@
 // A server's messages.
 ghost use Rattle.std.specs.Prelude.{◌≡◌, ◌≢◌, ◌≤◌, ◌<◌, ◌+◌, ◌^◌, true, length, IfOk, IfErr};
 ghost use Rattle.server_talk.specs.declared.session.fault.ServerFault.TheVariants.{ServerConnection};
-ghost use Rattle.server_talk.specs.Message.{least, is_length, body_count, header_of, body_of, message_at, message_of};
+ghost use Rattle.server_talk.specs.Message.{least, is_length, body_count, header_of, body_of};
 ghost use Rattle.server_talk.specs.Views.{message_view};
-ghost use Rattle.server_talk.specs.Reads.{Gives, Reads, HasCause};
+ghost use Rattle.server_talk.specs.Reads.{Gives, HasCause};
+ghost use Rattle.server_talk.specs.Calls.{ReadsBody, ReadsMessage};
 
 use crate::session::fault::ServerFault;
 use crate::session::phase::{Phase, is_allowed};
@@ -107,8 +108,7 @@ fn message_of<V: ServerConnection>(
     count: usize,
 ) -> Result<Message, ServerFault>
     requires place { at + 5 + count < 2 ^ 64 }
-    ensures read { Reads message_view result (V.state connection.old).pending (V.state connection.new).pending
-        (message_of at (kind, count)) }
+    ensures read { ReadsBody V.state at kind count result connection.old connection.new }
     ensures sent { (V.state connection.new).sent ≡ (V.state connection.old).sent }
     ensures place { (V.state connection.new).place ≡ (V.state connection.old).place }
     ensures cause { HasCause (V.state connection.old).faults (V.state connection.new).faults result }
@@ -126,8 +126,7 @@ pub(crate) fn message_at<V: ServerConnection>(
     at: u64,
 ) -> Result<Message, ServerFault>
     requires { at + 16777221 < 2 ^ 64 }
-    ensures read { Reads message_view result (V.state connection.old).pending (V.state connection.new).pending
-        (message_at phase at) }
+    ensures read { ReadsMessage V.state phase at result connection.old connection.new }
     ensures sent { (V.state connection.new).sent ≡ (V.state connection.old).sent }
     ensures place { (V.state connection.new).place ≡ (V.state connection.old).place }
     ensures cause { HasCause (V.state connection.old).faults (V.state connection.new).faults result }

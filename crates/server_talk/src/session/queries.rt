@@ -1,13 +1,12 @@
 // The queries of a backup.
-ghost use Rattle.std.specs.Prelude.{◌≡◌, ◌≢◌, ◌++◌, ◌<◌, length, OnOk, OnErr, IfOk, IfErr, option_map};
+ghost use Rattle.std.specs.Prelude.{◌≡◌, ◌≢◌, ◌<◌, length, OnOk, OnErr, IfOk, IfErr};
 ghost use Rattle.base_model.specs.ManifestText.{IsSegSize};
-ghost use Rattle.server_talk.specs.declared.session.phase.Phase.TheVariants.{Heading};
 ghost use Rattle.server_talk.specs.declared.session.fault.ServerFault.TheVariants as faults;
-ghost use Rattle.server_talk.specs.Rows.{Known, Answers, SystemOutcome, StartOutcome, StopOutcome, system_query, start_query, stop_query};
+ghost use Rattle.server_talk.specs.Rows.{Known, SystemOutcome, StartOutcome, StopOutcome, system_query, start_query, stop_query};
 ghost use Rattle.server_talk.specs.Sends.{query_of};
-ghost use Rattle.server_talk.specs.Talk.{talk_at};
 ghost use Rattle.server_talk.specs.Views.{session_view, talk_view, stopped_view};
 ghost use Rattle.server_talk.specs.Reads.{HasCause};
+ghost use Rattle.server_talk.specs.Calls.{SendsAll, GivesSystem, GivesStart, GivesStop};
 
 use crate::session::calls::ask;
 use crate::session::fault::ServerFault;
@@ -42,13 +41,10 @@ pub fn check_system<V: ServerConnection>(
     session: &mut Session,
     system: u64,
 ) -> Result<SegSize, ServerFault>
-    ensures read { Answers (λ z. z.0) result (session_view session.new) (V.state connection.old).pending
-        (V.state connection.new).pending
-        (talk_at Heading 2 (session_view session.old)) (SystemOutcome system) }
+    ensures read { GivesSystem V.state system session.old session.new result connection.old connection.new }
     ensures sized { IfOk result (λ z. IsSegSize z.0) }
     ensures kept { OnErr result (session_view session.new ≡ session_view session.old) }
-    ensures sent { OnOk result ((V.state connection.new).sent ≡ option_map (λ s. s ++ query_of system_query)
-        (V.state connection.old).sent) }
+    ensures sent { OnOk result (SendsAll V.state (query_of system_query) connection.old connection.new) }
     ensures place { (V.state connection.new).place ≡ (V.state connection.old).place }
     ensures cause { HasCause (V.state connection.old).faults (V.state connection.new).faults result }
 {
@@ -84,13 +80,9 @@ pub fn start_backup<V: ServerConnection>(
     session: &mut Session,
     fast: bool,
 ) -> Result<Started, ServerFault>
-    ensures read { Answers (λ s. s) result (session_view session.new) (V.state connection.old).pending
-        (V.state connection.new).pending
-        (talk_at Heading 2 (session_view session.old)) StartOutcome }
+    ensures read { GivesStart V.state session.old session.new result connection.old connection.new }
     ensures kept { OnErr result (session_view session.new ≡ session_view session.old) }
-    ensures sent { OnOk result
-        ((V.state connection.new).sent ≡ option_map (λ s. s ++ query_of (start_query fast)) (V.state
-        connection.old).sent) }
+    ensures sent { OnOk result (SendsAll V.state (query_of (start_query fast)) connection.old connection.new) }
     ensures place { (V.state connection.new).place ≡ (V.state connection.old).place }
     ensures cause { HasCause (V.state connection.old).faults (V.state connection.new).faults result }
 {
@@ -135,12 +127,9 @@ pub fn stop_backup<V: ServerConnection>(
     connection: &mut V,
     session: &mut Session,
 ) -> Result<Stopped, ServerFault>
-    ensures read { Answers stopped_view result (session_view session.new) (V.state connection.old).pending
-        (V.state connection.new).pending
-        (talk_at Heading 4 (session_view session.old)) StopOutcome }
+    ensures read { GivesStop V.state session.old session.new result connection.old connection.new }
     ensures kept { OnErr result (session_view session.new ≡ session_view session.old) }
-    ensures sent { OnOk result ((V.state connection.new).sent ≡ option_map (λ s. s ++ query_of stop_query)
-        (V.state connection.old).sent) }
+    ensures sent { OnOk result (SendsAll V.state (query_of stop_query) connection.old connection.new) }
     ensures place { (V.state connection.new).place ≡ (V.state connection.old).place }
     ensures cause { HasCause (V.state connection.old).faults (V.state connection.new).faults result }
 {

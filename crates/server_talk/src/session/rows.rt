@@ -1,5 +1,5 @@
 // Reads what rows state.
-ghost use Rattle.std.specs.Prelude.{◌≡◌, ◌≢◌, ◌<◌, ◌^◌, ◌∷◌, [], ℕ, Some, IfSome, IfNone, IfOk, decimal, Option, option_map, unwrap_or, string_bytes};
+ghost use Rattle.std.specs.Prelude.{◌≡◌, ◌≢◌, ◌<◌, ◌^◌, ◌∷◌, [], ℕ, Some, IfSome, IfNone, IfOk, decimal, Option, unwrap_or};
 ghost use Rattle.base_model.specs.declared.wal.Segment.{Segment};
 ghost use Rattle.base_model.specs.InfoFiles.{IsSegment};
 ghost use Rattle.base_model.specs.ManifestText.{IsSegSize};
@@ -7,8 +7,8 @@ ghost use Rattle.base_model.specs.Names.{segment_text};
 ghost use Rattle.base_model.specs.Text.{Text};
 ghost use Rattle.repo_names.specs.Lsn.{IsLsn};
 ghost use Rattle.server_talk.specs.declared.session.known.Started.{Started};
-ghost use Rattle.server_talk.specs.Rows.{IsSystemRow, IsStartRow, IsStopRow, Stop};
-ghost use Rattle.server_talk.specs.Views.{cells_view, talk_view, stopped_view};
+ghost use Rattle.server_talk.specs.Rows.{IsSystemRow, IsStartRow, IsStopRow, StatesNoPlace, Stop, four_cells};
+ghost use Rattle.server_talk.specs.Views.{cell_view, cells_view, talk_view, stopped_view};
 
 use crate::session::known::{Started, Stopped};
 use crate::session::talk::Talk;
@@ -47,8 +47,7 @@ fn two_texts(row: &[Option<String>]) -> Option<(&str, &str)>
 // A position, and the name of a segment.
 fn read_place(lsn: &str, segment: &str) -> Option<(Lsn, Segment)>
     ensures value { IfSome result (λ p. IsLsn lsn.now p.0.0 × IsSegment p.1 × (segment.now ≡ segment_text p.1)) }
-    ensures none { IfNone result ((at : ℕ) (s : Segment) → IsLsn lsn.now at → IsSegment s
-        → segment.now ≢ segment_text s) }
+    ensures none { IfNone result (StatesNoPlace lsn.now segment.now) }
 {
     let Some(lsn) = read_lsn(lsn.as_bytes()) else {
         return None;
@@ -86,10 +85,8 @@ pub(crate) fn start_row(talk: &Talk) -> Option<Started>
 
 fn four_texts(row: &[Option<String>]) -> Option<(&str, &str, &str, &Option<String>)>
     ensures value { IfSome result
-        (λ p. cells_view row.now ≡ Some p.0.now ∷ Some p.1.now ∷ Some p.2.now ∷ option_map string_bytes p.3.now
-        ∷ []) }
-    ensures none { IfNone result ((a b c : Text) (d : Option Text)
-        → cells_view row.now ≢ Some a ∷ Some b ∷ Some c ∷ d ∷ []) }
+        (λ p. cells_view row.now ≡ four_cells p.0.now p.1.now p.2.now (cell_view p.3.now)) }
+    ensures none { IfNone result ((a b c : Text) (d : Option Text) → cells_view row.now ≢ four_cells a b c d) }
 {
     match row {
         [Some(first), Some(second), Some(third), last] => Some((first, second, third, last)),
@@ -99,7 +96,7 @@ fn four_texts(row: &[Option<String>]) -> Option<(&str, &str, &str, &Option<Strin
 
 // NULL is the empty text.
 fn text_or_empty(cell: &Option<String>) -> &str
-    ensures { result.now ≡ unwrap_or (option_map string_bytes cell.now) [] }
+    ensures { result.now ≡ unwrap_or (cell_view cell.now) [] }
 {
     match cell {
         Some(text) => text,

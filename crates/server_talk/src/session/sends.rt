@@ -1,8 +1,9 @@
 // What is sent to a server.
-ghost use Rattle.std.specs.Prelude.{◌≡◌, ◌≢◌, ◌≤◌, ◌⊎◌, ◌<◌, ◌+◌, ◌^◌, ◌++◌, length, IfOk, IfErr, OnOk, option_map};
+ghost use Rattle.std.specs.Prelude.{◌≡◌, ◌≢◌, ◌≤◌, ◌⊎◌, ◌<◌, ◌+◌, ◌^◌, ◌++◌, length, IfOk, IfErr, OnOk};
 ghost use Rattle.server_talk.specs.declared.session.fault.ServerFault.TheVariants.{NoMemory};
 ghost use Rattle.server_talk.specs.Sends.{parameter, parameters, startup_of, query_of, closing};
-ghost use Rattle.server_talk.specs.Reads.{IsOutside, HasCause, Sends};
+ghost use Rattle.server_talk.specs.Reads.{IsOutside, HasCause};
+ghost use Rattle.server_talk.specs.Calls.{SendsAll, SendsOrFails};
 
 use crate::session::fault::ServerFault;
 use base_devices::{DeviceError, ServerConnection};
@@ -67,8 +68,7 @@ pub(crate) fn query(alloc: Global, text: &str) -> Result<Vec<u8>, AllocError>
 /// Sends a whole message.
 pub(crate) fn send<V: ServerConnection>(connection: &mut V, bytes: &[u8]) -> Result<(), ServerFault>
     ensures outside { IfErr result IsOutside }
-    ensures sent { OnOk result ((V.state connection.new).sent ≡ option_map (λ s. s ++ bytes.now) (V.state
-        connection.old).sent) }
+    ensures sent { OnOk result (SendsAll V.state bytes.now connection.old connection.new) }
     ensures pending { (V.state connection.new).pending ≡ (V.state connection.old).pending }
     ensures place { (V.state connection.new).place ≡ (V.state connection.old).place }
     ensures cause { HasCause (V.state connection.old).faults (V.state connection.new).faults result }
@@ -83,9 +83,7 @@ pub(crate) fn send<V: ServerConnection>(connection: &mut V, bytes: &[u8]) -> Res
 /// Ends a session that was refused. That this failed isn't reported, except when out of memory.
 pub(crate) fn part<V: ServerConnection>(connection: &mut V, fault: ServerFault) -> ServerFault
     ensures fault { (result ≡ fault) ⊎ (result ≡ NoMemory) }
-    ensures sent { result ≢ NoMemory → Sends (V.state connection.old).faults (V.state connection.new).faults
-        (V.state connection.old).sent
-        (V.state connection.new).sent closing }
+    ensures sent { result ≢ NoMemory → SendsOrFails V.state closing connection.old connection.new }
     ensures later { (V.state connection.old).faults ≤ (V.state connection.new).faults }
 {
     match connection.send(b"X\0\0\0\x04".as_slice()) {

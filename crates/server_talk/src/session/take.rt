@@ -1,7 +1,7 @@
 // Bytes of a connection, however it cuts them.
-ghost use Rattle.std.specs.Prelude.{◌≡◌, ◌≤◌, option_map, take, drop, length, IfOk, OnOk, IfSome, IfErr};
-ghost use Rattle.server_talk.specs.Message.{take_at};
-ghost use Rattle.server_talk.specs.Reads.{IsOutside, Reads, HasCause};
+ghost use Rattle.std.specs.Prelude.{◌≡◌, ◌≤◌, take, length, IfOk, OnOk, IfSome, IfErr};
+ghost use Rattle.server_talk.specs.Reads.{IsOutside, HasCause};
+ghost use Rattle.server_talk.specs.Calls.{ReadsBytes, PassesBytes};
 
 use crate::session::fault::ServerFault;
 use base_devices::{DeviceError, ServerConnection};
@@ -15,8 +15,7 @@ fn gather<V: ServerConnection>(
 ) -> Result<Vec<u8>, ServerFault>
     ensures outside { IfErr result IsOutside }
     ensures bytes { IfOk result (λ v. IfSome (V.state connection.old).pending (λ s. v.items ≡ take count s)) }
-    ensures rest { OnOk result ((V.state connection.new).pending ≡ option_map (drop count) (V.state
-        connection.old).pending) }
+    ensures rest { OnOk result (PassesBytes V.state count connection.old connection.new) }
     ensures room { IfOk result (λ v. length v.items ≤ count) }
     ensures sent { (V.state connection.new).sent ≡ (V.state connection.old).sent }
     ensures place { (V.state connection.new).place ≡ (V.state connection.old).place }
@@ -44,8 +43,7 @@ pub(crate) fn take<V: ServerConnection>(
     connection: &mut V,
     count: usize,
 ) -> Result<Vec<u8>, ServerFault>
-    ensures read { Reads (λ v. v.items) result (V.state connection.old).pending (V.state connection.new).pending
-        (take_at count) }
+    ensures read { ReadsBytes V.state count result connection.old connection.new }
     ensures room { IfOk result (λ v. length v.items ≤ count) }
     ensures sent { (V.state connection.new).sent ≡ (V.state connection.old).sent }
     ensures place { (V.state connection.new).place ≡ (V.state connection.old).place }

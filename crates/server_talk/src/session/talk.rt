@@ -2,9 +2,11 @@
 ghost use Rattle.std.specs.Prelude.{◌≡◌, ◌≢◌, ◌≤◌, ◌<◌, ◌+◌, ◌^◌, length, IfOk, IfErr};
 ghost use Rattle.server_talk.specs.declared.session.phase.Phase.TheVariants.{Row};
 ghost use Rattle.server_talk.specs.declared.session.fault.ServerFault.TheVariants.{ServerConnection};
-ghost use Rattle.server_talk.specs.Talk.{receive_granted, receive_reply, receive_due, run, goes_on, following};
+ghost use Rattle.server_talk.specs.Message.{of_kind};
+ghost use Rattle.server_talk.specs.Talk.{receive_granted, receive_reply, receive_due, goes_on, following};
 ghost use Rattle.server_talk.specs.Views.{message_view, talk_view, cells_view, session_view};
-ghost use Rattle.server_talk.specs.Reads.{Gives, Reads, HasCause};
+ghost use Rattle.server_talk.specs.Reads.{Gives, HasCause};
+ghost use Rattle.server_talk.specs.Calls.{ReadsRun};
 
 use crate::session::cells::cells;
 use crate::session::fault::ServerFault;
@@ -64,8 +66,7 @@ fn receive_grant(talk: Talk, body: &[u8]) -> Result<Talk, ServerFault>
 fn receive_row(alloc: Global, columns: u16, talk: Talk, body: &[u8]) -> Result<Talk, ServerFault>
     requires few { talk.session.messages < 1000000 }
     requires short { length body.now ≤ 16777216 }
-    ensures value { Gives talk_view result
-        (receive_due columns Row (talk_view talk) (record { kind = 68; body = body.now })) }
+    ensures value { Gives talk_view result (receive_due columns Row (talk_view talk) (of_kind 68 body.now)) }
     ensures cause { IfErr result (λ e. e ≢ ServerConnection) }
     ensures count { IfOk result (λ t. t.session.messages ≡ talk.session.messages + 1) }
 {
@@ -92,7 +93,7 @@ fn receive_due(
     requires few { talk.session.messages < 1000000 }
     requires short { length body.now ≤ 16777216 }
     ensures value { Gives talk_view result
-        (receive_due columns talk.phase (talk_view talk) (record { kind = kind; body = body.now })) }
+        (receive_due columns talk.phase (talk_view talk) (of_kind kind body.now)) }
     ensures cause { IfErr result (λ e. e ≢ ServerConnection) }
     ensures count { IfOk result (λ t. t.session.messages ≡ talk.session.messages + 1) }
 {
@@ -151,8 +152,7 @@ pub(crate) fn run<V: ServerConnection>(
     start: Talk,
 ) -> Result<Talk, ServerFault>
     requires { start.session.messages + limit ≡ 1000000 }
-    ensures read { Reads talk_view result (V.state connection.old).pending (V.state connection.new).pending
-        (run limit columns (talk_view start)) }
+    ensures read { ReadsRun V.state limit columns start result connection.old connection.new }
     ensures sent { (V.state connection.new).sent ≡ (V.state connection.old).sent }
     ensures place { (V.state connection.new).place ≡ (V.state connection.old).place }
     ensures cause { HasCause (V.state connection.old).faults (V.state connection.new).faults result }

@@ -7,7 +7,13 @@ use Rattle.base_model.specs.ManifestText.{HasItsFolders}
 use Rattle.base_model.specs.Values.{FileEntry, Manifest, file_entry_of}
 use Rattle.repo_ini.specs.Parts.{sections_of}
 use Rattle.repo_keys.specs.Agree.{IsKeysOf}
-use Rattle.repo_manifest.specs.Head.{manifest_with, choice_fields}
+use Rattle.std.proofs.lemmas.Result.{err_from_is_err_and}
+use Rattle.repo_keys.specs.Foreign.{IsForeignKey}
+use Rattle.repo_keys.proofs.Foreign.{foreign_as}
+use Rattle.repo_keys.proofs.Forms.{form_wide}
+use Rattle.repo_manifest.specs.Head.{manifest_with, manifest_names, choice_fields}
+use Rattle.repo_manifest.specs.ManifestForm.{IsManifestForm}
+use Rattle.repo_manifest.proofs.Foreign.{foreign_form}
 use Rattle.repo_manifest.specs.Sections.{IsPlaced}
 use Rattle.base_model.specs.declared.labels.Choices.{Choices}
 use Rattle.repo_manifest.proofs.Chosen.{log_known}
@@ -15,6 +21,13 @@ use Rattle.repo_manifest.proofs.Ordered.{after_none}
 use Rattle.repo_manifest.proofs.Whole.{Shows, same_sections}
 use Rattle.repo_manifest.proofs.Joined.{is_manifest}
 use Rattle.repo_manifest.proofs.section_reader.manifest_in.Goals as goal
+
+pub returns-in_err-check_names-clause-fault : goal.returns-in_err-check_names-clause-fault
+returns-in_err-check_names-clause-fault c =
+    let ss = sections_of c.args.parts.now in
+    let p = err_from_is_err_and c.from_residual.result c.from_residual.ensures.1 in
+    rw (p.1, p.2)
+    (form_wide c.in_err-check_names.field-0.0 (IsForeignKey manifest_names ss) (IsManifestForm ss) c.in_err-check_names.ensures.fault (foreign_as manifest_names ss (IsManifestForm ss) (foreign_form ss)))
 
 pub choices_in-requires-clause-online : goal.choices_in-requires-clause-online
 choices_in-requires-clause-online c = λ m rules agree.
