@@ -90,11 +90,14 @@ pub record AreOfFirst (stanza : Text) (id : ArchiveId) (f : Content) (folders : 
 
 -- ---- on a disk, where what it holds is known
 
+-- these are the whole segments of the folder
 abbrev pub FindsWholeIn : Text → ArchiveId → Text → DiskState → List Segment → Type 0
 FindsWholeIn stanza id folder disk found = IfSome disk.view.now (λ f. AreWholeIn stanza id f folder found)
 
+-- these are those of the first folder that has any
 abbrev pub FindsOfFirst : Text → ArchiveId → List (String Global) → DiskState → List Segment → Type 0
 FindsOfFirst stanza id folders disk found = IfSome disk.view.now (λ f. AreOfFirst stanza id f folders found)
 
+-- these are the first and the last of the cluster's archive
 abbrev pub FindsEnds : Text → ArchiveId → DiskState → List Segment → Type 0
 FindsEnds stanza id disk found = IfSome disk.view.now (λ f. AreEnds stanza id f found)

@@ -111,7 +111,7 @@ pub record LeavesMarks (stanza : Text) (marks : List Write) (old new : Option Co
   pub others : (f g : Content) → old ≡ Some f → new ≡ Some g → (name bytes : Text) → IsMark stanza name
       → g name ≡ Some bytes → (f name ≡ Some bytes) ⊎ In (name, bytes) marks
 
--- ---- the same of the step that the account continued by
+-- ---- the same for the step that the account continued by
 
 -- what it does to the repository
 abbrev pub TurnGoes : ProcessesState → ProcessesState → DiskState → DiskState → Type 0

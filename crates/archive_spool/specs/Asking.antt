@@ -43,7 +43,7 @@ Answers stanza f name sum (Reported code text) = ¬ HasReceipt stanza f name sum
 abbrev pub IsLong : (Name → Type 0) → Option Content → Name → ℕ → Type 0
 IsLong these now n limit = these n × (limit ≡ 2 ^ 20) × IfSome now (λ f. IsSomeAnd (f n) (λ b. limit < length b))
 
--- the same of the marks of this file
+-- the same for the marks of this file
 abbrev pub HasLongMark : Text → ArchiveName → DiskState → Name → ℕ → Type 0
 HasLongMark stanza name spool = IsLong (IsMarkName stanza name) spool.view.now
 

@@ -103,7 +103,7 @@ HasPlaces id name = (sum : Text) → IsSum sum → IsArchivePlace id name sum
 abbrev pub ReadsSum : Option Text → Text → ℕ → Text → Type 0
 ReadsSum model first count sum = (bytes : Text) × IsReadFrom model first count bytes × (sum ≡ sha1 bytes)
 
--- the same of bytes that begin so
+-- the same for bytes that begin so
 abbrev pub ReadsToSum : Option Text → Prefix → Text → Type 0
 ReadsToSum model prefix sum = ReadsSum model prefix.bytes.now prefix.length sum
 
@@ -115,7 +115,7 @@ OtherCause model first count sum source_rose (Archive NoMemory) = Unit {0}
 OtherCause model first count sum source_rose (Archive fault) = ⊥
 OtherCause model first count sum source_rose Source = source_rose
 
--- the same of a stored file, where the source's count of faults went from the one number to the other
+-- the same for a stored file, where the source's count of faults went from the one number to the other
 abbrev pub OtherFails : Option Text → Prefix → StoredFile → ℕ → ℕ → PushFault → Type 0
 OtherFails model prefix kept before now fault =
     OtherCause model prefix.bytes.now prefix.length kept.sum.0 (Rises before now) fault

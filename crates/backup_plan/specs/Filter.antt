@@ -29,7 +29,7 @@ is_special nodes.Link = false
 abbrev pub is_kept : Bool → ListedNode → Bool
 is_kept online n = not (is_omitted online n.0 n.1) && not (is_special n.1)
 
--- no folder has just these nodes
+-- no folder has exactly these nodes
 abbrev pub ShowsNoFolder : List ListedNode → Type 0
 ShowsNoFolder seen = (folder : Nodes) → ¬ IsTreeListing folder seen
 

@@ -48,7 +48,7 @@ pub record IsPlanned (p : BackupPlan) (l : Layout) : Type 0 where
 abbrev pub AreNamesFor : Text → BackupPlan → List Name → Type 0
 AreNamesFor folder p names = (l : Layout) → IsPlanned p l → names ≡ names_in folder l
 
--- so many names more
+-- this many further names
 abbrev pub AddsNames : List Name → Vec (String Global) Global → Vec (String Global) Global → Type 0
 AddsNames more old new = map string_bytes new.items ≡ map string_bytes old.items ++ more
 

@@ -200,7 +200,7 @@ pub record LocksState : Type 0 where
 abbrev pub RecordsTake : LockAnswer → Name × Name → LocksState → LocksState → Type 0
 RecordsTake take lock old new = new.ever_taken ≡ option_map (with_lock take lock) old.ever_taken
 
--- the answer is that it is held just where others hold the name, if that is known
+-- the answer is that it is held exactly where others hold the name, if that is known
 abbrev pub TellsHeld : LockAnswer → Name → LocksState → Type 0
 TellsHeld take name locks = IfSome locks.others (λ names. (take ≡ Busy) ↔ Contains names name)
 

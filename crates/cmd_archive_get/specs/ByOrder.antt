@@ -92,7 +92,7 @@ module _ {D T : Type 0} (disk : D → DiskState) (folder : T → DataFolderState
 
   -- ---- a file under the id of a cluster
 
-  -- the same of what the repository held, and of all that a crash leaves
+  -- the same for what the repository held, and of all that a crash leaves
   abbrev pub PutsUnder : ClusterId → Text → Control → GetOrder → Result Bool (Halt GetFault) → D → D → T → T → Type 0
   PutsUnder cluster stanza known order result repo new_repo tree new_tree = (f : Option Content)
       → IsLeft stanza (disk repo).view (disk new_repo).view f → Puts result

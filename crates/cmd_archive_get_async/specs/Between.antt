@@ -147,7 +147,7 @@ module _ {D S : Type 0} (disk : D → DiskState) (spooled : S → DiskState) whe
   NextStops stanza id last size repo new_repo spool new_spool = HaltCause
       (NextCause stanza id last size (disk repo).view.now) (DisksFail repo new_repo spool new_spool)
 
-  -- so many of the segments that follow were fetched as a queue of this many bytes holds
+  -- at most as many of the following segments were fetched as a queue of this many bytes holds
   abbrev pub FetchedAhead : Text → ArchiveId → Segment → ℕ → ℕ → D → S → S → ℕ → Type 0
   FetchedAhead stanza id after size queue repo spool new_spool = IsFetched stanza id after size
       (most_ahead size queue) (disk repo).view.now (spooled spool).view.now (spooled new_spool).view.now

@@ -77,7 +77,7 @@ GivesUpOn b next folder tree state before after =
     GivesUp b.stanza.now b.order (folder tree).nodes (backup_info_of next.list) (basis_files b)
     (state before).view (state after).view
 
--- the same of what is read while a server is in its backup
+-- the same for what is read while a server is in its backup
 abbrev pub TalkGathers : {L S T D : Type 0} → ServerTask → (L → LinkState) → Pool L S → (T → DataFolderState) → T
     → (D → DiskState) → D → D → Gathered × rust_online.Online → Type 0
 TalkGathers task of pool folder tree state before after p =
@@ -116,7 +116,7 @@ SendsTalk order old new = new.sent ≡ option_map
 
 -- ---- other processes
 
--- at most so many steps of others succeeded
+-- at most this many steps of others succeeded
 abbrev pub TurnsWithin : ℕ → ProcessesState → ProcessesState → Type 0
 TurnsWithin most old new = (n : ℕ) × (n ≤ most) × Counts n old.turns new.turns
 

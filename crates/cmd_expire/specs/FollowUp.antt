@@ -50,7 +50,7 @@ AddsLines stanza rules moment old new lines new_lines = (rest : Text) × (new_li
 abbrev pub AddsReport : Expired → String Global → String Global → Type 0
 AddsReport gone old new = string_bytes new ≡ string_bytes old ++ lines_of gone.labels.items gone.removed
 
--- the same of an expiry at a moment
+-- the same for an expiry at a moment
 abbrev pub AddsExpiry : Text → Rules → ℕ → DiskState → DiskState → String Global → String Global → Type 0
 AddsExpiry stanza rules moment old new lines new_lines =
     AddsLines stanza rules moment old.view.now new.view.now (string_bytes lines) (string_bytes new_lines)

@@ -88,7 +88,7 @@ HoldsPairs stanza archive backup d = IfSome d.view.now
 abbrev pub AreEndsIn : Text → ArchiveId → List Segment → DiskState → Type 0
 AreEndsIn stanza id segments d = IfSome d.view.now (λ f. AreEnds stanza id f segments)
 
--- the same of each cluster
+-- the same for each cluster
 abbrev pub HaveEndsIn : Text → List ClusterId → List ArchivedName → DiskState → Type 0
 HaveEndsIn stanza history names d = IfSome d.view.now (λ f. HaveEnds stanza history f names)
 

@@ -25,7 +25,7 @@ SyncsArchivePair stanza old new = SyncsFolders (IsMember (archive_info stanza)) 
 abbrev pub BeginsBy : Plan → Text → DiskState → DiskState → Type 0
 BeginsBy plan stanza old new = Begins plan.sync_scope stanza old.view new.view
 
--- the disk holds what it held, but for a pair that the plan heals
+-- the disk holds what it held, except for a pair that the plan heals
 abbrev pub HealsBy : Plan → Text → DiskState → DiskState → Type 0
 HealsBy plan stanza old new = Heals plan.pairs stanza old.view.now new.view.now
 

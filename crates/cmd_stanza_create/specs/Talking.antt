@@ -30,7 +30,7 @@ abbrev pub Closes : Type 0 → Option (List ℕ) → Halt CreateFault → Type 0
 Closes rose new (Refused (Talked fault)) = Ended new ⊎ rose
 Closes rose new other = Unit {0}
 
--- ---- the same of a call's two states of the connection
+-- ---- the same for a call's two states of the connection
 
 -- the server was asked at this path, and the talk was ended
 abbrev pub AsksAt : Text → code.Server → ConnectionState → ConnectionState → Type 0

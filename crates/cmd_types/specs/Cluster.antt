@@ -22,7 +22,7 @@ control_bytes f = file_bytes (f (known_path ControlName))
 abbrev pub version_bytes : Nodes → Value
 version_bytes f = file_bytes (f (known_path VersionName))
 
--- where the folder is known, these are the first bytes of a known file, at most so many; none where it isn't there
+-- where the folder is known, these are the first bytes of a known file, at most this many; none where it is absent
 abbrev pub IsFilePrefix : ReadableFile → ℕ → DataFolderState → Option (Vec ℕ Global) → Type 0
 IsFilePrefix what limit folder found = IfSome folder.nodes (λ f.
     option_map (λ (v : Vec ℕ Global). v.items) found ≡ option_map (take limit) (file_bytes (f (known_path what))))

@@ -103,7 +103,7 @@ abbrev pub AddsStored : Stored → DiskState → FindingList → FindingList →
 AddsStored file d old new = IfSome d.view.now
     (λ f. (stanza : Text) → IsStoredFile stanza f file → Adds (HasOther f file) old.items new.items)
 
--- the same of each file
+-- the same for each file
 abbrev pub AddsBytes : List Stored → DiskState → FindingList → FindingList → Type 0
 AddsBytes files d old new = IfSome d.view.now
     (λ f. (stanza : Text) → AreStored stanza f files → Adds (OfSome (HasOther f) files) old.items new.items)
@@ -153,7 +153,7 @@ AddsLabel stanza backup other d old new = AddsMostHeld stanza
     (λ f. OfSome (ReferredDeviates stanza f backup.label.now other.label.now) (map file_entry_of backup.files.now))
     (λ _. Never) d old new
 
--- the same of each of these labels
+-- the same for each of these labels
 abbrev pub AddsLabels : Text → BackupFiles → List Label → DiskState → FindingList → FindingList → Type 0
 AddsLabels stanza backup labels d old new = AddsMostHeld stanza
     (λ f. OfSome (SharedDeviates stanza f backup.label.now (map file_entry_of backup.files.now)) labels) (λ _. Never)
@@ -192,7 +192,7 @@ abbrev pub AddsListed : Text → List Cluster → rust_entry.Entry → DiskState
 AddsListed stanza history entry d old new = AddsMostHeld stanza
     (λ f. ListedDeviates stanza f history (entry_of entry)) (λ f. OwnDeviates stanza f entry.label) d old new
 
--- the same of each entry
+-- the same for each entry
 abbrev pub AddsBackups : Text → List Cluster → List rust_entry.Entry → DiskState → FindingList → FindingList → Type 0
 AddsBackups stanza history entries d old new = AddsMostHeld stanza
     (λ f. OfSome (ListedDeviates stanza f history) (map entry_of entries))

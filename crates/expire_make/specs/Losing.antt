@@ -51,7 +51,7 @@ TakesFolder folder old new = TakesAway (λ n. IsTrue (is_below folder n)) old ne
 abbrev pub FolderStaysDurable : Text → DiskState → DiskState → Type 0
 FolderStaysDurable folder old new = StaysDurable (λ n. IsTrue (is_below folder n)) old.view new.view
 
--- what lies below a folder is durable, but for what was unsynced
+-- what lies below a folder is durable, except for what was unsynced
 abbrev pub FolderBecomesDurable : Text → DiskState → DiskState → Type 0
 FolderBecomesDurable folder old new = (n : Name) (v : Value) → IsTrue (is_below folder n)
     → is_unsynced old.view n ≡ false → MayKeep new.view n v → Holds new.view.now n v

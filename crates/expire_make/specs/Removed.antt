@@ -37,6 +37,6 @@ pub record CountsGone (stanza : Text) (k : ℕ) (old new : Option Content) : Typ
       → (names : List Name) × AreDistinct names
       × ((n : Name) → In n names ↔ (IsArchiveFile stanza n × IsSome (f n) × (g n ≡ None))) × IsCount k names
 
--- the same of two states of a disk
+-- the same for two states of a disk
 abbrev pub NumberGone : Text → ℕ → DiskState → DiskState → Type 0
 NumberGone stanza k old new = CountsGone stanza k old.view.now new.view.now

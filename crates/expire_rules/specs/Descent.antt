@@ -37,7 +37,7 @@ Descends rules now backups labels = (l : Label) →
     × ((is_known_fact rules now (listed_in backups) l ≡ true)
     ⊎ HasKnown backups (is_known_fact rules now (listed_in backups)) l))
 
--- the same of whichever backups are listed so
+-- the same for whichever backups are listed so
 abbrev pub DescendWhereListed : Rules → ℕ → List Entry → List Label → Type 0
 DescendWhereListed rules now es labels = (backups : List Backup) → listed_in backups ≡ es
     → AreInLine (listed_in backups) → Descends rules now backups labels

@@ -117,7 +117,7 @@ each_swept sweep names f = fold (λ g n. changed_at (string_bytes n) (swept_at s
 abbrev pub with_arrived : Name → Option (Vec ℕ Global) → Bool → NameStates → NameStates
 with_arrived name value unsynced f = changed_at name (arrived_at (value_of value) unsynced) f
 
--- the same of one name's state
+-- the same for one name's state
 abbrev pub arrived : Option (Vec ℕ Global) → Bool → NameState → NameState
 arrived value unsynced s = arrived_at (value_of value) unsynced s
 

@@ -17,6 +17,6 @@ state_of l = record {
   known = None;
 }
 
--- the next bytes, so many of them, are at the front of these
+-- the next bytes, as many as the number says, are at the front of these
 abbrev pub GivesNext : ℕ → List ℕ → RawLink → RawLink → Type 0
 GivesNext n bytes old new = (take n bytes ≡ take n (rest_of old)) × (rest_of new ≡ drop n (rest_of old))

@@ -55,7 +55,7 @@ pub record IsLeft (v : View) (first moment : ℕ) (opened : View) : Type 0 where
   pub image : IsImage v moment content
   pub reopened : IsReopened content opened
 
--- the same of disks in memory
+-- the same for disks in memory
 abbrev pub IsDiskLeft : MemDisk → ℕ → ℕ → MemDisk → Type 0
 IsDiskLeft disk first moment opened = IsLeft (view_of disk.held) first moment (view_of opened.held)
 

@@ -27,7 +27,7 @@ module _ {X V : Type 0} (IsTextOf : V → Text → Type 0) (IsForm : List Sectio
   MemberGives limit f name (Ok x) = MemberIs IsTextOf f name (value x)
   MemberGives limit f name (Err fault) = HasFault IsTextOf IsForm limit f name fault
 
-  -- the same of a member on this disk, where what it holds is known
+  -- the same for a member on this disk, where what it holds is known
   abbrev pub GivesOn : ℕ → DiskState → Text → Result X MemberFault → Type 0
   GivesOn limit disk name answer = IfSome disk.view.now (λ f. MemberGives limit f name answer)
 

@@ -29,7 +29,7 @@ selected_jobs s = map (reading s.stanza.now s.own.now) (selected s)
 abbrev pub selected_wants : Selection → List Want
 selected_wants s = map want_of (selected s)
 
--- the same of one entry with its mark
+-- the same for one entry with its mark
 abbrev pub one_job : Selection → rust_file.FileEntry → Bool → List Job
 one_job s file kept =
     map (reading s.stanza.now s.own.now) (read_one (recovery_of s.recovery) (file_entry_of file, kept))

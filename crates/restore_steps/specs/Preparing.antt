@@ -13,6 +13,7 @@ use Rattle.restore_steps.specs.Clearing.{stays, seen_of, without_one, without, w
 
 -- ---- one node that is removed, unless it stays
 
+-- the node is gone, unless it stays
 abbrev pub ClearsNode : Manifest → FolderEntry → DataFolderState → DataFolderState → Type 0
 ClearsNode manifest node old new = new.nodes ≡ option_map (without_one (manifest_of manifest) (seen_of node)) old.nodes
 
@@ -31,6 +32,7 @@ ClearsNodeProperly manifest node old new =
 
 -- ---- all nodes of a listing that don't stay
 
+-- of the listed nodes those are left that stay
 abbrev pub ClearsTree : Manifest → List FolderEntry → DataFolderState → DataFolderState → Type 0
 ClearsTree manifest seen old new =
     new.nodes ≡ option_map (without (manifest_of manifest) (map seen_of seen)) old.nodes
@@ -48,6 +50,7 @@ ClearsProperly manifest seen old new = IfSome old.nodes (IsListed (map seen_of s
 
 -- ---- folders
 
+-- these folders are there, besides what was
 abbrev pub MakesFolders : List Text → DataFolderState → DataFolderState → Type 0
 MakesFolders folders old new = new.nodes ≡ option_map (with_folders folders) old.nodes
 

@@ -33,13 +33,13 @@ abbrev pub HasStarted : {L K W : Type 0} → (L → LinkState) → (K → W → 
 HasStarted of kept jobs run k w =
     (links : List LinkState) × runs.Starts (map job_of jobs) links (state_of of run (kept k w))
 
--- the run goes on
+-- the run continues
 abbrev pub RunGoesOn : {L K W R : Type 0} → Result R DispatchFault → (L → LinkState) → (K → W → PartSinkState)
     → List Job → Run L → K → W → Run L → K → W → Type 0
 RunGoesOn result of kept jobs old k v new l w =
     OnOk result (runs.GoesOn (map job_of jobs) (state_of of old (kept k v)) (state_of of new (kept l w)))
 
--- the run goes on in which each idle link was given a job or none waited
+-- the run continues in which each idle link was given a job or none waited
 abbrev pub RunReceivesOn : {L K W R : Type 0} → Result R DispatchFault → (L → LinkState) → (K → W → PartSinkState)
     → List Job → Run L → K → W → Run L → K → W → Type 0
 RunReceivesOn result of kept jobs old k v new l w =
@@ -87,7 +87,7 @@ abbrev pub RunShowsLossesOn : {L K W R : Type 0} → Result R DispatchFault → 
 RunShowsLossesOn result of kept jobs old k v new =
     OnErr result (runs.ShowsLossesOn (map job_of jobs) (state_of of old (kept k v)) new.lost.items)
 
--- a run that had started goes on
+-- a run that had started continues
 abbrev pub RunsFromStart : {L K W R : Type 0} → Result R DispatchFault → (L → LinkState) → (K → W → PartSinkState)
     → List Job → Run L → K → W → Run L → K → W → Type 0
 RunsFromStart result of kept jobs old k v new l w = OnOk result

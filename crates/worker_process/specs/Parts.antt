@@ -12,7 +12,7 @@ use Rattle.worker_process.specs.declared.serve_fault.ServeFault.{ServeFault}
 use Rattle.worker_process.specs.Answers.{part_frames, FillsPart, IsNextPart, KnownItem}
 use Rattle.worker_process.specs.Writing.{Writes}
 
--- so many bytes were read of the file of this name after those that the buffer has, where the folder is known
+-- this many bytes were read of the file of this name after those that the buffer has, where the folder is known
 abbrev pub ReadsOn : Option Content → Text → ℕ → ℕ → Text → Text → ℕ → Type 0
 ReadsOn files name at have old new n = IfSome files
     (λ f. IfSome (f name) (λ b. ReadsPart b (at + have) (length old - have) (drop have new) n))
@@ -22,7 +22,7 @@ abbrev pub FillsPartOf : Option Content → Item → ℕ → Text → Option ℕ
 FillsPartOf files item known room answer =
     IfSome files (λ f. FillsPart (f (string_bytes item.path)) (item_of item) known room answer)
 
--- so many bytes are the next part of the item's file, after one of this many bytes, where the folder is known
+-- this many bytes are the next part of the item's file, after one of this many bytes, where the folder is known
 abbrev pub IsNextPartOf : Option Content → Item → ℕ → ℕ → Text → ℕ → Type 0
 IsNextPartOf files item known last room n = IfSome files
     (λ f. (bytes : Text) → f (string_bytes item.path) ≡ Some bytes

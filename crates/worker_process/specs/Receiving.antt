@@ -61,7 +61,7 @@ Receives view letter start rest (Ok None) left = (rest ≡ []) × (left ≡ Some
 Receives view letter start rest (Ok (Some x)) left = IsFullyReceived (view x.0) x.1 rest left
 Receives view letter start rest (Err e) left = StopsAt letter start rest e
 
--- the same of an input of which it is known what is left: for the setup, and for a job before whose frame this many
+-- the same for an input of which it is known what is left: for the setup, and for a job before whose frame this many
 -- bytes came
 abbrev pub ReceivesSetup : InputState → Result (Option (rust_roots.Roots × ℕ)) ServeFault → InputState → Type 0
 ReceivesSetup old result new =

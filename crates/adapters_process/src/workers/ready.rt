@@ -25,7 +25,7 @@ pub(crate) struct Silence {
 }
 
 impl Silence {
-    // How long it may go on, once it was waited for.
+    // How long its silence may last, once it was waited for.
     fn rest(&self) -> u64 {
         let rest = self.longest.saturating_sub(AT_ONCE).max(1);
         rest.saturating_sub(self.so_far).max(rest.min(LOOK))
