@@ -199,18 +199,18 @@ works() {
     return 1
 }
 
-# A worker that stops: another one does its job, and without another the backup ends. It was silent for two seconds since its job, no more, and is killed.
+# A worker that stops: another one does its job, and without another the backup ends. It was silent for five seconds since its job, not for twice as long, and is killed.
 truncate -s 64M pg/base/1/99999
 for workers in 2 1; do
     worker=
-    begin "${offline[@]}" "${lock[@]}" --process-max="$workers" --io-timeout=2 backup
+    begin "${offline[@]}" "${lock[@]}" --process-max="$workers" --io-timeout=5 backup
     stop_where works
     kill -STOP "$worker" || complain 'no worker was found'
     began=$(date +%s%N)
     if [ "$workers" = 2 ]; then ends 0 'a backup by two workers, one of which stops,'; else ends 55 'a backup whose worker stops'; fi
     took=$((($(date +%s%N) - began) / 1000000))
-    [ "$took" -ge 1000 ] || complain "one of $workers workers stopped, and was not waited for: $took ms"
-    [ "$took" -lt 3500 ] || complain "one of $workers workers stopped, and was waited for too long: $took ms"
+    [ "$took" -ge 4000 ] || complain "one of $workers workers stopped, and was not waited for: $took ms"
+    [ "$took" -lt 9500 ] || complain "one of $workers workers stopped, and was waited for too long: $took ms"
     [ "$(sed 's/.*) //; s/ .*//' "/proc/$worker/stat" 2>/dev/null)" != T ] || complain "one of $workers workers stopped, and was not given up"
     kill -KILL "$worker" 2>/dev/null || true
 done

@@ -7,7 +7,8 @@ use Rattle.worker_pool.specs.Pools.{links_in}
 use Rattle.worker_pool.specs.Run.{Left}
 use Rattle.worker_pool.specs.declared.pool.Pool.{Pool}
 use Rattle.restore_make.specs.Finished.{IsFinished}
-use Rattle.restore_make.specs.declared.options.Restoration.{Restoration}
+use Rattle.restore_make.specs.Options.{options_of}
+use Rattle.restore_make.specs.declared.options.RestoreOptions.{RestoreOptions}
 use Rattle.cmd_types.specs.Halts.{HaltCause, Only}
 use Rattle.cmd_types.specs.declared.stages.halt.Halt.{Halt}
 use Rattle.cmd_types.specs.declared.stages.object.Object.TheVariants.{TheDataFolder}
@@ -33,12 +34,19 @@ StartHalts order of pool halt = HaltCause (StartCause (used_links order of pool)
 
 -- ---- the files
 
--- why the files weren't put into the folder, where the pool's links are those that are left of these
-abbrev pub PutHalts : {A L S T : Type 0} → Result A (Halt RestoreCommandFault) → Restoration → (L → LinkState) → Pool L S
+-- the folder has all that the manifest states, as the pool's links read it
+abbrev pub PutsFiles : {L S T : Type 0} → FillOrder → RestoreOptions → (L → LinkState) → Pool L S
     → (T → DataFolderState) → T → T → Type 0
-PutHalts result what of pool state old new = (used : List LinkState) → length used < 2 ^ 32
+PutsFiles asked options of pool state old new = IfSome (state new).nodes
+    (IsFinished asked.stanza.now (links_in of pool) (options_of options) (manifest_of asked.manifest.now)
+    (state old).nodes)
+
+-- why the files weren't put into the folder, where the pool's links are those that are left of these
+abbrev pub PutHalts : {A L S T : Type 0} → Result A (Halt RestoreCommandFault) → FillOrder → (L → LinkState)
+    → Pool L S → (T → DataFolderState) → T → T → Type 0
+PutHalts result asked of pool state old new = (used : List LinkState) → length used < 2 ^ 32
     → Left [] used [] pool.lost.items (links_in of pool)
-    → IfErr result (HaltCause (FillCause what.stanza.now (manifest_of what.manifest.now) used)
+    → IfErr result (HaltCause (FillCause asked.stanza.now (manifest_of asked.manifest.now) used)
     (Only TheDataFolder (FolderFailed (state old) (state new))))
 
 -- the folder has all that the manifest states

@@ -7,9 +7,9 @@ ghost use Rattle.options_table.specs.Values.{is_stanza};
 ghost use Rattle.worker_pool.specs.Pools.{links_in};
 ghost use Rattle.worker_pool.specs.Run.{AreReady};
 ghost use Rattle.restore_steps.specs.Clearing.{seen_of};
-ghost use Rattle.restore_make.specs.Restorations.{StopsSafely, LeavesFinished};
+ghost use Rattle.restore_make.specs.Restorations.{StopsSafely};
 ghost use Rattle.cmd_restore.specs.Ends.{leaves_folder};
-ghost use Rattle.cmd_restore.specs.Putting.{PutHalts, FillsBy, FillHalts};
+ghost use Rattle.cmd_restore.specs.Putting.{PutsFiles, PutHalts, FillsBy, FillHalts};
 
 use crate::fault::{RestoreCommandFault, of_fill};
 use crate::log_fetch::{fetch_of, recovery_by};
@@ -34,25 +34,32 @@ pub(crate) struct FillOrder<'a> {
 // Puts the files into the folder over links that were given it; the pool has those that were lost by that.
 fn put_files<T: DataFolder, L: Link, U: Scheduler>(
     alloc: Global,
-    what: &Restoration<'_>,
+    asked: &FillOrder<'_>,
+    options: &RestoreOptions<'_>,
     pool: &mut Pool<L, U>,
     tree: &mut T,
 ) -> Result<(), Halt<RestoreCommandFault>>
     requires few { vec_len pool.old.links < 2 ^ 32 }
     requires ready { AreReady (links_in L.link_state pool.old) }
-    requires stanza { is_stanza what.now.stanza.now ≡ true }
-    requires rules { IsManifest (manifest_of what.now.manifest.now) }
-    requires seen { IfSome (T.state tree.old).nodes (λ f. IsTreeListing f (map seen_of what.now.seen.now)) }
-    ensures finished { OnOk result (LeavesFinished what.now L.link_state pool.old T.state tree.old tree.new) }
+    requires stanza { is_stanza asked.now.stanza.now ≡ true }
+    requires rules { IsManifest (manifest_of asked.now.manifest.now) }
+    requires seen { IfSome (T.state tree.old).nodes (λ f. IsTreeListing f (map seen_of asked.now.seen.now)) }
+    ensures finished { OnOk result (PutsFiles asked.now options.now L.link_state pool.old T.state tree.old tree.new) }
     ensures control { OnErr result (StopsSafely (T.state tree.old) (T.state tree.new)) }
     ensures changes { IfErr result (λ halt. leaves_folder halt ≡ false) }
     ensures proper { (T.state tree.new).faulty_calls ≡ (T.state tree.old).faulty_calls }
     ensures opened { (T.state tree.new).opened ≡ (T.state tree.old).opened }
     ensures later { (T.state tree.old).faults ≤ (T.state tree.new).faults }
     // Where the used links are those of which these are left, the cause is of them.
-    ensures cause { PutHalts result what.now L.link_state pool.old T.state tree.old tree.new }
+    ensures cause { PutHalts result asked.now L.link_state pool.old T.state tree.old tree.new }
 {
-    match restore_files(alloc, what, pool, tree) {
+    let what = Restoration {
+        stanza: asked.stanza,
+        manifest: asked.manifest,
+        options: *options,
+        seen: asked.seen,
+    };
+    match restore_files(alloc, &what, pool, tree) {
         Ok(()) => Ok(()),
         Err(fault) => Err(of_fill(count_of(&pool.lost), fault)),
     }
@@ -83,15 +90,10 @@ pub(crate) fn fill<T: DataFolder, L: Link, U: Scheduler>(
     let Ok(fetch) = fetch_of(alloc, asked.stanza, &order.recovery) else {
         return Err(Halt::NoMemory);
     };
-    let what = Restoration {
-        stanza: asked.stanza,
-        manifest: asked.manifest,
-        options: RestoreOptions {
-            delta: order.delta,
-            recovery: recovery_by(&order.recovery, &fetch),
-        },
-        seen: asked.seen,
+    let options = RestoreOptions {
+        delta: order.delta,
+        recovery: recovery_by(&order.recovery, &fetch),
     };
     start_workers(alloc, pool, order)?;
-    put_files(alloc, &what, pool, tree)
+    put_files(alloc, asked, &options, pool, tree)
 }
