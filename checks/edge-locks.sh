@@ -207,11 +207,15 @@ for workers in 2 1; do
     stop_where works
     kill -STOP "$worker" || complain 'no worker was found'
     began=$(date +%s%N)
-    if [ "$workers" = 2 ]; then ends 0 'a backup by two workers, one of which stops,'; else ends 55 'a backup whose worker stops'; fi
+    kill -CONT "$running"
+    for _ in $(seq 600); do
+        [ "$(sed 's/.*) //; s/ .*//' "/proc/$worker/stat" 2>/dev/null)" = T ] || break
+        sleep 0.05
+    done
     took=$((($(date +%s%N) - began) / 1000000))
-    [ "$took" -ge 4000 ] || complain "one of $workers workers stopped, and was not waited for: $took ms"
-    [ "$took" -lt 9500 ] || complain "one of $workers workers stopped, and was waited for too long: $took ms"
-    [ "$(sed 's/.*) //; s/ .*//' "/proc/$worker/stat" 2>/dev/null)" != T ] || complain "one of $workers workers stopped, and was not given up"
+    [ "$took" -ge 4000 ] || complain "one of $workers workers stopped, and was given up after $took ms"
+    [ "$took" -lt 9000 ] || complain "one of $workers workers stopped, and was waited for $took ms"
+    if [ "$workers" = 2 ]; then ends 0 'a backup by two workers, one of which stops,'; else ends 55 'a backup whose worker stops'; fi
     kill -KILL "$worker" 2>/dev/null || true
 done
 is_whole
