@@ -1,7 +1,7 @@
 // A folder of the system's files, and what is below it by name.
 ghost use Rattle.std.specs.Prelude.{◌≡◌, Result, Ok, Err, None, Some, IfErr, IfOk, map, string_bytes};
 ghost use Rattle.std.specs.IoError.{error_kind};
-ghost use Rattle.base_devices.specs.States.{Opens};
+ghost use Rattle.base_devices.specs.States.{Opens, last_opened};
 ghost use Rattle.adapters_files.specs.Reported.{places_of, IsPathBelow, IsAbsence, WhereNoAbsence};
 
 use adapters_process::Call;

@@ -6,6 +6,7 @@ ghost use Rattle.base_devices.specs.DataFolder.{with_node, moved_node, with_empt
 ghost use Rattle.memory_devices.specs.Nodes.{node_of, nodes_at, tree_at, is_file, is_placed, may_make, may_begin, may_move, holds_nothing, Rooted, HasNode, HasTree, begun_if, tried_begin, tried_make, tried_move, with_longer};
 ghost use Rattle.memory_devices.specs.Counts.{is_to_fail, counted, tried, FailsWhere, FailsUnless, uncounted};
 ghost use Rattle.memory_devices.specs.Listed.{ListsNodes, ReadsKnown, known_bytes};
+ghost use Rattle.memory_devices.specs.Locks.{names_in};
 
 use crate::failing::Failing;
 use crate::nodes::{
