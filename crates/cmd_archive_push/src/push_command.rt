@@ -52,6 +52,12 @@ fn pushed_lines(alloc: Global, pushed: Pushed, name: &str) -> Result<String, All
     }
 }
 
+// The stanza's current cluster, which is the data folder's: its id, and what the data folder says of it.
+struct Current<'a> {
+    id: ArchiveId,
+    known: &'a Control,
+}
+
 // Stores the file that was opened.
 fn store<D: Disk, T: DataFolder>(
     alloc: Global,
@@ -59,13 +65,12 @@ fn store<D: Disk, T: DataFolder>(
     tree: &mut T,
     stanza: &str,
     order: &PushOrder<'_>,
-    known: &Control,
-    id: &ArchiveId,
+    at: &Current<'_>,
     log: &LogFile,
 ) -> Result<Outcome, Halt<PushFault>>
     requires opened { IsOpened (T.state tree.old).nodes (wal_path (wal_text order.now.name)) log.now }
-    requires fits { (id.now.version < 2 ^ 32) × (id.now.number < 2 ^ 32) }
-    requires current { IsIdOfCurrentIn stanza.now id.now known.now (D.state repo.old) (T.state tree.old) }
+    requires fits { (at.now.id.version < 2 ^ 32) × (at.now.id.number < 2 ^ 32) }
+    requires current { IsIdOfCurrentIn stanza.now at.now.id at.now.known.now (D.state repo.old) (T.state tree.old) }
     ensures does { DoesPush stanza.now order.now (T.state tree.old) result (D.state repo.old) (D.state repo.new) }
     ensures stored { IfOk result (StoresBy D.state T.state stanza.now order.now repo.old repo.new tree.old) }
     // No crash removes it.
@@ -83,9 +88,9 @@ fn store<D: Disk, T: DataFolder>(
         repo,
         tree,
         stanza,
-        id,
+        &at.id,
         &order.name,
-        known.system,
+        at.known.system,
         log,
         log.prefix(),
     ) {
@@ -127,5 +132,6 @@ pub fn push_file<D: Disk, T: DataFolder, K: Locks>(
 {
     let id = id_of(info, known)?;
     let log = open_log_file(alloc, tree, order.path, &order.text, limit_of(&order.name))?;
-    store(alloc, repo, tree, stanza, &order, known, &id, &log)
+    let at = Current { id, known };
+    store(alloc, repo, tree, stanza, &order, &at, &log)
 }

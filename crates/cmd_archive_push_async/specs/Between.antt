@@ -30,6 +30,7 @@ use Rattle.cmd_archive_push.specs.WalPath.{wal_path}
 use Rattle.archive_spool.specs.Marks.{named, GivesMarks}
 use Rattle.cmd_archive_push_async.specs.declared.files.push_marks.Drained.{Drained}
 use Rattle.cmd_archive_push_async.specs.declared.files.pushing.Tried.{Tried}
+use Rattle.cmd_archive_push_async.specs.declared.files.target.Target.{Target}
 use Rattle.cmd_archive_push_async.specs.Drained.{IsDrainOf, IsDrained, DrainCause, drain_early}
 use Rattle.cmd_archive_push_async.specs.Draining.{Drains, end_of}
 use Rattle.cmd_archive_push_async.specs.Ends.{EndCause, EndCauseOf, three}
@@ -78,23 +79,23 @@ ShowsSumOf name tree tried = (bytes : Text)
 
 module _ {D T : Type 0} (disk : D → DiskState) (folder : T → DataFolderState) where
   -- the repository changes by the store of the file, as far as the result says
-  abbrev pub GoesByPush : Text → ArchiveId → ArchiveName → Result Tried (Halt PushFault) → D → D → T → Type 0
-  GoesByPush stanza id name result repo new_repo tree = (bytes : Text)
+  abbrev pub GoesByPush : Target → ArchiveName → Result Tried (Halt PushFault) → D → D → T → Type 0
+  GoesByPush to name result repo new_repo tree = (bytes : Text)
       → known_file (folder tree).nodes (wal_path (wal_text name)) ≡ Some bytes
-      → GoesByStores stanza id (stored_of result (named name bytes)) (tried_of result (named name bytes))
+      → GoesByStores to.stanza.now to.id (stored_of result (named name bytes)) (tried_of result (named name bytes))
       (disk repo).view (disk new_repo).view
 
   -- this became of the file in the stanza that the repository represents
-  abbrev pub HasFate : Text → ArchiveId → ℕ → ArchiveName → D → T → Tried → Type 0
-  HasFate stanza id system name repo tree tried = (bytes : Text)
+  abbrev pub HasFate : Target → ArchiveName → D → T → Tried → Type 0
+  HasFate to name repo tree tried = (bytes : Text)
       → known_file (folder tree).nodes (wal_path (wal_text name)) ≡ Some bytes → (s : Stanza)
-      → IsSome (disk repo).view.now → NowRepresents stanza (Some s) (disk repo).view.now
-      → IsFateOf s id system name bytes (fate_of tried bytes)
+      → IsSome (disk repo).view.now → NowRepresents to.stanza.now (Some s) (disk repo).view.now
+      → IsFateOf s to.id to.system name bytes (fate_of tried bytes)
 
   -- why it is neither stored nor refused for its content
-  abbrev pub PushStops : Text → ArchiveId → ArchiveName → D → D → T → T → Halt PushFault → Type 0
-  PushStops stanza id name repo new_repo tree new_tree = HaltCause
-      (EndCause stanza id (folder tree).nodes (disk new_repo).view.now name)
+  abbrev pub PushStops : Target → ArchiveName → D → D → T → T → Halt PushFault → Type 0
+  PushStops to name repo new_repo tree new_tree = HaltCause
+      (EndCause to.stanza.now to.id (folder tree).nodes (disk new_repo).view.now name)
       (rose_in (three (Rises (disk repo).faults (disk new_repo).faults) ⊥
       (Rises (folder tree).faults (folder new_tree).faults)))
 
@@ -109,24 +110,24 @@ module _ {D S T : Type 0} (disk : D → DiskState) (spooled : S → DiskState) (
       (Rises (folder tree).faults (folder new_tree).faults))
 
   -- the two disks change by a drain of the file of this name
-  abbrev pub DrainsOne : Text → ArchiveId → ℕ → ArchiveName → Result Drained (Halt PushFault) → D → D → S → S → T
+  abbrev pub Records : Target → ArchiveName → Result Drained (Halt PushFault) → D → D → S → S → T
       → Type 0
-  DrainsOne stanza id system name result repo new_repo spool new_spool tree = (f : Nodes)
-      → (folder tree).nodes ≡ Some f → Drains stanza id system f (name ∷ []) (end_of result)
+  Records to name result repo new_repo spool new_spool tree = (f : Nodes)
+      → (folder tree).nodes ≡ Some f → Drains to.stanza.now to.id to.system f (name ∷ []) (end_of result)
       (disk repo).view (disk new_repo).view (spooled spool).view (spooled new_spool).view
 
   -- .. of the files of these names
-  abbrev pub DrainsFiles : Text → ArchiveId → ℕ → List ArchiveName → Result Drained (Halt PushFault)
+  abbrev pub DrainsFiles : Target → List ArchiveName → Result Drained (Halt PushFault)
       → D → D → S → S → T → Type 0
-  DrainsFiles stanza id system names result repo new_repo spool new_spool tree = (f : Nodes)
-      → (folder tree).nodes ≡ Some f → Drains stanza id system f names (end_of result)
+  DrainsFiles to names result repo new_repo spool new_spool tree = (f : Nodes)
+      → (folder tree).nodes ≡ Some f → Drains to.stanza.now to.id to.system f names (end_of result)
       (disk repo).view (disk new_repo).view (spooled spool).view (spooled new_spool).view
 
   -- .. after the marks of no use were removed
-  abbrev pub DrainsCleared : Text → ArchiveId → ℕ → List ArchiveName → Result Drained (Halt PushFault)
+  abbrev pub DrainsCleared : Target → List ArchiveName → Result Drained (Halt PushFault)
       → D → D → S → S → T → Type 0
-  DrainsCleared stanza id system names result repo new_repo spool new_spool tree = (f : Nodes)
-      → (folder tree).nodes ≡ Some f → DrainsNamed stanza id system f names (end_of result)
+  DrainsCleared to names result repo new_repo spool new_spool tree = (f : Nodes)
+      → (folder tree).nodes ≡ Some f → DrainsNamed to.stanza.now to.id to.system f names (end_of result)
       (disk repo).view (disk new_repo).view (spooled spool).view (spooled new_spool).view
 
   -- .. of the files that are ready
@@ -136,15 +137,15 @@ module _ {D S T : Type 0} (disk : D → DiskState) (spooled : S → DiskState) (
       (disk repo).view (disk new_repo).view (spooled spool).view (spooled new_spool).view
 
   -- why a drain of the file of this name ends
-  abbrev pub EndsAtFile : Text → ArchiveId → ArchiveName → D → D → S → S → T → T → Halt PushFault → Type 0
-  EndsAtFile stanza id name repo new_repo spool new_spool tree new_tree = HaltCause
-      (EndCause stanza id (folder tree).nodes (disk new_repo).view.now name)
+  abbrev pub EndsAtFile : Target → ArchiveName → D → D → S → S → T → T → Halt PushFault → Type 0
+  EndsAtFile to name repo new_repo spool new_spool tree new_tree = HaltCause
+      (EndCause to.stanza.now to.id (folder tree).nodes (disk new_repo).view.now name)
       (OneFails repo new_repo spool new_spool tree new_tree)
 
   -- .. of the files of these names
-  abbrev pub EndsAmong : Text → ArchiveId → List ArchiveName → D → D → S → S → T → T → Halt PushFault → Type 0
-  EndsAmong stanza id names repo new_repo spool new_spool tree new_tree = HaltCause
-      (EndCauseOf stanza id (folder tree).nodes (disk new_repo).view.now names)
+  abbrev pub EndsAmong : Target → List ArchiveName → D → D → S → S → T → T → Halt PushFault → Type 0
+  EndsAmong to names repo new_repo spool new_spool tree new_tree = HaltCause
+      (EndCauseOf to.stanza.now to.id (folder tree).nodes (disk new_repo).view.now names)
       (OneFails repo new_repo spool new_spool tree new_tree)
 
   -- .. of the files that are ready

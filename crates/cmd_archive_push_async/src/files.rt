@@ -24,6 +24,7 @@ mod marked_store;
 mod push_marks;
 mod pushing;
 mod ready;
+mod target;
 mod whole;
 
 pub use push_marks::Drained;

@@ -7,9 +7,10 @@ ghost use Rattle.cmd_archive_push_async.specs.Between.{DrainsFiles, DrainsCleare
 
 use crate::files::marked_store::store_file;
 use crate::files::push_marks::{Drained, of_spool};
+use crate::files::target::Target;
 use archive_spool::clear_marks;
 use base_devices::{DataFolder, Disk};
-use base_model::{ArchiveId, ArchiveName};
+use base_model::ArchiveName;
 use cmd_archive_push::PushFault;
 use cmd_types::Halt;
 use std::alloc::Global;
@@ -35,20 +36,18 @@ pub(crate) fn drain_files<D: Disk, S: Disk, T: DataFolder>(
     repo: &mut D,
     spool: &mut S,
     tree: &mut T,
-    stanza: &str,
-    id: ArchiveId,
-    system: u64,
+    to: &Target<'_>,
     names: &[ArchiveName],
 ) -> Result<Drained, Halt<PushFault>>
-    ensures drains { DrainsFiles D.state S.state T.state stanza.now id system names.now result
+    ensures drains { DrainsFiles D.state S.state T.state to.now names.now result
         repo.old repo.new spool.old spool.new tree.old }
-    ensures pair { KeepsPair stanza.now (D.state repo.old).view (D.state repo.new).view }
-    ensures repo_only { ChangesArchive stanza.now (D.state repo.old).view (D.state repo.new).view }
-    ensures spool_only { ChangesArchive stanza.now (S.state spool.old).view (S.state spool.new).view }
+    ensures pair { KeepsPair to.now.stanza.now (D.state repo.old).view (D.state repo.new).view }
+    ensures repo_only { ChangesArchive to.now.stanza.now (D.state repo.old).view (D.state repo.new).view }
+    ensures spool_only { ChangesArchive to.now.stanza.now (S.state spool.old).view (S.state spool.new).view }
     ensures repo_frame { CallsProperly (D.state repo.old) (D.state repo.new) }
     ensures spool_frame { CallsProperly (S.state spool.old) (S.state spool.new) }
     ensures looks { OnlyReadsFolder (T.state tree.old) (T.state tree.new) }
-    ensures cause { IfErr result (EndsAmong D.state S.state T.state stanza.now id names.now
+    ensures cause { IfErr result (EndsAmong D.state S.state T.state to.now names.now
         repo.old repo.new spool.old spool.new tree.old tree.new) }
 {
     let mut drained = Drained {
@@ -56,7 +55,7 @@ pub(crate) fn drain_files<D: Disk, S: Disk, T: DataFolder>(
         refused: 0,
     };
     for name in names {
-        let more = match store_file(alloc, repo, spool, tree, stanza, id, *name, system) {
+        let more = match store_file(alloc, repo, spool, tree, to, *name) {
             Ok(more) => more,
             Err(halt) => return Err(halt),
         };
@@ -72,24 +71,22 @@ pub(crate) fn drain_named<D: Disk, S: Disk, T: DataFolder>(
     repo: &mut D,
     spool: &mut S,
     tree: &mut T,
-    stanza: &str,
-    id: ArchiveId,
-    system: u64,
+    to: &Target<'_>,
     names: &[ArchiveName],
 ) -> Result<Drained, Halt<PushFault>>
-    ensures drains { DrainsCleared D.state S.state T.state stanza.now id system names.now result
+    ensures drains { DrainsCleared D.state S.state T.state to.now names.now result
         repo.old repo.new spool.old spool.new tree.old }
-    ensures pair { KeepsPair stanza.now (D.state repo.old).view (D.state repo.new).view }
-    ensures repo_only { ChangesArchive stanza.now (D.state repo.old).view (D.state repo.new).view }
-    ensures spool_only { ChangesArchive stanza.now (S.state spool.old).view (S.state spool.new).view }
+    ensures pair { KeepsPair to.now.stanza.now (D.state repo.old).view (D.state repo.new).view }
+    ensures repo_only { ChangesArchive to.now.stanza.now (D.state repo.old).view (D.state repo.new).view }
+    ensures spool_only { ChangesArchive to.now.stanza.now (S.state spool.old).view (S.state spool.new).view }
     ensures repo_frame { CallsProperly (D.state repo.old) (D.state repo.new) }
     ensures spool_frame { CallsProperly (S.state spool.old) (S.state spool.new) }
     ensures looks { OnlyReadsFolder (T.state tree.old) (T.state tree.new) }
-    ensures cause { IfErr result (EndsAmong D.state S.state T.state stanza.now id names.now
+    ensures cause { IfErr result (EndsAmong D.state S.state T.state to.now names.now
         repo.old repo.new spool.old spool.new tree.old tree.new) }
 {
-    match clear_marks(alloc, spool, stanza, names) {
-        Ok(()) => drain_files(alloc, repo, spool, tree, stanza, id, system, names),
+    match clear_marks(alloc, spool, to.stanza, names) {
+        Ok(()) => drain_files(alloc, repo, spool, tree, to, names),
         Err(fault) => Err(of_spool(fault)),
     }
 }

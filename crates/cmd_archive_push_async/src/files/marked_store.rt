@@ -7,12 +7,13 @@ ghost use Rattle.cmd_archive_push.specs.LogFile.{IsOpened};
 ghost use Rattle.cmd_archive_push.specs.WalPath.{wal_path};
 ghost use Rattle.cmd_archive_push_async.specs.Paired.{KeepsPair};
 ghost use Rattle.cmd_archive_push_async.specs.Ends.{SkipsMissing, is_missing};
-ghost use Rattle.cmd_archive_push_async.specs.Between.{DrainsOne, EndsAtFile};
+ghost use Rattle.cmd_archive_push_async.specs.Between.{Records, EndsAtFile};
 
 use crate::files::push_marks::{Drained, mark_tried};
 use crate::files::pushing::push_log;
+use crate::files::target::Target;
 use base_devices::{DataFolder, Disk};
-use base_model::{ArchiveId, ArchiveName};
+use base_model::ArchiveName;
 use cmd_archive_push::{LogFile, PushFault, limit_of, open_log_file};
 use cmd_types::Halt;
 use repo_names::archive_name_text;
@@ -58,27 +59,25 @@ fn store_log<D: Disk, S: Disk, T: DataFolder>(
     repo: &mut D,
     spool: &mut S,
     tree: &mut T,
-    stanza: &str,
-    id: ArchiveId,
+    to: &Target<'_>,
     name: ArchiveName,
-    system: u64,
     log: &LogFile,
 ) -> Result<Drained, Halt<PushFault>>
     requires opened { IsOpened (T.state tree.old).nodes (wal_path (wal_text name)) log.now }
-    ensures drains { DrainsOne D.state S.state T.state stanza.now id system name result
+    ensures drains { Records D.state S.state T.state to.now name result
         repo.old repo.new spool.old spool.new tree.old }
     ensures few { IfOk result (λ drained. drained.pushed + drained.refused ≤ 1) }
-    ensures pair { KeepsPair stanza.now (D.state repo.old).view (D.state repo.new).view }
-    ensures repo_only { ChangesArchive stanza.now (D.state repo.old).view (D.state repo.new).view }
-    ensures spool_only { ChangesArchive stanza.now (S.state spool.old).view (S.state spool.new).view }
+    ensures pair { KeepsPair to.now.stanza.now (D.state repo.old).view (D.state repo.new).view }
+    ensures repo_only { ChangesArchive to.now.stanza.now (D.state repo.old).view (D.state repo.new).view }
+    ensures spool_only { ChangesArchive to.now.stanza.now (S.state spool.old).view (S.state spool.new).view }
     ensures repo_frame { CallsProperly (D.state repo.old) (D.state repo.new) }
     ensures spool_frame { CallsProperly (S.state spool.old) (S.state spool.new) }
     ensures looks { OnlyReadsFolder (T.state tree.old) (T.state tree.new) }
-    ensures cause { IfErr result (EndsAtFile D.state S.state T.state stanza.now id name
+    ensures cause { IfErr result (EndsAtFile D.state S.state T.state to.now name
         repo.old repo.new spool.old spool.new tree.old tree.new) }
 {
-    match push_log(alloc, repo, tree, stanza, id, name, system, log) {
-        Ok(tried) => mark_tried(alloc, spool, stanza, name, &tried),
+    match push_log(alloc, repo, tree, to, name, log) {
+        Ok(tried) => mark_tried(alloc, spool, to.stanza, name, &tried),
         Err(halt) => Err(halt),
     }
 }
@@ -89,21 +88,19 @@ pub(crate) fn store_file<D: Disk, S: Disk, T: DataFolder>(
     repo: &mut D,
     spool: &mut S,
     tree: &mut T,
-    stanza: &str,
-    id: ArchiveId,
+    to: &Target<'_>,
     name: ArchiveName,
-    system: u64,
 ) -> Result<Drained, Halt<PushFault>>
-    ensures drains { DrainsOne D.state S.state T.state stanza.now id system name result
+    ensures drains { Records D.state S.state T.state to.now name result
         repo.old repo.new spool.old spool.new tree.old }
     ensures few { IfOk result (λ drained. drained.pushed + drained.refused ≤ 1) }
-    ensures pair { KeepsPair stanza.now (D.state repo.old).view (D.state repo.new).view }
-    ensures repo_only { ChangesArchive stanza.now (D.state repo.old).view (D.state repo.new).view }
-    ensures spool_only { ChangesArchive stanza.now (S.state spool.old).view (S.state spool.new).view }
+    ensures pair { KeepsPair to.now.stanza.now (D.state repo.old).view (D.state repo.new).view }
+    ensures repo_only { ChangesArchive to.now.stanza.now (D.state repo.old).view (D.state repo.new).view }
+    ensures spool_only { ChangesArchive to.now.stanza.now (S.state spool.old).view (S.state spool.new).view }
     ensures repo_frame { CallsProperly (D.state repo.old) (D.state repo.new) }
     ensures spool_frame { CallsProperly (S.state spool.old) (S.state spool.new) }
     ensures looks { OnlyReadsFolder (T.state tree.old) (T.state tree.new) }
-    ensures cause { IfErr result (EndsAtFile D.state S.state T.state stanza.now id name
+    ensures cause { IfErr result (EndsAtFile D.state S.state T.state to.now name
         repo.old repo.new spool.old spool.new tree.old tree.new) }
 {
     let Ok(text) = archive_name_text(alloc, &name) else {
@@ -114,5 +111,5 @@ pub(crate) fn store_file<D: Disk, S: Disk, T: DataFolder>(
         Ok(log) => log,
         Err(halt) => return skip_missing(halt),
     };
-    store_log(alloc, repo, spool, tree, stanza, id, name, system, &log)
+    store_log(alloc, repo, spool, tree, to, name, &log)
 }

@@ -11,9 +11,10 @@ ghost use Rattle.cmd_archive_push_async.specs.Paired.{KeepsPair};
 ghost use Rattle.cmd_archive_push_async.specs.Pushing.{IsHaltedBy};
 ghost use Rattle.cmd_archive_push_async.specs.Between.{ShowsSumOf, GoesByPush, HasFate, PushStops};
 
+use crate::files::target::Target;
 use archive_store::push_from;
 use base_devices::{DataFolder, Disk};
-use base_model::{ArchiveId, ArchiveName};
+use base_model::ArchiveName;
 use base_text::Sum;
 use cmd_archive_push::{LogFile, PushFault, content_text, of_store};
 use cmd_types::Halt;
@@ -46,30 +47,29 @@ pub(crate) fn push_log<D: Disk, T: DataFolder>(
     alloc: Global,
     repo: &mut D,
     tree: &mut T,
-    stanza: &str,
-    id: ArchiveId,
+    to: &Target<'_>,
     name: ArchiveName,
-    system: u64,
     log: &LogFile,
 ) -> Result<Tried, Halt<PushFault>>
     requires opened { IsOpened (T.state tree.old).nodes (wal_path (wal_text name)) log.now }
-    ensures goes { GoesByPush D.state T.state stanza.now id name result repo.old repo.new tree.old }
+    ensures goes { GoesByPush D.state T.state to.now name result repo.old repo.new tree.old }
     ensures sum { IfOk result (ShowsSumOf name (T.state tree.old)) }
-    ensures fate { IfOk result (HasFate D.state T.state stanza.now id system name repo.old tree.old) }
-    ensures pair { KeepsPair stanza.now (D.state repo.old).view (D.state repo.new).view }
-    ensures only { ChangesArchive stanza.now (D.state repo.old).view (D.state repo.new).view }
+    ensures fate { IfOk result (HasFate D.state T.state to.now name repo.old tree.old) }
+    ensures pair { KeepsPair to.now.stanza.now (D.state repo.old).view (D.state repo.new).view }
+    ensures only { ChangesArchive to.now.stanza.now (D.state repo.old).view (D.state repo.new).view }
     ensures frame { CallsProperly (D.state repo.old) (D.state repo.new) }
     ensures looks { OnlyReadsFolder (T.state tree.old) (T.state tree.new) }
-    ensures cause { IfErr result (PushStops D.state T.state stanza.now id name repo.old repo.new tree.old tree.new) }
+    ensures cause { IfErr result (PushStops D.state T.state to.now name repo.old repo.new tree.old tree.new) }
 {
+    let id = to.id;
     match push_from(
         alloc,
         repo,
         tree,
-        stanza,
+        to.stanza,
         &id,
         &name,
-        system,
+        to.system,
         log,
         log.prefix(),
     ) {

@@ -10,6 +10,7 @@ use crate::files::file_loop::drain_named;
 use crate::files::mark_sync::sync_marks;
 use crate::files::push_marks::Drained;
 use crate::files::ready::ready_names;
+use crate::files::target::Target;
 use base_devices::{DataFolder, Disk};
 use base_model::ArchiveId;
 use cmd_archive_push::PushFault;
@@ -45,7 +46,8 @@ pub fn drain<D: Disk, S: Disk, T: DataFolder>(
         Ok(names) => names,
         Err(halt) => return Err(halt),
     };
-    let drained = match drain_named(alloc, repo, spool, tree, stanza, id, system, &names) {
+    let to = Target { stanza, id, system };
+    let drained = match drain_named(alloc, repo, spool, tree, &to, &names) {
         Ok(drained) => drained,
         Err(halt) => return Err(halt),
     };

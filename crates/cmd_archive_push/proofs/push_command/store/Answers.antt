@@ -16,7 +16,7 @@ push_from-requires-clause-known g c =
 pub returns-in-Err-clause-does : goal.returns-in-Err-clause-does
 returns-in-Err-clause-does g c = λ command asked.
     let part = opened_part c.args.stanza.now c.args.order.now
-    (g.T.DataFolder.state c.args.tree.now).nodes c.args.log.now c.requires.opened c.args.id.now c.args.known.now
+    (g.T.DataFolder.state c.args.tree.now).nodes c.args.log.now c.requires.opened c.args.at.now.id c.args.at.now.known.now
     (g.D.Disk.state c.args.repo.now).view
     (g.D.Disk.state c.push_from.new.d).view c.requires.current c.push_from.ensures.leaves command asked in
     halt_did c.args.stanza.now command _ _ part c.of_store.result c.in-Err.fault c.of_store.ensures
@@ -24,13 +24,13 @@ returns-in-Err-clause-does g c = λ command asked.
 
 pub returns-in-Err-clause-agrees : goal.returns-in-Err-clause-agrees
 returns-in-Err-clause-agrees g c =
-    opened_agrees c.args.stanza.now c.args.order.now c.args.id.now c.requires.fits _
+    opened_agrees c.args.stanza.now c.args.order.now c.args.at.now.id c.requires.fits _
     (g.D.Disk.state c.args.repo.now).view (g.D.Disk.state c.push_from.new.d).view c.push_from.ensures.leaves.writes
 
 pub returns-in-Err-clause-cause : goal.returns-in-Err-clause-cause
 returns-in-Err-clause-cause g c =
     opened_ends c.args.stanza.now c.args.order.now
-    (g.T.DataFolder.state c.args.tree.now).nodes c.args.log.now c.requires.opened c.args.id.now c.args.known.now
+    (g.T.DataFolder.state c.args.tree.now).nodes c.args.log.now c.requires.opened c.args.at.now.id c.args.at.now.known.now
     (g.D.Disk.state c.args.repo.now).view.now
     (g.D.Disk.state c.push_from.new.d).view.now c.requires.current _ _ _ _ c.of_store.result c.in-Err.fault
     c.of_store.ensures c.in-Err.ensures.cause
@@ -40,14 +40,14 @@ returns-in-Err-clause-cause g c =
 pub returns-in_err-lines-in-Ok-clause-does : goal.returns-in_err-lines-in-Ok-clause-does
 returns-in_err-lines-in-Ok-clause-does g c = λ command asked.
     let part = opened_part c.args.stanza.now c.args.order.now
-    (g.T.DataFolder.state c.args.tree.now).nodes c.args.log.now c.requires.opened c.args.id.now c.args.known.now
+    (g.T.DataFolder.state c.args.tree.now).nodes c.args.log.now c.requires.opened c.args.at.now.id c.args.at.now.known.now
     (g.D.Disk.state c.args.repo.now).view
     (g.D.Disk.state c.push_from.new.d).view c.requires.current c.push_from.ensures.leaves command asked in
     memory_did c.args.stanza.now command _ _ part c.from_residual.result c.from_residual.ensures.1
 
 pub returns-in_err-lines-in-Ok-clause-agrees : goal.returns-in_err-lines-in-Ok-clause-agrees
 returns-in_err-lines-in-Ok-clause-agrees g c =
-    opened_agrees c.args.stanza.now c.args.order.now c.args.id.now c.requires.fits _
+    opened_agrees c.args.stanza.now c.args.order.now c.args.at.now.id c.requires.fits _
     (g.D.Disk.state c.args.repo.now).view (g.D.Disk.state c.push_from.new.d).view c.push_from.ensures.leaves.writes
 
 -- ---- it was stored
@@ -55,32 +55,32 @@ returns-in_err-lines-in-Ok-clause-agrees g c =
 pub returns-in_ok-lines-in-Ok-clause-does : goal.returns-in_ok-lines-in-Ok-clause-does
 returns-in_ok-lines-in-Ok-clause-does g c = λ command asked.
     let part = opened_part c.args.stanza.now c.args.order.now
-    (g.T.DataFolder.state c.args.tree.now).nodes c.args.log.now c.requires.opened c.args.id.now c.args.known.now
+    (g.T.DataFolder.state c.args.tree.now).nodes c.args.log.now c.requires.opened c.args.at.now.id c.args.at.now.known.now
     (g.D.Disk.state c.args.repo.now).view
     (g.D.Disk.state c.push_from.new.d).view c.requires.current c.push_from.ensures.leaves command asked in
     end_did c.args.stanza.now command _ _ part
     (opened_whole c.args.stanza.now c.args.order.now
-    (g.T.DataFolder.state c.args.tree.now).nodes c.args.log.now c.requires.opened c.args.id.now c.args.known.now
+    (g.T.DataFolder.state c.args.tree.now).nodes c.args.log.now c.requires.opened c.args.at.now.id c.args.at.now.known.now
     (g.D.Disk.state c.args.repo.now).view
     (g.D.Disk.state c.push_from.new.d).view c.requires.current c.push_from.ensures.leaves c.in-Ok.ensures.file command asked)
 
 pub returns-in_ok-lines-in-Ok-clause-lasts : goal.returns-in_ok-lines-in-Ok-clause-lasts
 returns-in_ok-lines-in-Ok-clause-lasts g c = λ synced some.
     opened_lasts c.args.stanza.now c.args.order.now
-    (g.T.DataFolder.state c.args.tree.now).nodes c.args.log.now c.requires.opened c.args.id.now c.args.known.now
+    (g.T.DataFolder.state c.args.tree.now).nodes c.args.log.now c.requires.opened c.args.at.now.id c.args.at.now.known.now
     (g.D.Disk.state c.args.repo.now).view
     (g.D.Disk.state c.push_from.new.d).view c.requires.current c.push_from.ensures.leaves c.requires.fits
     c.in-Ok.ensures.file synced some
 
 pub returns-in_ok-lines-in-Ok-clause-agrees : goal.returns-in_ok-lines-in-Ok-clause-agrees
 returns-in_ok-lines-in-Ok-clause-agrees g c =
-    opened_agrees c.args.stanza.now c.args.order.now c.args.id.now c.requires.fits _
+    opened_agrees c.args.stanza.now c.args.order.now c.args.at.now.id c.requires.fits _
     (g.D.Disk.state c.args.repo.now).view (g.D.Disk.state c.push_from.new.d).view c.push_from.ensures.leaves.writes
 
 pub returns-in_ok-lines-in-Ok-clause-stored : goal.returns-in_ok-lines-in-Ok-clause-stored
 returns-in_ok-lines-in-Ok-clause-stored g c =
     opened_stored c.args.stanza.now c.args.order.now
-    (g.T.DataFolder.state c.args.tree.now).nodes c.args.log.now c.requires.opened c.args.id.now c.args.known.now
+    (g.T.DataFolder.state c.args.tree.now).nodes c.args.log.now c.requires.opened c.args.at.now.id c.args.at.now.known.now
     (g.D.Disk.state c.args.repo.now).view.now
     (g.D.Disk.state c.push_from.new.d).view.now c.requires.current _ _ _ c.in-Ok.pushed _
     (c.in_ok-lines-in-Ok.ensures ∙ ap (pushed_lines c.in-Ok.pushed) (c.deref.ensures ∙ c.args.order.now.spelled))
@@ -97,15 +97,15 @@ returns-in_ok-lines-in-Ok-clause-beside g c = archive_beside c.args.stanza.now _
 
 pub returns-in-Err-clause-alike : goal.returns-in-Err-clause-alike
 returns-in-Err-clause-alike g c =
-    opened_alike c.args.stanza.now c.args.order.now c.args.id.now c.requires.fits _
+    opened_alike c.args.stanza.now c.args.order.now c.args.at.now.id c.requires.fits _
     (g.D.Disk.state c.args.repo.now).view (g.D.Disk.state c.push_from.new.d).view c.push_from.ensures.leaves.writes
 
 pub returns-in_err-lines-in-Ok-clause-alike : goal.returns-in_err-lines-in-Ok-clause-alike
 returns-in_err-lines-in-Ok-clause-alike g c =
-    opened_alike c.args.stanza.now c.args.order.now c.args.id.now c.requires.fits _
+    opened_alike c.args.stanza.now c.args.order.now c.args.at.now.id c.requires.fits _
     (g.D.Disk.state c.args.repo.now).view (g.D.Disk.state c.push_from.new.d).view c.push_from.ensures.leaves.writes
 
 pub returns-in_ok-lines-in-Ok-clause-alike : goal.returns-in_ok-lines-in-Ok-clause-alike
 returns-in_ok-lines-in-Ok-clause-alike g c =
-    opened_alike c.args.stanza.now c.args.order.now c.args.id.now c.requires.fits _
+    opened_alike c.args.stanza.now c.args.order.now c.args.at.now.id c.requires.fits _
     (g.D.Disk.state c.args.repo.now).view (g.D.Disk.state c.push_from.new.d).view c.push_from.ensures.leaves.writes

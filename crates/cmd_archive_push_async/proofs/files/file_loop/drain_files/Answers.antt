@@ -6,9 +6,9 @@ use Rattle.cmd_archive_push_async.proofs.files.file_loop.drain_files.Goals as go
 
 pub loop-name-init : goal.loop-name-init
 loop-name-init g c = record {
-  drains = λ f is. drains_none c.args.stanza.now c.args.id c.args.system f _ refl refl _ _;
+  drains = λ f is. drains_none c.args.to.now.stanza.now c.args.to.now.id c.args.to.now.system f _ refl refl _ _;
   few = omega arith;
-  pair = pair_same c.args.stanza.now _;
+  pair = pair_same c.args.to.now.stanza.now _;
   repo_only = only_none _ _;
   spool_only = only_none _ _;
   repo_frame = record { opened = refl; proper = refl; later = omega arith };
@@ -19,24 +19,24 @@ loop-name-init g c = record {
 pub returns-in-Err-clause-drains : goal.returns-in-Err-clause-drains
 returns-in-Err-clause-drains g c = λ f is.
     let i = c.loop-name.invariant in
-    drains_so_far c.args.stanza.now c.args.id c.args.system f c.args.names.now c.loop-name.name-index _ c.loop-name-test.true _ _ _ _ _ _ _ (i.drains f is)
-    (drains_by c.args.stanza.now c.args.id c.args.system f _ _ _ _ _ c.store_file.result (Err c.in-Err.halt) c.in-Err.is (c.store_file.ensures.drains f (i.looks.nodes ∙ is)))
+    drains_so_far c.args.to.now.stanza.now c.args.to.now.id c.args.to.now.system f c.args.names.now c.loop-name.name-index _ c.loop-name-test.true _ _ _ _ _ _ _ (i.drains f is)
+    (drains_by c.args.to.now.stanza.now c.args.to.now.id c.args.to.now.system f _ _ _ _ _ c.store_file.result (Err c.in-Err.halt) c.in-Err.is (c.store_file.ensures.drains f (i.looks.nodes ∙ is)))
 
 pub returns-in-Err-clause-cause : goal.returns-in-Err-clause-cause
 returns-in-Err-clause-cause g c =
     let i = c.loop-name.invariant in
-    so_far_ends c.args.stanza.now c.args.id _ _ _ c.args.names.now c.loop-name.name-index _ c.loop-name-test.true i.looks.nodes _ _ _ _ _ _ _ _ _ i.repo_frame.later i.spool_frame.later i.looks.later c.in-Err.halt c.in-Err.ensures.cause
+    so_far_ends c.args.to.now.stanza.now c.args.to.now.id _ _ _ c.args.names.now c.loop-name.name-index _ c.loop-name-test.true i.looks.nodes _ _ _ _ _ _ _ _ _ i.repo_frame.later i.spool_frame.later i.looks.later c.in-Err.halt c.in-Err.ensures.cause
 
 pub loop-name-preserved : goal.loop-name-preserved
 loop-name-preserved g c =
     let i = c.loop-name.invariant in
     let e = c.store_file.ensures in
     record {
-      drains = λ f is. drains_next c.args.stanza.now c.args.id c.args.system f c.args.names.now c.loop-name.name-index _ c.loop-name-test.true _ _ _ _ _ _ _ (i.drains f is)
+      drains = λ f is. drains_next c.args.to.now.stanza.now c.args.to.now.id c.args.to.now.system f c.args.names.now c.loop-name.name-index _ c.loop-name-test.true _ _ _ _ _ _ _ (i.drains f is)
           c.in-Ok.more c.with-drained.result c.with-drained.ensures.pushed c.with-drained.ensures.refused
-          (drains_by c.args.stanza.now c.args.id c.args.system f _ _ _ _ _ c.store_file.result (Ok c.in-Ok.more) c.in-Ok.is (e.drains f (i.looks.nodes ∙ is)));
+          (drains_by c.args.to.now.stanza.now c.args.to.now.id c.args.to.now.system f _ _ _ _ _ c.store_file.result (Ok c.in-Ok.more) c.in-Ok.is (e.drains f (i.looks.nodes ∙ is)));
       few = omega (arith, i.few, c.in-Ok.ensures.few, c.with-drained.ensures.pushed, c.with-drained.ensures.refused);
-      pair = pair_on c.args.stanza.now _ _ _ i.pair e.pair;
+      pair = pair_on c.args.to.now.stanza.now _ _ _ i.pair e.pair;
       repo_only = only_on _ _ _ _ i.repo_only e.repo_only;
       spool_only = only_on _ _ _ _ i.spool_only e.spool_only;
       repo_frame = record { opened = e.repo_frame.opened ∙ i.repo_frame.opened; proper = e.repo_frame.proper ∙ i.repo_frame.proper; later = omega (arith, i.repo_frame.later, e.repo_frame.later) };
@@ -45,7 +45,7 @@ loop-name-preserved g c =
     }
 
 pub returns-clause-drains : goal.returns-clause-drains
-returns-clause-drains g c = λ f is. drains_end c.args.stanza.now c.args.id c.args.system f c.args.names.now c.loop-name.name-index _ _ _ _ _ c.loop-name-test.false (c.loop-name.invariant.drains f is)
+returns-clause-drains g c = λ f is. drains_end c.args.to.now.stanza.now c.args.to.now.id c.args.to.now.system f c.args.names.now c.loop-name.name-index _ _ _ _ _ c.loop-name-test.false (c.loop-name.invariant.drains f is)
 
 pub returns-in-Err-clause-pair : goal.returns-in-Err-clause-pair
-returns-in-Err-clause-pair g c = pair_on c.args.stanza.now _ _ _ c.loop-name.invariant.pair c.store_file.ensures.pair
+returns-in-Err-clause-pair g c = pair_on c.args.to.now.stanza.now _ _ _ c.loop-name.invariant.pair c.store_file.ensures.pair

@@ -10,7 +10,7 @@ use Rattle.cmd_archive_push_async.proofs.files.file_loop.drain_named.Goals as go
 
 pub returns-in-Ok-clause-drains : goal.returns-in-Ok-clause-drains
 returns-in-Ok-clause-drains g c = λ f is.
-    named_drains c.args.stanza.now c.args.id c.args.system f c.args.names.now _ _ _ _ _ _ (g.met.S.Disk.now_may_be_left c.args.spool.now) (g.met.S.Disk.now_may_be_left c.drain_files.new.spool)
+    named_drains c.args.to.now.stanza.now c.args.to.now.id c.args.to.now.system f c.args.names.now _ _ _ _ _ _ (g.met.S.Disk.now_may_be_left c.args.spool.now) (g.met.S.Disk.now_may_be_left c.drain_files.new.spool)
     c.clear_marks.ensures.marks c.clear_marks.ensures.clears (λ some. c.in-Ok.ensures.cleared) (c.drain_files.ensures.drains f is)
 
 pub returns-in-Ok-clause-spool_only : goal.returns-in-Ok-clause-spool_only
@@ -21,7 +21,7 @@ returns-in-Ok-clause-cause g c = cleared_ends _ _ _ _ _ _ c.clear_marks.ensures.
 
 pub returns-in-Err-clause-drains : goal.returns-in-Err-clause-drains
 returns-in-Err-clause-drains g c = λ f is.
-    unclear_drains c.args.stanza.now c.args.id c.args.system f c.args.names.now _ _ _ (g.met.S.Disk.now_may_be_left c.args.spool.now) (g.met.S.Disk.now_may_be_left c.clear_marks.new.spool)
+    unclear_drains c.args.to.now.stanza.now c.args.to.now.id c.args.to.now.system f c.args.names.now _ _ _ (g.met.S.Disk.now_may_be_left c.args.spool.now) (g.met.S.Disk.now_may_be_left c.clear_marks.new.spool)
     c.clear_marks.ensures.marks c.clear_marks.ensures.clears
 
 pub returns-in-Err-clause-repo_only : goal.returns-in-Err-clause-repo_only
@@ -33,4 +33,4 @@ returns-in-Err-clause-cause g c = ends_by_spool _ _ _ _ c.of_spool.result
     (spool_cause (Rises (g.S.Disk.state c.args.spool.now).faults (g.S.Disk.state c.clear_marks.new.spool).faults) c.clear_marks.result c.in-Err.fault c.in-Err.is c.clear_marks.ensures.cause))
 
 pub returns-in-Err-clause-pair : goal.returns-in-Err-clause-pair
-returns-in-Err-clause-pair g c = pair_same c.args.stanza.now _
+returns-in-Err-clause-pair g c = pair_same c.args.to.now.stanza.now _

@@ -11,7 +11,7 @@ use Rattle.cmd_archive_push_async.proofs.Paired.{pair_same}
 use Rattle.cmd_archive_push_async.proofs.files.marked_store.store_file.Goals as goal
 
 pub returns-in_default-clause-drains : goal.returns-in_default-clause-drains
-returns-in_default-clause-drains g c = λ f is. drains_not c.args.stanza.now c.args.id c.args.system f (c.args.name ∷ []) _ _
+returns-in_default-clause-drains g c = λ f is. drains_not c.args.to.now.stanza.now c.args.to.now.id c.args.to.now.system f (c.args.name ∷ []) _ _
 
 pub returns-in_default-clause-repo_only : goal.returns-in_default-clause-repo_only
 returns-in_default-clause-repo_only g c = only_none _ _
@@ -31,16 +31,16 @@ returns-clause-drains g c = λ f is. c.store_log.ensures.drains f (c.open_log_fi
 
 pub returns-clause-cause : goal.returns-clause-cause
 returns-clause-cause g c =
-    later_ends c.args.stanza.now c.args.id _ _ _ c.args.name _ _ _ _ _ c.open_log_file.ensures.looks.nodes c.open_log_file.ensures.looks.later c.store_log.result c.store_log.ensures.cause
+    later_ends c.args.to.now.stanza.now c.args.to.now.id _ _ _ c.args.name _ _ _ _ _ c.open_log_file.ensures.looks.nodes c.open_log_file.ensures.looks.later c.store_log.result c.store_log.ensures.cause
 
 pub returns-in-Err-clause-drains : goal.returns-in-Err-clause-drains
 returns-in-Err-clause-drains g c = λ f is.
-    look_drains c.args.stanza.now c.args.id (g.T.DataFolder.state c.args.tree.now).nodes (g.D.Disk.state c.args.repo.now).view.now c.args.name c.as_str.result.now c.as_str-2.result.now c.limit_of-limit.result ⊥ ⊥ _
-    (c.as_str-2.ensures.value ∙ c.in-Ok.ensures) c.limit_of-limit.ensures.limit c.args.system f is c.in-Err.halt c.in-Err.ensures.cause c.skip_missing.result c.skip_missing.ensures _ _
+    look_drains c.args.to.now.stanza.now c.args.to.now.id (g.T.DataFolder.state c.args.tree.now).nodes (g.D.Disk.state c.args.repo.now).view.now c.args.name c.as_str.result.now c.as_str-2.result.now c.limit_of-limit.result ⊥ ⊥ _
+    (c.as_str-2.ensures.value ∙ c.in-Ok.ensures) c.limit_of-limit.ensures.limit c.args.to.now.system f is c.in-Err.halt c.in-Err.ensures.cause c.skip_missing.result c.skip_missing.ensures _ _
 
 pub returns-in-Err-clause-cause : goal.returns-in-Err-clause-cause
 returns-in-Err-clause-cause g c =
-    look_ends c.args.stanza.now c.args.id (g.T.DataFolder.state c.args.tree.now).nodes (g.D.Disk.state c.args.repo.now).view.now c.args.name c.as_str.result.now c.as_str-2.result.now c.limit_of-limit.result _ _ _
+    look_ends c.args.to.now.stanza.now c.args.to.now.id (g.T.DataFolder.state c.args.tree.now).nodes (g.D.Disk.state c.args.repo.now).view.now c.args.name c.as_str.result.now c.as_str-2.result.now c.limit_of-limit.result _ _ _
     (c.as_str-2.ensures.value ∙ c.in-Ok.ensures) c.limit_of-limit.ensures.limit c.in-Err.halt c.in-Err.ensures.cause c.skip_missing.result c.skip_missing.ensures
 
 pub returns-in-Err-clause-few : goal.returns-in-Err-clause-few
@@ -53,7 +53,7 @@ pub returns-in-Err-clause-spool_only : goal.returns-in-Err-clause-spool_only
 returns-in-Err-clause-spool_only g c = only_none _ _
 
 pub returns-in_default-clause-pair : goal.returns-in_default-clause-pair
-returns-in_default-clause-pair g c = pair_same c.args.stanza.now _
+returns-in_default-clause-pair g c = pair_same c.args.to.now.stanza.now _
 
 pub returns-in-Err-clause-pair : goal.returns-in-Err-clause-pair
-returns-in-Err-clause-pair g c = pair_same c.args.stanza.now _
+returns-in-Err-clause-pair g c = pair_same c.args.to.now.stanza.now _
