@@ -53,6 +53,7 @@ fn pushed_lines(alloc: Global, pushed: Pushed, name: &str) -> Result<String, All
 }
 
 // The stanza's current cluster, which is the data folder's: its id, and what the data folder says of it.
+#[derive(Drop)]
 struct Current<'a> {
     id: ArchiveId,
     known: &'a Control,
