@@ -27,7 +27,7 @@ pub(crate) struct Silence {
 impl Silence {
     // How long its silence may last, once it was waited for.
     fn rest(&self) -> u64 {
-        let rest = self.longest.saturating_sub(AT_ONCE).max(1);
+        let rest = self.longest.saturating_sub(AT_ONCE).max(AT_ONCE);
         rest.saturating_sub(self.so_far).max(rest.min(LOOK))
     }
 }
