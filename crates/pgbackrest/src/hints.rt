@@ -162,7 +162,7 @@ const HINTS: &[(&str, &str, &str)] = &[
     (
         "055",
         "",
-        "see the system's log, as for a lack of memory; try a smaller --process-max",
+        "see the system's log, as for a lack of memory or a disk that hangs; try a smaller --process-max",
     ),
     (
         "056",
