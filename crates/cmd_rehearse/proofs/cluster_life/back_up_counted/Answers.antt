@@ -25,8 +25,8 @@ use Rattle.cmd_rehearse.proofs.Pushes.{err_as}
 use Rattle.cmd_rehearse.proofs.Taken.{held_too}
 use Rattle.cmd_rehearse.proofs.cluster_life.back_up_counted.Goals as goal
 
-pub back_up-requires-clause-locked : goal.back_up-requires-clause-locked
-back_up-requires-clause-locked g c = held_too (backup_lock c.args.step.now.stanza.now) (archive_lock c.args.step.now.stanza.now) (g.K.Locks.state c.args.locks.now).taken c.requires.locked
+pub back_up-ended-requires-clause-locked : goal.back_up-ended-requires-clause-locked
+back_up-ended-requires-clause-locked g c = held_too (backup_lock c.args.step.now.stanza.now) (archive_lock c.args.step.now.stanza.now) (g.K.Locks.state c.args.locks.now).taken c.requires.locked
 
 pub returns-in_err-others-clause-advances : goal.returns-in_err-others-clause-advances
 returns-in_err-others-clause-advances g c =
