@@ -313,19 +313,6 @@ went_turn stanza id segment bytes v d went known is turn ended =
 pub went_stored : (went known : PushResult) (P : Type 0) → went ≡ known → IfStored known P → IfStored went P
 went_stored went known P is h = subst (λ (k : PushResult). IfStored k P) (sym is) h
 
--- the same by bytes that are these
-pub turn_at : (stanza : Text) (id : ArchiveId) (segment : Segment) (first bytes : Text) (v d : View) (went : PushResult) → first ≡ bytes
-    → ((ended : Bool) → MayEnd went ended → GoesByTurn stanza (turn_of id segment first (was_tried went) ended) v d)
-    → (ended : Bool) → MayEnd went ended → GoesByTurn stanza (turn_of id segment bytes (was_tried went) ended) v d
-turn_at stanza id segment first bytes v d went is h =
-    subst (λ (b : Text). (ended : Bool) → MayEnd went ended → GoesByTurn stanza (turn_of id segment b (was_tried went) ended) v d) is h
-
-pub stored_at : (stanza : Text) (id : ArchiveId) (segment : Segment) (first bytes : Text) (v d : View) (went : PushResult) → first ≡ bytes
-    → IfStored went ((q : Repository) (log : List Done) → IsSome v.now → KeepsRepository stanza q log v → HasFile stanza id segment (sha1 first) d)
-    → IfStored went ((q : Repository) (log : List Done) → IsSome v.now → KeepsRepository stanza q log v → HasFile stanza id segment (sha1 bytes) d)
-stored_at stanza id segment first bytes v d went is h =
-    subst (λ (b : Text). IfStored went ((q : Repository) (log : List Done) → IsSome v.now → KeepsRepository stanza q log v → HasFile stanza id segment (sha1 b) d)) is h
-
 -- a stanza that was begun is still so after calls that only read
 pub begun_still : (stanza : Text) (a b : View) → LeavesNoMore a b → b.now ≡ a.now → (q : Repository) (log : List Done) → IsBegun stanza q log a → IsBegun stanza q log b
 begun_still stanza a b rests same q log x = record { repository = x.repository; reached = x.reached; sound = x.sound; steady = steady_rests stanza x.repository a b rests same x.steady }

@@ -28,7 +28,6 @@ use Rattle.archive_store.specs.declared.pushing.Pushed.{Pushed}
 use Rattle.memory_processes.specs.declared.pushing.PushResult.{PushResult}
 use Rattle.memory_processes.specs.declared.pushing.PushResult.TheVariants.{Nothing, Stored, Tried, Refused}
 use Rattle.memory_processes.specs.declared.pushing.MarkNames.{MarkNames}
-use Rattle.memory_processes.specs.declared.turn.OtherPush.{OtherPush}
 use Rattle.archive_lookup.specs.Turns.{HadReceipt, GoesByTurn, LeavesMarks}
 
 -- the result of a push that answered so: a file that is refused for its content is passed over
@@ -137,14 +136,14 @@ StoresIfThere stanza id segment repo there = there ≡ true
     → IfSome repo.view.now (λ f. (sum : Text) × Stores stanza id (Whole segment) f sum)
 
 -- the repository changes as by a step of others with this result, however that may end
-abbrev pub TurnsByPush : Text → OtherPush → PushResult → DiskState → DiskState → Type 0
-TurnsByPush stanza p went old new = (ended : Bool) → MayEnd went ended
-    → GoesByTurn stanza (turn_of p.id p.segment p.bytes.items (was_tried went) ended) old.view new.view
+abbrev pub TurnsByPush : Text → ArchiveId → Segment → Text → PushResult → DiskState → DiskState → Type 0
+TurnsByPush stanza id segment bytes went old new = (ended : Bool) → MayEnd went ended
+    → GoesByTurn stanza (turn_of id segment bytes (was_tried went) ended) old.view new.view
 
 -- where the repository kept a log it has the segment, and so has all that a crash leaves
-abbrev pub HoldsFile : Text → OtherPush → DiskState → DiskState → Type 0
-HoldsFile stanza p old new = (q : Repository) (log : List Done) → IsSome old.view.now
-    → KeepsRepository stanza q log old.view → HasFile stanza p.id p.segment (sha1 p.bytes.items) new.view
+abbrev pub HoldsFile : Text → ArchiveId → Segment → Text → DiskState → DiskState → Type 0
+HoldsFile stanza id segment bytes old new = (q : Repository) (log : List Done) → IsSome old.view.now
+    → KeepsRepository stanza q log old.view → HasFile stanza id segment (sha1 bytes) new.view
 
 -- the segment's receipt is put or not, in all that a crash leaves too, where its name wasn't unsynced
 abbrev pub MayPutReceipt : Text → Segment → Text → DiskState → DiskState → Type 0

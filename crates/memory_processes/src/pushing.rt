@@ -10,7 +10,6 @@ ghost use Rattle.base_model.specs.Represents.{IsArchivePlace};
 ghost use Rattle.archive_lookup.specs.Stored.{ChangesArchive};
 ghost use Rattle.memory_processes.specs.Pushing.{went_of, spool_stop_of, was_tried, MayEnd, IfStored, IfDeviceError, IsRepoFault, IsSpoolFault, StopsBy, AreMarkNamesOf, BeginsLog, StoresIfThere, TurnsByPush, HoldsFile, MayPutReceipt, PutsReceipt, GivesMark, LeavesMark};
 
-use crate::turn::OtherPush;
 use archive_lookup::{ArchiveFault, Look, TurnError, file_names, look_for};
 use archive_store::{Pushed, push};
 use base_devices::Disk;
@@ -104,25 +103,27 @@ pub(crate) fn push_after<D: Disk>(
     alloc: Global,
     d: &mut D,
     stanza: &str,
-    other: &OtherPush,
+    id: ArchiveId,
+    before: Segment,
+    segment: Segment,
+    system: u64,
+    bytes: &[u8],
 ) -> PushResult
-    ensures turn { TurnsByPush stanza.now other.now result (D.state d.old) (D.state d.new) }
-    ensures stored { IfStored result (HoldsFile stanza.now other.now (D.state d.old) (D.state d.new)) }
+    ensures turn { TurnsByPush stanza.now id segment bytes.now result (D.state d.old) (D.state d.new) }
+    ensures stored { IfStored result (HoldsFile stanza.now id segment bytes.now (D.state d.old) (D.state d.new)) }
     ensures only { ChangesArchive stanza.now (D.state d.old).view (D.state d.new).view }
     ensures frame { CallsProperly (D.state d.old) (D.state d.new) }
     ensures cause { IfDeviceError result (IsRepoFault (Rises (D.state d.old).faults (D.state d.new).faults)) }
 {
-    let id = other.id;
-    let segment = other.segment;
-    match may_push(alloc, d, stanza, &id, &other.before) {
+    match may_push(alloc, d, stanza, &id, &before) {
         Ok(true) => went_by(push(
             alloc,
             d,
             stanza,
             &id,
             &ArchiveName::Segment(segment),
-            other.system,
-            &other.bytes,
+            system,
+            bytes,
         )),
         Ok(false) => PushResult::Nothing,
         Err(error) => PushResult::Refused(error),

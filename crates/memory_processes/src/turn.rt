@@ -82,7 +82,16 @@ impl OtherTurn {
                 done: Ok(()),
             },
             Some(push) => {
-                let went = push_after(alloc, repo, stanza, push);
+                let went = push_after(
+                    alloc,
+                    repo,
+                    stanza,
+                    push.id,
+                    push.before,
+                    push.segment,
+                    push.system,
+                    &push.bytes,
+                );
                 let done = end_turn(alloc, spool, stanza, push.segment, &push.bytes, went);
                 Came {
                     tried: went.was_tried(),

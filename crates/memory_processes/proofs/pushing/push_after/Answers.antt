@@ -5,29 +5,26 @@ use Rattle.base_text.proofs.Digests.{IsSum-sha1}
 use Rattle.base_model.specs.declared.wal.ArchiveName.TheVariants.{Segment as Whole}
 use Rattle.base_model.specs.Represents.{IsArchivePlace}
 use Rattle.base_model.specs.Text.{Text}
-use Rattle.memory_processes.proofs.Pushed.{turn_by, has_by, turn_none, went_turn, went_stored, only_after, turn_at, stored_at}
+use Rattle.memory_processes.proofs.Pushed.{turn_by, has_by, turn_none, went_turn, went_stored, only_after}
 use Rattle.memory_processes.proofs.pushing.push_after.Goals as goal
 
 pub returns-in-Ok-true-clause-turn : goal.returns-in-Ok-true-clause-turn
-returns-in-Ok-true-clause-turn g c =
-    turn_at c.args.stanza.now c.args.other.now.id c.args.other.now.segment _ _ _ _ _ c.deref.ensures.value
-    (went_turn c.args.stanza.now c.args.other.now.id c.args.other.now.segment c.deref.result.now _ _ _ _ c.went_by.ensures
-    (turn_by c.args.stanza.now c.args.other.now.id c.args.other.now.before c.args.other.now.segment c.deref.result.now _ _ _ c.may_push.ensures.looks.time c.may_push.ensures.looks.now c.in-Ok-true.ensures.begun c.in-Ok-true.ensures.fits (c.in-Ok-true.ensures.stored c.in-Ok-true.field-0-test)
-    c.push.ensures.leaves.part c.push.result c.push.ensures.file c.push.ensures.refused))
+returns-in-Ok-true-clause-turn g c = went_turn c.args.stanza.now c.args.id c.args.segment c.args.bytes.now _ _ _ _ c.went_by.ensures
+    (turn_by c.args.stanza.now c.args.id c.args.before c.args.segment c.args.bytes.now _ _ _ c.may_push.ensures.looks.time c.may_push.ensures.looks.now c.in-Ok-true.ensures.begun c.in-Ok-true.ensures.fits (c.in-Ok-true.ensures.stored c.in-Ok-true.field-0-test)
+    c.push.ensures.leaves.part c.push.result c.push.ensures.file c.push.ensures.refused)
 
 pub returns-in-Ok-true-clause-stored : goal.returns-in-Ok-true-clause-stored
 returns-in-Ok-true-clause-stored g c =
-    let fits : (sum : Text) → IsSum sum → IsArchivePlace c.args.other.now.id (Whole c.args.other.now.segment) sum = search rules in
-    stored_at c.args.stanza.now c.args.other.now.id c.args.other.now.segment _ _ _ _ _ c.deref.ensures.value
-    (went_stored c.went_by.result _ _ c.went_by.ensures
-    (has_by c.args.stanza.now c.args.other.now.id c.args.other.now.before c.args.other.now.segment c.deref.result.now (g.D.Disk.state c.args.d.now).view _ _ c.may_push.ensures.looks.time c.may_push.ensures.looks.now c.in-Ok-true.ensures.begun c.in-Ok-true.ensures.fits (c.in-Ok-true.ensures.stored c.in-Ok-true.field-0-test)
-    c.push.ensures.leaves.part (fits (sha1 c.deref.result.now) (IsSum-sha1 c.deref.result.now)) c.push.result c.push.ensures.file c.push.ensures.written c.push.ensures.same))
+    let fits : (sum : Text) → IsSum sum → IsArchivePlace c.args.id (Whole c.args.segment) sum = search rules in
+    went_stored c.went_by.result _ _ c.went_by.ensures
+    (has_by c.args.stanza.now c.args.id c.args.before c.args.segment c.args.bytes.now (g.D.Disk.state c.args.d.now).view _ _ c.may_push.ensures.looks.time c.may_push.ensures.looks.now c.in-Ok-true.ensures.begun c.in-Ok-true.ensures.fits (c.in-Ok-true.ensures.stored c.in-Ok-true.field-0-test)
+    c.push.ensures.leaves.part (fits (sha1 c.args.bytes.now) (IsSum-sha1 c.args.bytes.now)) c.push.result c.push.ensures.file c.push.ensures.written c.push.ensures.same)
 
 pub returns-in-Ok-true-clause-only : goal.returns-in-Ok-true-clause-only
 returns-in-Ok-true-clause-only g c = only_after c.args.stanza.now _ _ _ c.may_push.ensures.looks.time c.may_push.ensures.looks.now c.push.ensures.leaves.only
 
 pub returns-in-Ok-false-clause-turn : goal.returns-in-Ok-false-clause-turn
-returns-in-Ok-false-clause-turn g c = λ ended may. turn_none c.args.stanza.now c.args.other.now.id c.args.other.now.segment c.args.other.now.bytes.items _ _ c.may_push.ensures.looks.time c.may_push.ensures.looks.now ended
+returns-in-Ok-false-clause-turn g c = λ ended may. turn_none c.args.stanza.now c.args.id c.args.segment c.args.bytes.now _ _ c.may_push.ensures.looks.time c.may_push.ensures.looks.now ended
 
 pub returns-in-Err-clause-turn : goal.returns-in-Err-clause-turn
-returns-in-Err-clause-turn g c = λ ended may. turn_none c.args.stanza.now c.args.other.now.id c.args.other.now.segment c.args.other.now.bytes.items _ _ c.may_push.ensures.looks.time c.may_push.ensures.looks.now ended
+returns-in-Err-clause-turn g c = λ ended may. turn_none c.args.stanza.now c.args.id c.args.segment c.args.bytes.now _ _ c.may_push.ensures.looks.time c.may_push.ensures.looks.now ended
