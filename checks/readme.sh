@@ -37,5 +37,5 @@ as_user systemctl start postgresql@16-main
 await_writes
 [ "$(ask 'select count(*) from first')" = 1000 ] || complain 'the second recovery brought back other rows'
 # (what this line does is tried by runbook.sh)
-[ "$(block README.md 'A recovery' 3)" = "$(block docs/RUNBOOK.md 'The server is lost' 2)" ] || complain "README and RUNBOOK have other lines for older programs"
+[ "$(block README.md 'A recovery' 3)" = "$(block docs/RUNBOOK.md 'The server is lost' 3)" ] || complain "README and RUNBOOK have other lines for older programs"
 exit "$wrong"

@@ -123,14 +123,23 @@ has 'archive recovery complete' data/log
 newest=$(sed -n 's#^.* min/max .*/##p' output)
 served=$(sed -n 's/^.*restored log file "\([0-9A-F]\{24\}\)".*/\1/p' data/log | tail -n 1)
 [ -n "$newest" ] && [ ! "$served" \< "$newest" ] || complain "the recovery ended with '$served', the archive with '$newest'"
-rm -r data/lost srv/more
 for status in 0 1 80; do
     ended=0
-    as_user sh -c "p() { return $status; }; $(block $page 'The server is lost' 2 | sed "s/^restore_command = '\(.*\)'\$/\1/; s#^[^;]*;#p;#; s/exit/return/; s/^/f() { /; s/\$/; }; f/")" || ended=$?
+    as_user sh -c "p() { return $status; }; $(block $page 'The server is lost' 3 | sed "s/^restore_command = '\(.*\)'\$/\1/; s#^[^;]*;#p;#; s/exit/return/; s/^/f() { /; s/\$/; }; f/")" || ended=$?
     [ "$ended" = "$((status > 1 ? 126 : status))" ] || complain "the restore_command makes $ended of $status"
 done
 switch
-program --type=full backup >output 2>errors || complain "a full backup: $(cat output)"
+# By itself that WAL isn't archived; pushed from the old folder it is.
+ready=$(ls data/lost/pg_wal/archive_status | sed -n 's/\.ready$//p')
+[ -n "$ready" ] || complain 'the old folder has nothing that was not archived'
+is_stored() { compgen -G "$repo/archive/main/*/${1:0:16}/$1-*" >/dev/null; }
+for name in $ready; do
+    if is_stored "$name"; then complain "$name is archived by itself, and RUNBOOK says that it isn't"; fi
+done
+typed 0 'The server is lost' 2
+for name in $ready; do is_stored "$name" || complain "$name isn't archived"; done
+[ ! -e data/lost ] || complain 'the old folder is there'
+rm -r srv/more
 second=$(last_label)
 
 # on_copy QUESTION
