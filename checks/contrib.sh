@@ -95,6 +95,10 @@ cp conf conf.kept
 sed -i 's/^\[main\]$/archive-timeout=1\n\n[main]/' conf
 as_user pgbackrest --stanza=main backup >output 2>errors && complain 'a backup without its log'
 looks 2 '1 unlisted backup folders, run expire'
+# (one without files isn't counted: an expiry leaves it)
+as_user mkdir "$room/srv/pgbackrest/repo/backup/main/20200101-000000F"
+looks 2 '1 unlisted backup folders, run expire'
+as_user rmdir "$room/srv/pgbackrest/repo/backup/main/20200101-000000F"
 # (beside a backup nothing is said of folders)
 (as_user flock "$room/srv/pgbackrest/lock/main-backup.lock" sleep 3) &
 holder=$!
