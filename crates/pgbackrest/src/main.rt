@@ -19,12 +19,13 @@ mod streams;
 use adapters_files::{RealDisk, RealFiles, RealInput, RealInputFiles, RealReplies};
 use adapters_process::{RealLink, RoundRobin, end_workers};
 use asked::read_asked;
+use cmd_trait::Outside;
 use devices::{make_devices, put_line};
 use guards::{Refusal, is_beside, is_fetch, is_in_recovery, is_root, refusal_of, stop_recovery};
 use help::asked_for;
 use messages::{Telling, end_progress, failure_of};
 use paths::absolute;
-use program_run::Outside;
+use program_run::run;
 use std::io::ErrorKind;
 use std::process::ExitCode;
 use std::{env, fs, io};
@@ -205,7 +206,7 @@ fn perform(rt: HostRuntime, mut messages: Telling, arguments: &[String]) -> io::
             lost: Vec::new(alloc),
         },
     };
-    let status = outside.run(alloc, arguments);
+    let status = run(alloc, arguments, &mut outside);
     if status == 0 {
         end_progress(&outside, messages.progress());
     }

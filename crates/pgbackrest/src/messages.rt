@@ -8,9 +8,9 @@ use adapters_files::{
     RealClock, RealConnection, RealDataFolder, RealDisk, RealInputFiles, RealLocks, RealOutput,
 };
 use adapters_process::{Others, RealLink, RoundRobin};
+use cmd_trait::Outside;
 use options_read::{Command, LogWord};
 use options_table::Verb;
-use program_run::Outside;
 use std::alloc::AllocError;
 
 // The status of an option that is missing, and that of a configuration that can't be read.

@@ -5,7 +5,7 @@ use Rattle.memory_workers.specs.declared.mem.MemLink.{MemLink}
 use Rattle.memory_workers.specs.Workers.{known_first, state_of}
 use Rattle.worker_pool.specs.Run.{IsReady}
 use Rattle.worker_pool.proofs.Ready.{each_ready}
-use Rattle.program_run.specs.Modelled.{AreWorkers}
+use Rattle.cmd_trait.specs.Code.{AreWorkers}
 
 fresh_ready : (m : MemLink) (tree repo : Content) (fail : List ℕ) → state_of m ≡ (record { faults = 0; jobs = 0; reads = 0; given = []; known = Some (known_first tree repo fail) }) → IsReady (state_of m)
 fresh_ready m tree repo fail e = subst IsReady (sym e) (λ t r reads. refl)

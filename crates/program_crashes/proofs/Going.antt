@@ -9,9 +9,8 @@ use Rattle.base_model.specs.Text.{Text}
 use Rattle.base_crash_lists.specs.Trace.{Disks, Call, stopped, Does, AreStill, AreFair, KeepsAll, LeaveAll}
 use Rattle.base_crash_lists.proofs.Kept.{all_keep, all_leave, all_still, all_rest, opened_keep}
 use Rattle.archive_lookup.specs.Turns.{Account}
-use Rattle.program_run.specs.Asked.{Request, create, push, queue_file, drain, get, get_through, fetch_ahead, backup, backup_running, restore, report, examine, expire, rehearse, Asked}
-use Rattle.program_run.specs.Tables.{KnownWorld, TurnsKnown}
-use Rattle.program_run.specs.Uses.{uses_turns}
+use Rattle.cmd_trait.specs.KnownWorld.{KnownWorld}
+use Rattle.cmd_trait.specs.Meaning.{Place, Meaning, TurnsKnown, TurnsKnownIf}
 use Rattle.program_crashes.specs.declared.call_or_crash.Act.{Act}
 use Rattle.program_crashes.specs.Lists.{IsLeft, CallGoes, AreOthersOf, HaveOthers, files_of, stanza_of}
 use Rattle.program_crashes.specs.Acts.{IsCallOf, IsShown, GoesOn, Went}
@@ -83,21 +82,12 @@ known_of None x y e known = known
 known_of (Some k) x y e known = known ∙ e
 
 -- steps that are known of the stanza that is asked for are known enough, whatever is asked for
-pub turns_known : (a : Asked) (request : Request) (new : KnownWorld) (stanza : Text) → (uses_turns request ≡ true → stanza ≡ a.stanza) → IsSomeAnd new.others.account (λ k. k.stanza ≡ stanza) → TurnsKnown a request new
-turns_known a create new stanza is known = tt
-turns_known a (push path) new stanza is known = tt
-turns_known a (queue_file path how) new stanza is known = known_of new.others.account stanza a.stanza (is refl) known
-turns_known a (drain place) new stanza is known = tt
-turns_known a (get name path) new stanza is known = tt
-turns_known a (get_through name path how) new stanza is known = tt
-turns_known a (fetch_ahead name how) new stanza is known = tt
-turns_known a (backup workers) new stanza is known = tt
-turns_known a (backup_running how) new stanza is known = known_of new.others.account stanza a.stanza (is refl) known
-turns_known a (restore set how) new stanza is known = tt
-turns_known a (report form) new stanza is known = tt
-turns_known a examine new stanza is known = tt
-turns_known a (expire rules) new stanza is known = tt
-turns_known a (rehearse how) new stanza is known = tt
+pub turns_known : {F : Type 0} (p : Place) (m : Meaning F) (new : KnownWorld) (stanza : Text) → (m.uses.turns ≡ true → stanza ≡ p.stanza) → IsSomeAnd new.others.account (λ k. k.stanza ≡ stanza) → TurnsKnown p m new
+turns_known p m new stanza is known = go m.uses.turns is
+  where
+    go : (turns : Bool) → (turns ≡ true → stanza ≡ p.stanza) → TurnsKnownIf turns p.stanza new
+    go true is = known_of new.others.account stanza p.stanza (is refl) known
+    go false is = tt
 
 -- of the arguments as they were given too
 pub others_of : {W : Type 0} (text_of : List W → List Text) (given arguments : List W) → given ≡ arguments → (files : Option Content) (stanza : Text) → AreOthersOf (text_of arguments) files stanza → AreOthersOf (text_of given) files stanza

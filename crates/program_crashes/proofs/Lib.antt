@@ -1,5 +1,3 @@
 mod Fresh
-mod Bounded
-mod Deciding
 mod Shown
 mod Going

@@ -7,22 +7,25 @@ use Rattle.base_model.specs.Steps.{Command}
 use Rattle.base_model.specs.Steady.{KeepsOn}
 use Rattle.base_crash_lists.specs.Beside.{IsStanza, StaysBeside}
 use Rattle.base_crash_lists.specs.Trace.{Call, Does}
-use Rattle.cmd_types.specs.declared.stages.fault.StageFault.TheVariants.{NotBuilt}
 use Rattle.cmd_types.specs.DisksEffect.{Reached, to_end, OnAll, Leads, Passes, PassesReceipts, Takes}
 use Rattle.cmd_types.specs.World.{World}
-use Rattle.program_run.specs.declared.fault.Fault.{Fault}
-use Rattle.program_run.specs.declared.fault.Fault.TheVariants.{Stage}
-use Rattle.program_run.specs.Answers.{status_of, reached_of, ending_of}
-use Rattle.program_run.specs.Asked.{Asked, MayAsk}
-use Rattle.program_run.specs.Causes.{IsAnswered, Carries, Answers}
-use Rattle.program_run.specs.CallEffect.{IsIdle}
-use Rattle.program_run.specs.Tables.{known_world, manner_of}
-use Rattle.program_run.specs.Uses.{plan_of}
-use Rattle.program_run.proofs.Follows.{known_as}
-use Rattle.program_run.proofs.Statuses.{over, zero_ends}
+use Rattle.options_read.specs.declared.usage.Usage.{Usage}
+use Rattle.options_read.specs.Settings.{Resolved}
+use Rattle.cmd_trait.specs.declared.fault.Fault.{Fault}
+use Rattle.cmd_trait.specs.declared.fault.Fault.TheVariants.{Stage}
+use Rattle.cmd_types.specs.declared.stages.fault.StageFault.TheVariants.{NotBuilt}
+use Rattle.cmd_trait.specs.CallEffect.{IsIdle, Carries}
+use Rattle.cmd_trait.specs.Ends.{reached_of, ending_of}
+use Rattle.cmd_trait.specs.KnownWorld.{known_world}
+use Rattle.cmd_trait.specs.Meaning.{Place, IsOf}
+use Rattle.cmd_trait.proofs.Follows.{known_as}
+use Rattle.cmd_trait.proofs.Statuses.{zero_ends}
+use Rattle.program_run.specs.Answers.{Answers, PrintsRefusal}
+use Rattle.program_run.specs.Asked.{asked, MayAsk}
 use Rattle.program_run.proofs.InForm.{asked_in_form}
-use Rattle.program_crashes.specs.Acts.{both, IsOf, IsCallOf, IsShown, ShowsTurns}
-use Rattle.program_crashes.proofs.Deciding.{some_command}
+use Rattle.program_run.proofs.Lawful.{lawful}
+use Rattle.program_run.proofs.Refused.{never_well}
+use Rattle.program_crashes.specs.Acts.{both, IsCallOf, IsShown, ShowsTurns}
 
 -- ---- a command, by what it does to both disks
 
@@ -55,44 +58,52 @@ module _ (arguments : List Text) (b k : World) (n : ℕ) (known : IsSome b.tree.
   Shown = IsShown arguments b.config.files (known_world b) (known_world k) n (both b.repo.view b.spool.view) (both k.repo.view k.spool.view)
 
   -- the arguments were refused
-  refused : (unknown : List Text) (fault : Fault) → IsIdle b k → IsAnswered unknown b k (Err fault) n → Shown
-  refused unknown fault idle answered = inl (
-    known_as unknown b k (Err fault) n answered
-        (λ is z. let h : n ≡ status_of fault = is in omega (arith, h, z, over fault)) (λ is rose z. omega (arith, is, z)) (λ is z. omega (arith, is, z)),
+  refused : (unknown : List Text) (fault : Fault Usage) → IsIdle b k → PrintsRefusal unknown fault b k n → Shown
+  refused unknown fault idle printed = inl (
+    λ z. never_well unknown fault b k n printed (inl (omega (arith, z))),
     record { now = idle.repo.now; time = idle.repo.time; spool_now = idle.spool.now; spool_time = idle.spool.time },
   )
 
   -- what they ask for was done
-  module _ (a : Asked) (asks : MayAsk arguments b.config.files a) (unknown : List Text) (c : Carries a unknown b k n) where
+  module _ (s : Resolved) (asks : MayAsk arguments b.config.files s) (c : Carries (asked s).at (asked s).means s.warnings b k n) where
+    abbrev place : Place
+    place = (asked s).at
+
+    abbrev stanza : Text
+    stanza = place.stanza
+
     abbrev TakesAs : Command → Type 0
-    TakesAs command = Takes (plan_of a.request).sync_scope a.stanza command (reached_of (ending_of c.ended)) b.repo.view b.spool.view k.repo.view k.spool.view
+    TakesAs command = Takes (asked s).means.plan.sync_scope stanza command (reached_of (asked s).means (ending_of c.ended)) b.repo.view b.spool.view k.repo.view k.spool.view
 
-    to_its_end : n ≡ 0 → reached_of (ending_of c.ended) ≡ to_end
-    to_its_end z = known_as unknown b k c.ended n c.answered (λ is. zero_ends c.ended (sym is ∙ z)) (λ is rose. absurd (omega (arith, is, z))) (λ is. absurd (omega (arith, is, z)))
+    to_its_end : n ≡ 0 → reached_of (asked s).means (ending_of c.ended) ≡ to_end
+    to_its_end z = known_as place (asked s).means (lawful s) s.warnings b k n c (λ is. zero_ends (asked s).means (lawful s) c.ended (sym is ∙ z)) (λ is rose. absurd (omega (arith, is, z))) (λ is. absurd (omega (arith, is, z)))
 
-    beside : StaysBeside a.stanza b.repo.view k.repo.view
-    beside = c.did.spares.beside (turns a asks)
+    beside : StaysBeside stanza b.repo.view k.repo.view
+    beside = c.did.spares.beside (turns s asks)
 
-    spool_beside : StaysBeside a.stanza b.spool.view k.spool.view
-    spool_beside = c.did.spares.spool (turns a asks)
+    spool_beside : StaysBeside stanza b.spool.view k.spool.view
+    spool_beside = c.did.spares.spool (turns s asks)
 
-    by : (command : Command) → IsOf (manner_of a a.request (known_world b) (known_world k)) command → TakesAs command → (n ≡ 0) ⊎ (n ≢ 0) → Shown
+    form : IsStanza stanza
+    form = asked_in_form arguments b.config.files s asks
+
+    by : (command : Command) → IsOf ((asked s).means.manner place (known_world b) (known_world k)) command → TakesAs command → (n ≡ 0) ⊎ (n ≢ 0) → Shown
     by command is takes (inl z) = inr (
-      the_call a.stanza command true,
-      record { asked = a; asks = asks; stanza = refl; command = is; acknowledged = ((λ e. z), (λ e. refl)) },
-      call_does a.stanza command true b.repo.view b.spool.view k.repo.view k.spool.view (asked_in_form arguments b.config.files a asks) takes.part takes.between takes.receipts
-          (subst (λ (reached : Reached). OnAll reached (Leads a.stanza command true b.repo.view b.spool.view k.repo.view k.spool.view)) (to_its_end z) takes.whole).keeps beside spool_beside,
+      the_call stanza command true,
+      record { resolved = s; asks = asks; stanza = refl; command = is; acknowledged = ((λ e. z), (λ e. refl)) },
+      call_does stanza command true b.repo.view b.spool.view k.repo.view k.spool.view form takes.part takes.between takes.receipts
+          (subst (λ (reached : Reached). OnAll reached (Leads stanza command true b.repo.view b.spool.view k.repo.view k.spool.view)) (to_its_end z) takes.whole).keeps beside spool_beside,
     )
     by command is takes (inr off) = inr (
-      the_call a.stanza command false,
-      record { asked = a; asks = asks; stanza = refl; command = is; acknowledged = ((λ (e : ◌≡◌ {A = Bool} false true). cc), (λ z. absurd (off z))) },
-      call_does a.stanza command false b.repo.view b.spool.view k.repo.view k.spool.view (asked_in_form arguments b.config.files a asks) takes.part takes.between takes.receipts takes.part.keeps beside spool_beside,
+      the_call stanza command false,
+      record { resolved = s; asks = asks; stanza = refl; command = is; acknowledged = ((λ (e : ◌≡◌ {A = Bool} false true). cc), (λ z. absurd (off z))) },
+      call_does stanza command false b.repo.view b.spool.view k.repo.view k.spool.view form takes.part takes.between takes.receipts takes.part.keeps beside spool_beside,
     )
 
     obeyed : Shown
-    obeyed = let x = some_command a a.request (known_world b) (known_world k) TakesAs known (turns a asks) c.did.steps in by x.0 x.1 x.2 (zero_or n)
+    obeyed = let x = (lawful s).there place (known_world b) (known_world k) known (turns s asks) TakesAs c.did.steps in by x.0 x.1 x.2 (zero_or n)
 
   pub shown : Answers arguments b k n → Shown
-  shown (inl r) = refused [] r.fault r.idle r.answered
-  shown (inr (s, settles, inl (a, is, c))) = obeyed a (record { settings = s; settles = settles; is = is }) s.warnings c
-  shown (inr (s, settles, inr (what, is, idle, answered))) = refused s.warnings (Stage (NotBuilt what)) idle answered
+  shown (inl r) = refused [] r.fault r.idle r.printed
+  shown (inr (s, settles, inl (built, c))) = obeyed s (record { settles = settles; built = built }) c
+  shown (inr (s, settles, inr u)) = refused s.warnings (Stage (NotBuilt u.what)) u.idle u.printed

@@ -8,32 +8,29 @@ use Rattle.base_model.specs.Steps.{Command}
 use Rattle.base_crash_lists.specs.Trace.{Disks, Call, stopped, Does, AreStill, KeepsAll, LeaveAll}
 use Rattle.cmd_types.specs.World.{World}
 use Rattle.cmd_types.specs.DisksEffect.{Manner, each, one, provided}
-use Rattle.program_run.specs.Asked.{Asked, MayAsk}
-use Rattle.program_run.specs.Tables.{KnownWorld, known_world, TurnsKnown, manner_of}
+use Rattle.options_read.specs.Settings.{Resolved}
+use Rattle.program_run.specs.Asked.{asked, MayAsk}
+use Rattle.cmd_trait.specs.KnownWorld.{KnownWorld, known_world}
+use Rattle.cmd_trait.specs.Meaning.{TurnsKnown, IsOf}
 
 -- the two disks
 abbrev pub both : View → View → Disks
 both repo spool = record { repo = repo; spool = spool }
 
--- the command is of this kind
-abbrev pub IsOf : Manner → Command → Type 0
-IsOf (each Is) command = Is command
-IsOf (one Is) command = Is command
-IsOf (provided known Is) command = Is command
-
 -- what others did meanwhile is known of the stanza that the arguments ask for, where the call waits for steps of theirs
 abbrev pub ShowsTurns : List Text → Option Content → KnownWorld → Type 0
-ShowsTurns arguments files after = (a : Asked) → MayAsk arguments files a → TurnsKnown a a.request after
+ShowsTurns arguments files after = (s : Resolved) → MayAsk arguments files s
+    → TurnsKnown (asked s).at (asked s).means after
 
 -- The call that the arguments ask for, by what the objects hold before and after it, acknowledged where the status is
 -- 0.
 pub record IsCallOf (arguments : List Text) (files : Option Content) (old new : KnownWorld) (status : ℕ) (c : Call) :
     Type
     0 where
-  pub asked : Asked
-  pub asks : MayAsk arguments files asked
-  pub stanza : c.stanza ≡ asked.stanza
-  pub command : IsOf (manner_of asked asked.request old new) c.done.command
+  pub resolved : Resolved
+  pub asks : MayAsk arguments files resolved
+  pub stanza : c.stanza ≡ (asked resolved).at.stanza
+  pub command : IsOf ((asked resolved).means.manner (asked resolved).at old new) c.done.command
   pub acknowledged : (c.done.acknowledged ≡ true) ↔ (status ≡ 0)
 
 -- What a call of `run` does: its arguments were refused and it did nothing, which isn't given by status 0; or it is the

@@ -23,9 +23,9 @@ use Rattle.program_crashes.specs.declared.call_or_crash.Disks.{Disks as Pair}
 use Rattle.program_crashes.specs.declared.workers.Workers.{Workers}
 use Rattle.memory_workers.specs.Workers.{state_of}
 use Rattle.base_model.specs.Text.{Text}
-use Rattle.program_run.specs.Asked.{Asked, MayAsk}
-use Rattle.program_run.specs.Tables.{KnownWorld}
-use Rattle.program_run.specs.Uses.{uses_turns}
+use Rattle.options_read.specs.Settings.{Resolved}
+use Rattle.program_run.specs.Asked.{asked, MayAsk}
+use Rattle.cmd_trait.specs.KnownWorld.{KnownWorld}
 use Rattle.program_crashes.specs.Acts.{both, GoesOn, Went}
 
 -- what the two disks in memory hold
@@ -77,8 +77,8 @@ stanza_of o = string_bytes o.stanza
 
 -- where the arguments ask for a command that waits for steps of others, these push for the stanza that it is asked for
 abbrev pub AreOthersOf : List Text → Option Content → Text → Type 0
-AreOthersOf arguments files stanza = (a : Asked) → MayAsk arguments files a → uses_turns a.request ≡ true → stanza ≡
-    a.stanza
+AreOthersOf arguments files stanza = (s : Resolved) → MayAsk arguments files s → (asked s).means.uses.turns ≡ true
+    → stanza ≡ (asked s).at.stanza
 
 -- those of the act do
 abbrev pub HasOthers : Act → Type 0

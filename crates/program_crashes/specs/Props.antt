@@ -4,7 +4,7 @@ use Rattle.std.proofs.Props.{props}
 use Rattle.base_devices.specs.Content.{Content}
 use Rattle.base_devices.specs.Links.{LinkState, Modelled}
 use Rattle.worker_pool.specs.Reads.{Reads}
-use Rattle.program_run.specs.Modelled.{AreWorkers}
+use Rattle.cmd_trait.specs.Code.{AreWorkers}
 
 quiet_prop : (o : Option Modelled) → IsProp
     (IfSome o (λ (t : Modelled). (tree repo : Content) → Reads tree repo t → t.pending ≡ []))

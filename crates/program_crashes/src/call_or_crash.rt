@@ -7,12 +7,12 @@ ghost use Rattle.program_crashes.specs.Lists.{IsDiskLeft, LeadsOn, KeepsLogs};
 
 use crate::program_call::called;
 use crate::workers::Workers;
+use cmd_trait::Outside;
 use memory_devices::{
     MemClock, MemConnection, MemDataFolder, MemDisk, MemInputFiles, MemLocks, MemOutput,
 };
 use memory_processes::MemProcesses;
 use memory_workers::MemScheduler;
-use program_run::Outside;
 use std::alloc::Global;
 use worker_pool::Pool;
 

@@ -1,14 +1,15 @@
 // Calls the program once.
 ghost use Rattle.std.specs.Prelude.{◌≡◌, []};
 ghost use Rattle.worker_pool.specs.Pools.{links_in};
-ghost use Rattle.program_run.specs.Modelled.{AreWorkers};
+ghost use Rattle.cmd_trait.specs.Code.{AreWorkers};
 ghost use Rattle.program_crashes.specs.Acts.{ShowsCall, LeadsCall};
 
 use archive_lookup::OtherProcesses;
 use base_devices::{
     Clock, DataFolder, Disk, InputFiles, Link, Locks, OutputStream, Scheduler, ServerConnection,
 };
-use program_run::{Modelled, Outside};
+use cmd_trait::{Modelled, Outside};
+use program_run::run;
 use std::alloc::Global;
 
 /// Calls the program on a data folder whose contents are known; and where it waits for steps of other processes, these
@@ -36,5 +37,5 @@ pub fn called<
         arguments.now outside.old outside.new result }
     ensures free { (K.state outside.new.locks).taken ≡ [] }
 {
-    outside.run(alloc, arguments)
+    run(alloc, arguments, outside)
 }

@@ -1,7 +1,7 @@
 // Workers in memory, for a call.
 ghost use Rattle.std.specs.Prelude.{◌≡◌, [], map};
 ghost use Rattle.memory_workers.specs.Workers.{state_of};
-ghost use Rattle.program_run.specs.Modelled.{AreWorkers};
+ghost use Rattle.cmd_trait.specs.Code.{AreWorkers};
 ghost use Rattle.program_crashes.specs.Props.{AreWorkers-prop};
 
 use memory_workers::MemLink;

@@ -8,28 +8,28 @@ use Rattle.options_read.specs.declared.usage.Usage.TheVariants.{CommandMissing, 
 use Rattle.options_read.specs.Paths.{Path, path_of_arguments}
 use Rattle.options_read.specs.Settings.{resolved_arguments}
 use Rattle.options_read.specs.Views.{Fails}
-use Rattle.program_run.specs.declared.fault.Fault.{Fault}
+use Rattle.cmd_trait.specs.declared.fault.Fault.{Fault}
 use Rattle.program_run.specs.Asked.{config_limit, MayHave, ArgumentsResolve}
 use Rattle.program_run.specs.Configuring.{ConfigCause}
-use Rattle.program_run.specs.Faults.{of_usage}
+use Rattle.program_run.specs.Refusals.{of_usage}
 
 module _ (arguments : List Text) (files : Option Content) (rose : Type 0) (path : Path) (is_path : path_of_arguments arguments ≡ Ok path) (bytes : Text) (has : MayHave files path bytes) (fits : length bytes ≤ config_limit) where
-  sync_scope : ArgumentsResolve arguments files (resolved_arguments arguments bytes)
-  sync_scope = record { path = path; is_path = is_path; bytes = bytes; has = has; fits = fits; settled = refl }
+  resolves : ArgumentsResolve arguments files (resolved_arguments arguments bytes)
+  resolves = record { path = path; is_path = is_path; bytes = bytes; has = has; fits = fits; settled = refl }
 
   refused : (u : Usage) → Fails u (resolved_arguments arguments bytes) → ConfigCause arguments files rose (of_usage u)
-  refused CommandMissing h = inr (resolved_arguments arguments bytes, sync_scope, h)
-  refused (CommandUnknown a) h = inr (resolved_arguments arguments bytes, sync_scope, h)
-  refused (OptionUnknown a) h = inr (resolved_arguments arguments bytes, sync_scope, h)
-  refused (OptionRepeated a) h = inr (resolved_arguments arguments bytes, sync_scope, h)
-  refused (OptionValue a) h = inr (resolved_arguments arguments bytes, sync_scope, h)
-  refused (OptionMissing a) h = inr (resolved_arguments arguments bytes, sync_scope, h)
-  refused (OptionNotFor a) h = inr (resolved_arguments arguments bytes, sync_scope, h)
-  refused (ConfigSyntax a) h = inr (resolved_arguments arguments bytes, sync_scope, h)
-  refused (ParameterCount a) h = inr (resolved_arguments arguments bytes, sync_scope, h)
-  refused ParameterUtf8 h = inr (resolved_arguments arguments bytes, sync_scope, h)
+  refused CommandMissing h = inr (resolved_arguments arguments bytes, resolves, h)
+  refused (CommandUnknown a) h = inr (resolved_arguments arguments bytes, resolves, h)
+  refused (OptionUnknown a) h = inr (resolved_arguments arguments bytes, resolves, h)
+  refused (OptionRepeated a) h = inr (resolved_arguments arguments bytes, resolves, h)
+  refused (OptionValue a) h = inr (resolved_arguments arguments bytes, resolves, h)
+  refused (OptionMissing a) h = inr (resolved_arguments arguments bytes, resolves, h)
+  refused (OptionNotFor a) h = inr (resolved_arguments arguments bytes, resolves, h)
+  refused (ConfigSyntax a) h = inr (resolved_arguments arguments bytes, resolves, h)
+  refused (ParameterCount a) h = inr (resolved_arguments arguments bytes, resolves, h)
+  refused ParameterUtf8 h = inr (resolved_arguments arguments bytes, resolves, h)
   refused NoMemory h = tt
 
-  pub settling_err : {T : Type 0} (result : Result T Fault) (u : Usage) → IsErrAnd result (λ f. f ≡ of_usage u) → Fails u (resolved_arguments arguments bytes) → IfErr result (ConfigCause arguments files rose)
-  settling_err (Ok x) u is h = tt
-  settling_err (Err f) u is h = subst (ConfigCause arguments files rose) (sym is) (refused u h)
+  pub refused_err : {T : Type 0} (result : Result T (Fault Usage)) (u : Usage) → IsErrAnd result (λ (f : Fault Usage). f ≡ of_usage u) → Fails u (resolved_arguments arguments bytes) → IfErr result (ConfigCause arguments files rose)
+  refused_err (Ok x) u is h = tt
+  refused_err (Err f) u is h = subst (ConfigCause arguments files rose) (sym is) (refused u h)

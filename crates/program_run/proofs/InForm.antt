@@ -19,7 +19,7 @@ use Rattle.archive_store.proofs.PathLies.{lacks_not}
 use Rattle.base_crash_lists.specs.Beside.{IsStanza}
 use Rattle.options_read.specs.declared.resolve.Command.{Command}
 use Rattle.options_read.specs.Commands.{IsCommand}
-use Rattle.program_run.specs.Asked.{ArgumentsResolve, Asked, MayAsk}
+use Rattle.program_run.specs.Asked.{ArgumentsResolve, MayAsk}
 use Rattle.program_run.proofs.AskedOnce.{ok_same}
 
 -- ---- what succeeds in steps succeeds in each
@@ -126,5 +126,5 @@ pub command_in_form : (arguments : List Text) (files : Option Content) (c : Comm
 command_in_form arguments files c x = subst (λ (t : Text). is_stanza t ≡ true) (sym x.2.stanza) (settled_stanza arguments x.1.bytes x.0 x.1.settled)
 
 -- the stanza of what is asked for is in form
-pub asked_in_form : (arguments : List Text) (files : Option Content) (a : Asked) → MayAsk arguments files a → IsStanza a.stanza
-asked_in_form arguments files a asks = subst IsStanza (sym asks.is.stanza) (form_lacks asks.settings.stanza (settled_stanza arguments asks.settles.bytes asks.settings asks.settles.settled))
+pub asked_in_form : (arguments : List Text) (files : Option Content) (s : Resolved) → MayAsk arguments files s → IsStanza s.stanza
+asked_in_form arguments files s asks = form_lacks s.stanza (settled_stanza arguments asks.settles.bytes s asks.settles.settled)

@@ -9,7 +9,7 @@ use Rattle.options_read.specs.Settings.{Source, in_force, value}
 use Rattle.options_table.specs.Table.{row}
 use Rattle.options_table.specs.Table as table
 use Rattle.options_table.specs.Values.{is_text, text_where, value_of}
-use Rattle.program_run.specs.Asked.{path_in}
+use Rattle.cmd_trait.specs.InForce.{path_in}
 
 within : (t : Text) (b : Bool) → is_text t ≡ b → length (or_else [] (text_in (text_where b t))) ≤ 1024
 within t true is = grind (arith, common_steps)

@@ -3,7 +3,7 @@ use Rattle.std.proofs.Common.{◌≡◌, ◌≤◌, List, [], Some, Option, None
 use Rattle.std.proofs.lemmas.List.{length-map}
 use Rattle.base_devices.specs.Links.{LinkState}
 use Rattle.worker_pool.proofs.Ready.{unknown_are_ready}
-use Rattle.program_run.specs.Modelled.{AreWorkers}
+use Rattle.cmd_trait.specs.Code.{AreWorkers}
 
 -- none
 pub no_workers : {A : Type 0} (of : A → LinkState) (links : List A) → links ≡ [] → AreWorkers (map of links)

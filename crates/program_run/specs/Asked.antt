@@ -1,29 +1,49 @@
--- What a command is given by its arguments and its configuration (pgBackRest command reference and configuration
--- reference).
-use Rattle.std.specs.Prelude.{◌≡◌, ◌≤◌, ℕ, ◌^◌, ◌++◌, codes, decimal, Bool, true, false, List, [], ◌∷◌, length, Option, Some, None, Result, Ok, Err, IfSome, IsSome, if◌then◌else◌}
+-- What the arguments and the configuration ask for (pgBackRest command reference and configuration reference).
+use Rattle.std.specs.Prelude.{◌≡◌, ◌^◌, ◌≤◌, ℕ, Bool, true, false, List, [], Option, None, Some, Result, Ok, IfSome, IsSome, length, if◌then◌else◌}
 use Rattle.base_devices.specs.Content.{Content}
-use Rattle.base_model.specs.declared.labels.BackupKind.{BackupKind}
 use Rattle.base_model.specs.Text.{Text}
-use Rattle.options_table.specs.declared.table.Opt.{Opt}
-use Rattle.options_read.specs.declared.options.KindWord.{KindWord}
-use Rattle.options_read.specs.declared.options.RestoreWord.{RestoreWord}
-use Rattle.options_read.specs.declared.options.RestoreWord.TheVariants.{Default, Plain}
-use Rattle.options_read.specs.declared.options.OutputWord.{OutputWord}
-use Rattle.options_table.specs.declared.table.Opt.TheVariants.{Pg1Path, Pg1SocketPath, Pg1Port, Pg1User, Pg1Database, Repo1Path, LockPath, Online, ArchiveAsync, Output, BackupType, Delta, Repo1Bundle, Repo1RetentionFull, Repo1RetentionFullType, Repo1RetentionDiff, Repo1RetentionArchive, Repo1RetentionArchiveType, ExpireAuto, ProcessMax, StartFast, ArchiveTimeout, ArchiveGetQueueMax, SpoolPath, RestoreType, Config, Set, Number}
+use Rattle.options_table.specs.declared.table.Opt.TheVariants.{ArchiveAsync, ArchiveGetQueueMax, ArchiveTimeout, BackupType, Delta, ExpireAuto, Number, Online, Output, Pg1Database, Pg1Port, Pg1SocketPath, Pg1User, ProcessMax, Repo1Bundle, Repo1RetentionArchive, Repo1RetentionArchiveType, Repo1RetentionDiff, Repo1RetentionFull, Repo1RetentionFullType, SpoolPath, StartFast}
 use Rattle.options_table.specs.declared.table.Verb.{Verb}
 use Rattle.options_table.specs.declared.table.Verb.TheVariants.{StanzaCreate, ArchivePush, ArchivePushAsync, ArchiveGet, ArchiveGetAsync, Backup, Restore, Info, Verify, Expire, Rehearse}
 use Rattle.options_read.specs.Faults.{Fault}
-use Rattle.options_read.specs.Filled.{text_in, number_in, amount_in, flag_in, or_else, is_denied, kind_word, retention_word, restore_word, output_word, word_in}
+use Rattle.options_read.specs.Filled.{or_else, number_in, word_in, kind_word, retention_word, output_word}
 use Rattle.options_read.specs.Paths.{Path, nowhere, usual, named, path_of_arguments}
-use Rattle.options_read.specs.Settings.{Source, Resolved, value, argument, resolved_arguments}
-use Rattle.cmd_stanza_create.specs.Server.{Server}
-use Rattle.cmd_expire.specs.Rules.{full_rule, kind_by}
-use Rattle.cmd_restore.specs.Fetching.{RecoveryType, FetchArguments, Configuration}
-use Rattle.cmd_restore.specs.Fetching.Configuration.{Usual, Nowhere, Named}
-use Rattle.cmd_restore.specs.Fetching.RecoveryType.{Default as ToTheEnd, Without}
-use Rattle.expire_rules.specs.declared.rules.Rules.{Rules}
+use Rattle.options_read.specs.Settings.{Source, Resolved, value, resolved_arguments}
 use Rattle.cmd_types.specs.declared.stages.fault.Unbuilt.{Unbuilt}
 use Rattle.cmd_types.specs.declared.stages.fault.Unbuilt.TheVariants.{Bundles}
+use Rattle.cmd_trait.specs.InForce.{is_on, first_of, second_of, path_in, count_in, size_in, place_in}
+use Rattle.cmd_trait.specs.Meaning.{Place, Meaning}
+use Rattle.cmd_stanza_create.specs.Server.{Server}
+use Rattle.cmd_stanza_create.specs.declared.fault.CreateFault.{CreateFault}
+use Rattle.cmd_archive_push.specs.declared.fault.PushFault.{PushFault}
+use Rattle.cmd_archive_get.specs.declared.fault.GetFault.{GetFault}
+use Rattle.cmd_backup_offline.specs.declared.fault.OfflineFault.{OfflineFault}
+use Rattle.cmd_backup_online.specs.declared.fault.OnlineBackupFault.{OnlineBackupFault}
+use Rattle.cmd_restore.specs.declared.fault.RestoreCommandFault.{RestoreCommandFault}
+use Rattle.cmd_types.specs.declared.stages.fault.StageFault.{StageFault}
+use Rattle.cmd_verify.specs.declared.command.fault.VerifyCommandFault.{VerifyCommandFault}
+use Rattle.cmd_expire.specs.declared.fault.ExpireCommandFault.{ExpireCommandFault}
+use Rattle.cmd_expire.specs.Rules.{full_rule, kind_by}
+use Rattle.cmd_rehearse.specs.declared.fault.RehearseFault.{RehearseFault}
+use Rattle.expire_rules.specs.declared.rules.Rules.{Rules}
+use Rattle.run_stanza_create.specs.Creating.{create_meaning}
+use Rattle.run_archive_push.specs.declared.fault.QueuedPushFault.{QueuedPushFault}
+use Rattle.run_archive_push.specs.Pushing.{push_meaning}
+use Rattle.run_archive_push.specs.Queueing.{queued_push_meaning}
+use Rattle.run_archive_push_async.specs.Draining.{drain_meaning}
+use Rattle.run_archive_get.specs.Getting.{get_meaning}
+use Rattle.run_archive_get.specs.GettingThrough.{through_meaning}
+use Rattle.run_archive_get_async.specs.Fetching.{fetch_meaning}
+use Rattle.run_backup.specs.Asking.{BackupHow, RunningHow}
+use Rattle.run_backup.specs.declared.fault.BackupCommandFault.{BackupCommandFault}
+use Rattle.run_backup.specs.Offline.{backup_offline_meaning}
+use Rattle.run_backup.specs.Online.{backup_online_meaning}
+use Rattle.run_restore.specs.Restoring.{restore_meaning}
+use Rattle.run_restore.specs.Asking.{set_in, how_in}
+use Rattle.run_info.specs.Informing.{info_meaning}
+use Rattle.run_verify.specs.Verifying.{verify_meaning}
+use Rattle.run_expire.specs.Expiring.{expire_meaning}
+use Rattle.run_rehearse.specs.Rehearsing.{rehearse_meaning}
 
 -- ---- the configuration
 
@@ -50,145 +70,27 @@ pub record ArgumentsResolve (arguments : List Text) (files : Option Content) (re
 
 -- ---- what is asked
 
--- how a server is backed up: with how many workers, as which kind (option `type`), and whether a file is distinguished
--- from the prior backup's by its digest (option `delta`)
-pub record BackupHow : Type 0 where
-  pub workers : ℕ
-  pub kind : BackupKind
-  pub delta : Bool
+-- what a command means, with the type of its refusals
+pub record Meant : Type 1 where
+  pub fault : Type 0
+  pub means : Meaning fault
 
--- how a running server is backed up: as a stopped one is, whether it makes its checkpoint at once (option
--- `start-fast`), and how many steps of others are waited for at most (option `archive-timeout`)
-pub record RunningHow : Type 0 where
-  pub taken : BackupHow
-  pub fast : Bool
-  pub turns : ℕ
+-- a command that is asked for: where, and what it means
+pub record Asked : Type 1 where
+  pub at : Place
+  pub fault : Type 0
+  pub means : Meaning fault
 
--- how a backup is restored: with how many workers, whether equal files stay, and how the server is to recover
-pub record RestoreHow : Type 0 where
-  pub workers : ℕ
-  pub delta : Bool
-  pub recovery : RecoveryType
+-- ---- what the options in force say
 
--- how a file is queued for archive-push:async: by which spool (option `spool-path`), and how many steps of others are
--- waited for at most (option `archive-timeout`)
-pub record QueueHow : Type 0 where
-  pub spool : Text
-  pub turns : ℕ
-
--- how segments are fetched ahead: into which spool (option `spool-path`), and at most how many bytes of them (option
--- `archive-get-queue-max`)
-pub record FetchHow : Type 0 where
-  pub spool : Text
-  pub queue : ℕ
-
--- how a sample cluster is rehearsed: with how many workers for each of its steps, and of which size
-pub record RehearseHow : Type 0 where
-  pub workers : ℕ
-  pub number : ℕ
-
--- Which command is asked for, with what it is given. archive-push: the file to store, or the one to queue and how.
--- archive-push:async: the spool. archive-get: the file to serve and where, or the one to serve through the spool and
--- how others are fetched ahead. archive-get:async: the segment after which it fetches, and how. Backup: how a stopped
--- server is backed up, or a running one. Restore: the label of the backup, and how. info: the form of its report.
--- expire: its rules. rehearse: how it is made. verify takes nothing more.
-pub data Request : Type 0 where
-  create : Request
-  push : (path : Text) → Request
-  queue_file : (path : Text) (how : QueueHow) → Request
-  drain : (place : Text) → Request
-  get : (name path : Text) → Request
-  get_through : (name path : Text) (how : FetchHow) → Request
-  fetch_ahead : (name : Text) (how : FetchHow) → Request
-  backup : (how : BackupHow) → Request
-  backup_running : (how : RunningHow) → Request
-  restore : (set : Option Text) (how : RestoreHow) → Request
-  report : (form : OutputWord) → Request
-  examine : Request
-  expire : (rules : Rules) → Request
-  rehearse : (how : RehearseHow) → Request
-
-abbrev pub first_of : List Text → Text
-first_of [] = []
-first_of (x ∷ xs) = x
-
-abbrev pub second_of : List Text → Text
-second_of [] = []
-second_of (x ∷ xs) = first_of xs
-
--- the manner of a command, by its options
-pub record Wanted : Type 0 where
-  pub background : Bool
-  pub form : OutputWord
-  pub online : Bool
-  pub kind : KindWord
-  pub delta : Bool
-  pub bundles : Bool
-  pub expires : Bool
-  pub recovery : RestoreWord
-  pub fetch : FetchArguments
-  pub set : Option Text
-  pub workers : ℕ
-  pub fast : Bool
-  pub turns : ℕ
-  pub spool : Text
-  pub queue : ℕ
-  pub rules : Rules
-  pub number : ℕ
-
--- a file is stored at once, or in the background it is queued for archive-push:async
-abbrev pub push_by : Wanted → Text → Request
-push_by m path = if m.background then queue_file path (record { spool = m.spool; turns = m.turns }) else push path
-
--- how segments are fetched ahead
-abbrev pub fetching_by : Wanted → FetchHow
-fetching_by m = record { spool = m.spool; queue = m.queue }
-
--- a file is served from the repository, or in the background through the spool
-abbrev pub get_by : Wanted → Text → Text → Request
-get_by m name path = if m.background then get_through name path (fetching_by m) else get name path
-
--- with as many workers, and of this kind
-abbrev pub how_by : Wanted → BackupHow
-how_by m = record { workers = m.workers; kind = kind_by m.kind; delta = m.delta }
-
--- of a running server or of a stopped one
-abbrev pub taken_by : Wanted → Request
-taken_by m = if m.online then backup_running (record { taken = how_by m; fast = m.fast; turns = m.turns }) else backup
-    (how_by m)
-
--- a backup with nothing more; or the part of it that isn't supported
-abbrev pub backup_by : Wanted → Result Request Unbuilt
-backup_by m = if m.bundles then Err Bundles else Ok (taken_by m)
-
--- a recovery fetches the log by these arguments
-abbrev pub recovery_for : RestoreWord → FetchArguments → RecoveryType
-recovery_for Default fetch = ToTheEnd fetch
-recovery_for Plain fetch = Without
-
-abbrev pub restore_by : Wanted → Request
-restore_by m = restore m.set (record
-    { workers = m.workers; delta = m.delta; recovery = recovery_for m.recovery m.fetch })
-
--- what a verb asks for, in this manner and with its parameters; or what isn't supported
-abbrev pub request_by : Verb → Wanted → List Text → Result Request Unbuilt
-request_by StanzaCreate m given = Ok create
-request_by ArchivePush m given = Ok (push_by m (first_of given))
-request_by ArchivePushAsync m given = Ok (drain m.spool)
-request_by ArchiveGet m given = Ok (get_by m (first_of given) (second_of given))
-request_by ArchiveGetAsync m given = Ok (fetch_ahead (first_of given) (fetching_by m))
-request_by Backup m given = backup_by m
-request_by Restore m given = Ok (restore_by m)
-request_by Info m given = Ok (report m.form)
-request_by Verify m given = Ok examine
-request_by Expire m given = Ok (expire m.rules)
-request_by Rehearse m given = Ok (rehearse (record { workers = m.workers; number = m.number }))
-
-abbrev pub path_in : Source → Opt → Text
-path_in source option = or_else [] (text_in (value source option))
-
-abbrev pub is_on : Source → Opt → Bool
-is_on source option = or_else false (flag_in (value source option))
+-- the server that is asked
+abbrev pub server_in : Source → Server
+server_in s = record {
+  folder = path_in s Pg1SocketPath;
+  port = count_in s Pg1Port;
+  user = path_in s Pg1User;
+  database = path_in s Pg1Database;
+}
 
 -- what the options of retention say (pgBackRest configuration reference, "Repository Options")
 abbrev pub rules_in : Source → Rules
@@ -199,120 +101,89 @@ rules_in s = record {
   archive_kind = kind_by (kind_word (word_in (value s Repo1RetentionArchiveType)));
 }
 
--- none by `--no-config`, or the one that the arguments name
-abbrev pub configuration_by : Bool → Option Text → Configuration
-configuration_by true path = Nowhere
-configuration_by false None = Usual
-configuration_by false (Some path) = Named path
+-- the expiry that follows a backup, where one does
+abbrev pub expires_in : Source → Option Rules
+expires_in s = if is_on s ExpireAuto then Some (rules_in s) else None
 
--- the arguments by which a restored server fetches the log
-abbrev pub fetch_in : Source → FetchArguments
-fetch_in s = record {
-  config = configuration_by (is_denied (argument s Config)) (text_in (value s Config));
-  pg1_path = argument s Pg1Path;
-  repo1_path = argument s Repo1Path;
-}
-
-abbrev pub wanted_in : Source → Wanted
-wanted_in s = record {
-  background = is_on s ArchiveAsync;
-  form = output_word (word_in (value s Output));
-  online = is_on s Online;
-  kind = kind_word (word_in (value s BackupType));
+-- how a server is backed up
+abbrev pub backup_in : Source → BackupHow
+backup_in s = record {
+  workers = count_in s ProcessMax;
+  kind = kind_by (kind_word (word_in (value s BackupType)));
   delta = is_on s Delta;
-  bundles = is_on s Repo1Bundle;
-  expires = is_on s ExpireAuto;
-  recovery = restore_word (word_in (value s RestoreType));
-  fetch = fetch_in s;
-  set = text_in (value s Set);
-  workers = or_else 0 (number_in (value s ProcessMax));
-  fast = is_on s StartFast;
-  turns = or_else 0 (amount_in (value s ArchiveTimeout));
-  spool = path_in s SpoolPath;
-  queue = or_else 0 (amount_in (value s ArchiveGetQueueMax));
-  rules = rules_in s;
-  number = or_else 0 (number_in (value s Number));
 }
 
-abbrev pub requested : Resolved → Result Request Unbuilt
-requested s = request_by s.source.verb (wanted_in s.source) s.parameters
+abbrev pub running_in : Source → RunningHow
+running_in s = record { taken = backup_in s; fast = is_on s StartFast; turns = size_in s ArchiveTimeout }
 
--- the server of the source
-abbrev pub server_in : Source → Server
-server_in source = record {
-  folder = path_in source Pg1SocketPath;
-  port = or_else 0 (number_in (value source Pg1Port));
-  user = path_in source Pg1User;
-  database = path_in source Pg1Database;
+-- ---- which command it is: a line each
+
+-- archive-push: a file is stored at once, or it is queued for archive-push:async
+abbrev pub push_by : Bool → Source → Text → Meant
+push_by false s path = record { fault = PushFault; means = push_meaning path }
+push_by true s path = record {
+  fault = QueuedPushFault;
+  means = queued_push_meaning path (path_in s SpoolPath) (size_in s ArchiveTimeout);
 }
 
--- stanza-create and backup ask it, where they are online
-abbrev pub server_by : Verb → Bool → Server → Option Server
-server_by StanzaCreate online server = if online then Some server else None
-server_by Backup online server = if online then Some server else None
-server_by verb online server = None
+-- archive-get: a file is served from the repository, or through the spool
+abbrev pub get_by : Bool → Source → Text → Text → Meaning GetFault
+get_by false s name path = get_meaning name path
+get_by true s name path = through_meaning name path (path_in s SpoolPath) (size_in s ArchiveGetQueueMax)
 
-abbrev pub server_asked : Resolved → Option Server
-server_asked s = server_by s.source.verb (is_on s.source Online) (server_in s.source)
+-- backup: of a stopped server, or of a running one
+abbrev pub backup_by : Bool → Source → Meant
+backup_by false s = record {
+  fault = BackupCommandFault OfflineFault;
+  means = backup_offline_meaning (backup_in s) (expires_in s);
+}
+backup_by true s = record {
+  fault = BackupCommandFault OnlineBackupFault;
+  means = backup_online_meaning (server_in s) (running_in s) (expires_in s);
+}
 
--- an expiry follows a backup alone
-abbrev pub after_backup : Request → Option Rules → Option Rules
-after_backup (backup how) rules = rules
-after_backup (backup_running how) rules = rules
-after_backup request rules = None
+-- of each verb, with its parameters
+abbrev pub asked_by : Verb → Source → List Text → Meant
+asked_by StanzaCreate s given =
+    record { fault = CreateFault; means = create_meaning (if is_on s Online then Some (server_in s) else None) }
+asked_by ArchivePush s given = push_by (is_on s ArchiveAsync) s (first_of given)
+asked_by ArchivePushAsync s given = record { fault = PushFault; means = drain_meaning (path_in s SpoolPath) }
+asked_by ArchiveGet s given =
+    record { fault = GetFault; means = get_by (is_on s ArchiveAsync) s (first_of given) (second_of given) }
+asked_by ArchiveGetAsync s given = record {
+  fault = GetFault;
+  means = fetch_meaning (first_of given) (path_in s SpoolPath) (size_in s ArchiveGetQueueMax);
+}
+asked_by Backup s given = backup_by (is_on s Online) s
+asked_by Restore s given = record { fault = RestoreCommandFault; means = restore_meaning (set_in s) (how_in s) }
+asked_by Info s given =
+    record { fault = StageFault; means = info_meaning (output_word (word_in (value s Output))) }
+asked_by Verify s given = record { fault = VerifyCommandFault; means = verify_meaning }
+asked_by Expire s given = record { fault = ExpireCommandFault; means = expire_meaning (rules_in s) }
+asked_by Rehearse s given = record { fault = RehearseFault; means = rehearse_meaning (count_in s Number) }
 
--- by these rules, where it is requested
-abbrev pub expires_by : Request → Wanted → Option Rules
-expires_by request m = after_backup request (if m.expires then Some m.rules else None)
+-- of what was resolved
+abbrev pub meant : Resolved → Meant
+meant s = asked_by s.source.verb s.source s.parameters
 
--- what a command is given: the stanza, the data folder, the repository's folder and that of the locks, the server that
--- it asks, what it is to do, and the rules of the expiry that follows, where one does
-pub record Asked : Type 0 where
-  pub stanza : Text
-  pub data_folder : Text
-  pub repository : Text
-  pub lock_folder : Text
-  pub server : Option Server
-  pub request : Request
-  pub expires : Option Rules
+-- at the places that are named
+abbrev pub asked : Resolved → Asked
+asked s = record { at = place_in s; fault = (meant s).fault; means = (meant s).means }
 
--- The arguments with which a drain is started: archive-push:async of the same stanza at the same places, whatever a
--- configuration says.
-abbrev pub drain_arguments : Asked → Text → List Text
-drain_arguments a spool = codes "--no-config" ∷ (codes "--stanza=" ++ a.stanza) ∷ (codes "--pg1-path=" ++ a.data_folder)
-    ∷ (codes "--repo1-path=" ++ a.repository)
-    ∷ (codes "--lock-path=" ++ a.lock_folder) ∷ (codes "--spool-path=" ++ spool) ∷ codes "archive-push:async" ∷ []
+-- what isn't supported of it
+abbrev pub unbuilt_by : Verb → Source → Option Unbuilt
+unbuilt_by Backup s = if is_on s Repo1Bundle then Some Bundles else None
+unbuilt_by other s = None
 
--- The arguments with which a fetch is started: archive-get:async of the segment of this name, of the same stanza at the
--- same places, whatever a configuration says. It takes no lock, so none is named.
-abbrev pub fetch_argument_list : Asked → Text → FetchHow → List Text
-fetch_argument_list a name how = codes "--no-config" ∷ (codes "--stanza=" ++ a.stanza) ∷ (codes "--pg1-path=" ++
-    a.data_folder)
-    ∷ (codes "--repo1-path=" ++ a.repository)
-    ∷ (codes "--spool-path=" ++ how.spool) ∷ (codes "--archive-get-queue-max=" ++ decimal how.queue)
-    ∷ codes "archive-get:async" ∷ name ∷ []
-
--- the command's own part, without the expiry that follows
-abbrev pub alone : Asked → Asked
-alone a = record a { expires = None }
-
--- the settings ask for this
-pub record IsAsked (s : Resolved) (a : Asked) : Type 0 where
-  pub stanza : a.stanza ≡ s.stanza
-  pub data_folder : a.data_folder ≡ path_in s.source Pg1Path
-  pub repository : a.repository ≡ path_in s.source Repo1Path
-  pub lock_folder : a.lock_folder ≡ path_in s.source LockPath
-  pub server : a.server ≡ server_asked s
-  pub request : requested s ≡ Ok a.request
-  pub expires : a.expires ≡ expires_by a.request (wanted_in s.source)
+abbrev pub unbuilt : Resolved → Option Unbuilt
+unbuilt s = unbuilt_by s.source.verb s.source
 
 -- the arguments ask for this, as far as the configuration is known
-pub record MayAsk (arguments : List Text) (files : Option Content) (a : Asked) : Type 0 where
-  pub settings : Resolved
-  pub settles : ArgumentsResolve arguments files (Ok settings)
-  pub is : IsAsked settings a
+pub record MayAsk (arguments : List Text) (files : Option Content) (s : Resolved) : Type 0 where
+  pub settles : ArgumentsResolve arguments files (Ok s)
+  pub built : unbuilt s ≡ None
 
 -- the arguments ask for this
-pub record Asks (arguments : List Text) (files : Option Content) (a : Asked) : Type 0 where
+pub record Asks (arguments : List Text) (files : Option Content) (s : Resolved) : Type 0 where
   pub known : IsSome files
-  pub asks : MayAsk arguments files a
+  pub asks : MayAsk arguments files s

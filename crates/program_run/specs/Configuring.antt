@@ -14,8 +14,9 @@ use Rattle.options_read.specs.Commands.{IsCommand}
 use Rattle.cmd_types.specs.declared.stages.object.Object.TheVariants.{Config}
 use Rattle.cmd_types.specs.declared.stages.fault.StageFault.{StageFault}
 use Rattle.cmd_types.specs.declared.stages.fault.StageFault.TheVariants.{ConfigMissing, ConfigLong}
-use Rattle.program_run.specs.declared.fault.Fault.{Fault}
-use Rattle.program_run.specs.declared.fault.Fault.TheVariants.{Usage, Stage, Command, FollowUp, Failed, NoMemory}
+use Rattle.options_read.specs.declared.usage.Usage.{Usage}
+use Rattle.cmd_trait.specs.declared.fault.Fault.{Fault}
+use Rattle.cmd_trait.specs.declared.fault.Fault.TheVariants.{Stage, Own, Failed, NoMemory}
 use Rattle.program_run.specs.Asked.{config_limit, MayHave, ArgumentsResolve}
 
 -- the path of a configuration that is read
@@ -39,13 +40,11 @@ IsCommandOf arguments source c = (s : Resolved) × ArgumentsResolve (map string_
     × IsCommand c s
 
 -- a file at this path is too long, or its source failed
-abbrev pub SourceCause : Text → ℕ → Option Content → Type 0 → Fault → Type 0
-SourceCause path limit files rose (Usage usage) = ⊥
+abbrev pub SourceCause : Text → ℕ → Option Content → Type 0 → Fault Usage → Type 0
+SourceCause path limit files rose (Own usage) = ⊥
 SourceCause path limit files rose (Stage (ConfigLong name most)) = (string_bytes name ≡ path) × (most ≡ limit)
     × IfSome files (λ f. IsSomeAnd (f path) (λ b. limit < length b))
 SourceCause path limit files rose (Stage other) = ⊥
-SourceCause path limit files rose (Command fault) = ⊥
-SourceCause path limit files rose (FollowUp lines fault) = ⊥
 SourceCause path limit files rose (Failed object) = (object ≡ Config) × rose
 SourceCause path limit files rose NoMemory = Unit {0}
 
@@ -60,21 +59,19 @@ FileCause arguments files other = ⊥
 
 -- what the arguments say of the configuration is refused, or what the two resolve to is, or the configuration can't be
 -- had
-abbrev pub ConfigCause : List Text → Option Content → Type 0 → Fault → Type 0
-ConfigCause arguments files rose (Usage usage) = Fails usage (path_of_arguments arguments)
+abbrev pub ConfigCause : List Text → Option Content → Type 0 → Fault Usage → Type 0
+ConfigCause arguments files rose (Own usage) = Fails usage (path_of_arguments arguments)
     ⊎ ((read : Result Resolved Refusal) × ArgumentsResolve arguments files read × Fails usage read)
 ConfigCause arguments files rose (Stage fault) = FileCause arguments files fault
-ConfigCause arguments files rose (Command fault) = ⊥
-ConfigCause arguments files rose (FollowUp lines fault) = ⊥
 ConfigCause arguments files rose (Failed object) = (object ≡ Config) × rose
 ConfigCause arguments files rose NoMemory = Unit {0}
 
 -- ---- by what is known of the source before and after
 
 -- why no file is read
-abbrev pub FileReadCause : Text → ℕ → InputState → InputState → Fault → Type 0
+abbrev pub FileReadCause : Text → ℕ → InputState → InputState → Fault Usage → Type 0
 FileReadCause path limit old new = SourceCause path limit old.files (Rises old.faults new.faults)
 
 -- why no configuration is read, or no command
-abbrev pub ReadingCause : List (String Global) → InputState → InputState → Fault → Type 0
+abbrev pub ReadingCause : List (String Global) → InputState → InputState → Fault Usage → Type 0
 ReadingCause arguments old new = ConfigCause (map string_bytes arguments) old.files (Rises old.faults new.faults)

@@ -1,13 +1,6 @@
 pub mod Asked
-pub mod Faults
-pub mod Answers
+pub mod Refusals
 pub mod Configuring
-pub mod Output
-pub mod Serving
-pub mod Kept
-pub mod Modelled
-pub mod Uses
-pub mod Tables
-pub mod CallEffect
-pub mod Causes
+pub mod Given
+pub mod Answers
 pub mod Ranges

@@ -3,26 +3,24 @@ ghost use Rattle.std.specs.Prelude.{◌≡◌, ◌≤◌, ◌<◌, ◌+◌, ◌^
 ghost use Rattle.std.specs.declared.alloc.Global.{Global};
 ghost use Rattle.base_devices.specs.Cause.{HasCause};
 ghost use Rattle.program_run.specs.Asked.{config_limit};
-ghost use Rattle.cmd_types.specs.declared.stages.object.Object.TheVariants.{Config as TheConfig};
-ghost use Rattle.cmd_types.specs.Halts.{halt_of};
-ghost use Rattle.program_run.specs.declared.fault.Fault.TheVariants.{Stage};
-ghost use Rattle.program_run.specs.Faults.{of_halt};
+ghost use Rattle.program_run.specs.Refusals.{of_device};
 ghost use Rattle.program_run.specs.Configuring.{IsFileOf, IsConfigurationOf, IsCommandOf, FileReadCause, ReadingCause};
 
-use crate::fault::Fault;
+use crate::refusal::of_usage;
 use base_devices::{DeviceError, InputFiles};
+use cmd_trait::Fault;
 use cmd_types::{Object, StageFault};
-use options_read::{Command, ConfigPath, config_path, resolve_arguments};
+use options_read::{Command, ConfigPath, Usage, config_path, resolve_arguments};
 use std::alloc::Global;
 
 // A configuration has at most 1 MiB.
 const CONFIG_LIMIT: usize = 1 << 20;
 
 // The fault that a failed call of the configuration becomes.
-fn of_stop(stop: DeviceError) -> Fault
-    ensures { result ≡ of_halt Stage (halt_of TheConfig stop) }
+fn of_device(error: DeviceError) -> Fault<Usage>
+    ensures { result ≡ of_device error }
 {
-    match stop {
+    match error {
         DeviceError::Failed => Fault::Failed(Object::Config),
         DeviceError::NoMemory => Fault::NoMemory,
     }
@@ -57,7 +55,7 @@ fn read_file<I: InputFiles>(
     config: &mut I,
     path: &str,
     limit: usize,
-) -> Result<Option<Vec<u8>>, Fault>
+) -> Result<Option<Vec<u8>>, Fault<Usage>>
     requires { limit + 1 < 2 ^ 63 }
     ensures bytes { IfOk result (IsFileOf path.now (I.state config.old)) }
     ensures fits { IfOk result (λ r. IfSome r (λ (v : Vec ℕ Global). length v.items ≤ limit)) }
@@ -68,7 +66,7 @@ fn read_file<I: InputFiles>(
     match config.open(path) {
         Ok(true) => {}
         Ok(false) => return Ok(None),
-        Err(stop) => return Err(of_stop(stop)),
+        Err(error) => return Err(of_device(error)),
     }
     match read_prefix(alloc, config, limit + 1) {
         Ok(bytes) => {
@@ -80,7 +78,7 @@ fn read_file<I: InputFiles>(
                 limit: limit as u64,
             }))
         }
-        Err(stop) => Err(of_stop(stop)),
+        Err(error) => Err(of_device(error)),
     }
 }
 
@@ -90,7 +88,7 @@ fn configuration<I: InputFiles>(
     arguments: &[String],
     config: &mut I,
     limit: usize,
-) -> Result<Vec<u8>, Fault>
+) -> Result<Vec<u8>, Fault<Usage>>
     requires { limit ≡ config_limit }
     ensures bytes { IfOk result (IsConfigurationOf arguments.now (I.state config.old)) }
     ensures fits { IfOk result (λ v. length v.items ≤ limit) }
@@ -98,7 +96,11 @@ fn configuration<I: InputFiles>(
     ensures later { (I.state config.old).faults ≤ (I.state config.new).faults }
     ensures files { (I.state config.new).files ≡ (I.state config.old).files }
 {
-    match config_path(alloc, arguments)? {
+    let path = match config_path(alloc, arguments) {
+        Ok(path) => path,
+        Err(usage) => return Err(of_usage(usage)),
+    };
+    match path {
         ConfigPath::Nowhere => Ok(Vec::new(alloc)),
         ConfigPath::Usual(path) => match read_file(alloc, config, &path, limit)? {
             Some(bytes) => Ok(bytes),
@@ -116,13 +118,15 @@ pub(crate) fn read_command<I: InputFiles>(
     alloc: Global,
     arguments: &[String],
     config: &mut I,
-) -> Result<Command, Fault>
+) -> Result<Command, Fault<Usage>>
     ensures command { IfOk result (IsCommandOf arguments.now (I.state config.old)) }
     ensures cause { IfErr result (ReadingCause arguments.now (I.state config.old) (I.state config.new)) }
     ensures later { (I.state config.old).faults ≤ (I.state config.new).faults }
     ensures files { (I.state config.new).files ≡ (I.state config.old).files }
 {
     let bytes = configuration(alloc, arguments, config, CONFIG_LIMIT)?;
-    let command = resolve_arguments(alloc, arguments, &bytes)?;
-    Ok(command)
+    match resolve_arguments(alloc, arguments, &bytes) {
+        Ok(command) => Ok(command),
+        Err(usage) => Err(of_usage(usage)),
+    }
 }

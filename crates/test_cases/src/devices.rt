@@ -1,18 +1,19 @@
 // The devices in memory, and the program over them.
 ghost use Rattle.std.specs.Prelude.{map, IfOk};
 ghost use Rattle.memory_workers.specs.Workers.{state_of};
-ghost use Rattle.program_run.specs.Modelled.{AreWorkers};
+ghost use Rattle.cmd_trait.specs.Code.{AreWorkers};
 
 use crate::node::Node;
 use crate::output::Output;
 use crate::world::{Times, Wanted};
 use base_model::{ArchiveId, Segment};
+use cmd_trait::Outside;
 use memory_devices::{
     MemClock, MemConnection, MemDataFolder, MemDisk, MemInputFiles, MemLocks, MemNode,
 };
 use memory_processes::{MemProcesses, OtherPush, OtherTurn};
 use memory_workers::{MemLink, MemScheduler};
-use program_run::Outside;
+use program_run::run;
 use std::alloc::{AllocError, Global};
 use worker_pool::Pool;
 
@@ -292,7 +293,7 @@ pub(crate) fn run_on(
             lost: Vec::new(alloc),
         },
     };
-    let status = outside.run(alloc, words);
+    let status = run(alloc, words, &mut outside);
     let ran = Ran {
         status,
         server: outside.server,

@@ -1,0 +1,10 @@
+pub mod Ends
+mod Written
+mod Prefixes
+pub mod CallEffects
+pub mod Carried
+pub mod PartEffects
+pub mod Statuses
+pub mod Follows
+pub mod Idle
+pub mod Talks

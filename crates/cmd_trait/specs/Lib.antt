@@ -1,0 +1,12 @@
+pub mod Faults
+pub mod KnownWorld
+pub mod Meaning
+pub mod InForce
+pub mod Code
+pub mod Ends
+pub mod Output
+pub mod CallEffect
+pub mod Clauses
+pub mod Kept
+pub mod Readers
+pub mod Follows

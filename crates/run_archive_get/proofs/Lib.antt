@@ -1,0 +1,2 @@
+mod PartEffects
+mod Through

@@ -1,0 +1,4 @@
+pub mod Getting
+pub mod Started
+pub mod GettingThrough
+pub mod Lawful

@@ -1,0 +1,9 @@
+pub mod Bounded
+pub mod Deciding
+pub mod Arguments
+pub mod Faults
+pub mod Pushing
+pub mod Lawful
+pub mod Queueing
+pub mod Acknowledged
+pub mod QueueLawful

@@ -1,0 +1,52 @@
+-- What archive-push means.
+use Rattle.std.specs.Prelude.{◌≡◌, true, false, [], None, IsSomeAnd}
+use Rattle.base_model.specs.declared.wal.ArchiveName.{ArchiveName}
+use Rattle.base_model.specs.Text.{Text}
+use Rattle.cmd_types.specs.declared.stages.plan.Plan.{Plan}
+use Rattle.cmd_types.specs.declared.stages.plan.SyncScope.TheVariants.{Looked}
+use Rattle.cmd_types.specs.declared.stages.plan.Pairs.TheVariants.{HealArchive}
+use Rattle.cmd_types.specs.Reached.{OnFinished}
+use Rattle.cmd_types.specs.DisksEffect.{each}
+use Rattle.cmd_archive_push.specs.declared.fault.PushFault.{PushFault}
+use Rattle.cmd_archive_push.specs.Causes.{IsStored, IsLasting, PushCause}
+use Rattle.cmd_archive_push.specs.Commands.{IsPushOf}
+use Rattle.cmd_archive_push.specs.Faults.{push_early}
+use Rattle.cmd_archive_push.specs.Texts.{push_status, push_message}
+use Rattle.cmd_archive_push.specs.WalCause.{WordCause}
+use Rattle.cmd_archive_push.specs.WalPath.{IsWalPath}
+use Rattle.cmd_trait.specs.Meaning.{Meaning, nothing}
+
+-- the archive lock is taken, the folder of the archive pair synced, the control file read and the archive pair healed
+abbrev pub push_plan : Plan
+push_plan = record {
+  sync_scope = Looked;
+  folder = true;
+  backup_lock = false;
+  archive_lock = true;
+  control = true;
+  pairs = HealArchive;
+}
+
+abbrev pub push_meaning : Text → Meaning PushFault
+push_meaning path = record {
+  plan = push_plan;
+  staged = true;
+  spool = None;
+  uses = nothing;
+  manner = λ p old new. each (λ command. IsSomeAnd old.nodes (λ f. IsPushOf f p.data_folder path command));
+  promise = λ p old new outcome. OnFinished outcome (IsStored p.stanza p.data_folder path old.nodes old.repo new.repo);
+  lasts = λ p nodes repo now_nodes outcome. OnFinished outcome (λ lines. IsLasting p.stanza p.data_folder path repo);
+  acknowledges = λ p old new. Unit {0};
+  arguments = λ p. (name : ArchiveName) × IsWalPath p.data_folder path name;
+  arguments_cause = λ p fault. WordCause p.data_folder path fault;
+  cause = λ p old new failed fault. PushCause p.stanza p.data_folder path old.repo old.nodes fault;
+  closes = λ p old new failed fault. Unit {0};
+  status = push_status;
+  message = push_message;
+  early = push_early;
+  lines = λ fault. [];
+  repo_effect = λ p least old new. Unit {0};
+  folder_effect = λ p old nodes. nodes ≡ old.nodes;
+  others_effect = λ p old new. new ≡ old;
+  turned = λ p old new n. new.nodes ≡ old.nodes;
+}

@@ -1,0 +1,65 @@
+-- What archive-push:async means.
+use Rattle.std.specs.Prelude.{◌≡◌, Bool, true, false, [], Some, IfSome, IsSome, IsSomeAnd}
+use Rattle.base_devices.specs.DataFolder.{Nodes}
+use Rattle.base_model.specs.Steps.{Command}
+use Rattle.base_model.specs.Text.{Text}
+use Rattle.repo_stanza.specs.declared.control.Control.{Control}
+use Rattle.cmd_archive_push.specs.declared.fault.PushFault.{PushFault}
+use Rattle.cmd_archive_push.specs.Texts.{push_message}
+use Rattle.cmd_archive_push_async.specs.Drained.{IsDrainOf, IsDrained, DrainCause, drain_early, drain_status}
+use Rattle.cmd_types.specs.declared.stages.outcome.Outcome.{Outcome}
+use Rattle.cmd_types.specs.declared.stages.plan.Pairs.TheVariants.{HealArchive}
+use Rattle.cmd_types.specs.declared.stages.plan.Plan.{Plan}
+use Rattle.cmd_types.specs.declared.stages.plan.SyncScope.TheVariants.{Whole}
+use Rattle.cmd_types.specs.Cluster.{FolderShows}
+use Rattle.cmd_types.specs.DisksEffect.{provided}
+use Rattle.cmd_types.specs.Reached.{OnFinished}
+use Rattle.cmd_trait.specs.KnownWorld.{KnownWorld}
+use Rattle.cmd_trait.specs.Meaning.{Meaning, nothing}
+
+-- it stores some of the files that the data folder has
+abbrev pub IsSomeDrain : Nodes → Command → Type 0
+IsSomeDrain f command = (whole : Bool) × IsDrainOf f whole command
+
+-- Ok of archive-push:async: this is what became of the files that are ready, of the cluster that the data folder
+-- reports, and each has its mark in the spool
+pub record Drains (stanza : Text) (old new : KnownWorld) (outcome : Outcome) : Type 0 where
+  pub known : Control
+  pub shows : IfSome old.nodes (λ f. FolderShows f known)
+  pub drained : OnFinished outcome
+      (λ lines. IfSome old.nodes (λ f. IsDrained stanza f known old.repo old.spool new.spool lines))
+
+-- the archive lock is taken, the stanza synced, the control file read and the archive pair healed
+abbrev pub drain_plan : Plan
+drain_plan = record {
+  sync_scope = Whole;
+  folder = true;
+  backup_lock = false;
+  archive_lock = true;
+  control = true;
+  pairs = HealArchive;
+}
+
+abbrev pub drain_meaning : (spool : Text) → Meaning PushFault
+drain_meaning spool = record {
+  plan = drain_plan;
+  staged = true;
+  spool = Some spool;
+  uses = record nothing { spool = true };
+  manner = λ p old new. provided (IsSome old.nodes) (λ command. IsSomeAnd old.nodes (λ f. IsSomeDrain f command));
+  promise = λ p old new outcome. Drains p.stanza old new outcome;
+  lasts = λ p nodes repo now_nodes outcome. Unit {0};
+  acknowledges = λ p old new. Unit {0};
+  arguments = λ p. Unit {0};
+  arguments_cause = λ p fault. ⊥;
+  cause = λ p old new failed fault. DrainCause p.stanza old.repo new.repo old.nodes fault;
+  closes = λ p old new failed fault. Unit {0};
+  status = drain_status;
+  message = push_message;
+  early = drain_early;
+  lines = λ fault. [];
+  repo_effect = λ p least old new. Unit {0};
+  folder_effect = λ p old nodes. nodes ≡ old.nodes;
+  others_effect = λ p old new. new ≡ old;
+  turned = λ p old new n. new.nodes ≡ old.nodes;
+}

@@ -1,0 +1,5 @@
+mod Followings
+mod Backups
+mod Offlines
+mod Onlines
+mod Expiries

@@ -1,0 +1,10 @@
+pub mod Asking
+pub mod Faults
+pub mod Following
+pub mod Followed
+pub mod Offline
+pub mod Online
+pub mod Orders
+pub mod Lawful
+pub mod OfflineLawful
+pub mod OnlineLawful

@@ -1,0 +1,4 @@
+pub mod Restoring
+pub mod Lawful
+pub mod Asking
+pub mod Code

@@ -1,0 +1,107 @@
+-- What restore means.
+use Rattle.std.specs.Prelude.{◌≡◌, ◌⊎◌, ◌≢◌, ℕ, Bool, true, false, [], take, Option, Some, None, IfSome}
+use Rattle.base_devices.specs.Content.{Content}
+use Rattle.base_devices.specs.DataFolder.{Nodes}
+use Rattle.base_model.specs.declared.labels.Label.{Label}
+use Rattle.base_model.specs.Now.{NowRepresents}
+use Rattle.base_model.specs.Repository.{Stanza}
+use Rattle.base_model.specs.Steps.{Reading}
+use Rattle.base_model.specs.Text.{Text}
+use Rattle.base_model.specs.Values.{Manifest}
+use Rattle.archive_store.specs.Still.{IsStill}
+use Rattle.restore_steps.specs.Clearing.{control_path, HasNone}
+use Rattle.restore_make.specs.Finished.{IsFinished}
+use Rattle.cmd_types.specs.declared.stages.outcome.Outcome.{Outcome}
+use Rattle.cmd_types.specs.declared.stages.plan.Plan.{Plan}
+use Rattle.cmd_types.specs.declared.stages.plan.SyncScope.TheVariants.{Whole}
+use Rattle.cmd_types.specs.declared.stages.plan.Pairs.TheVariants.{ReadBoth}
+use Rattle.cmd_types.specs.Reached.{OnFinished}
+use Rattle.cmd_types.specs.DisksEffect.{each}
+use Rattle.cmd_restore.specs.declared.fault.RestoreCommandFault.{RestoreCommandFault}
+use Rattle.cmd_restore.specs.Causes.{RestoreCommandCause}
+use Rattle.cmd_restore.specs.Ends.{restore_early}
+use Rattle.cmd_restore.specs.Fetching.{RecoveryType, options_by}
+use Rattle.cmd_restore.specs.Restoring.{Before, Recovers, GivesBackup}
+use Rattle.cmd_restore.specs.Texts.{restore_status, restore_message}
+use Rattle.cmd_restore.specs.Words.{ShowsSet, WordCause}
+use Rattle.cmd_trait.specs.KnownWorld.{KnownWorld}
+use Rattle.cmd_trait.specs.Meaning.{Place, Meaning, nothing}
+
+-- how a backup is restored: with how many workers, whether equal files stay, and how the server is to recover
+pub record RestoreHow : Type 0 where
+  pub workers : ℕ
+  pub delta : Bool
+  pub recovery : RecoveryType
+
+-- what a restore finds
+abbrev pub found_for : Place → Option Label → RestoreHow → KnownWorld → Before
+found_for p set how old = record {
+  stanza = p.stanza;
+  set = set;
+  repo = old.repo;
+  nodes = old.nodes;
+  used = take how.workers old.links;
+  options = options_by p.stanza how.delta how.recovery;
+}
+
+-- Ok of restore: the backup that was asked for, or the last one, is in the folder
+pub record Restores (p : Place) (set : Option Text) (how : RestoreHow) (old new : KnownWorld) (outcome : Outcome) : Type
+    0 where
+  pub label : Option Label
+  pub is : ShowsSet set label
+  pub recovers : OnFinished outcome (Recovers (found_for p label how old) new.nodes)
+  pub gives : (s : Stanza) (f : Content) → old.repo ≡ Some f → NowRepresents p.stanza (Some s) old.repo
+      → OnFinished outcome (GivesBackup s (found_for p label how old) f new.nodes)
+
+-- the argument names a label, or none is given
+abbrev pub NamesSet : Option Text → Type 0
+NamesSet set = (label : Option Label) × ShowsSet set label
+
+-- a backup isn't restored for this
+abbrev pub RestoreCause : Place → Option Text → RestoreHow → KnownWorld → RestoreCommandFault → Type 0
+RestoreCause p set how old fault =
+    (label : Option Label) × ShowsSet set label × RestoreCommandCause (found_for p label how old) fault
+
+-- the folder is unchanged, or has no control file, so that no server starts from half of a backup, or holds a whole one
+abbrev pub LeavesWhole : Place → RestoreHow → KnownWorld → Option Nodes → Type 0
+LeavesWhole p how old new = (new ≡ old.nodes)
+    ⊎ (HasNone control_path new ⊎ ((m : Manifest)
+    × IfSome new (IsFinished p.stanza (take how.workers old.links) (options_by p.stanza how.delta how.recovery) m
+    old.nodes)))
+
+-- no lock: the data folder is opened, the stanza is synced, and both pairs are read
+abbrev pub restore_plan : Plan
+restore_plan = record {
+  sync_scope = Whole;
+  folder = true;
+  backup_lock = false;
+  archive_lock = false;
+  control = false;
+  pairs = ReadBoth;
+}
+
+-- Where it is refused for another reason than lost workers, an unread file or a damaged one, it has started no worker,
+-- and the folder is unchanged.
+abbrev pub restore_meaning : Option Text → RestoreHow → Meaning RestoreCommandFault
+restore_meaning set how = record {
+  plan = restore_plan;
+  staged = true;
+  spool = None;
+  uses = record nothing { workers = true };
+  manner = λ p old new. each (λ command. command ≡ Reading);
+  promise = λ p old new outcome. Restores p set how old new outcome;
+  lasts = λ p nodes repo now_nodes outcome. Unit {0};
+  acknowledges = λ p old new. Unit {0};
+  arguments = λ p. NamesSet set;
+  arguments_cause = λ p fault. WordCause set fault;
+  cause = λ p old new failed fault. RestoreCause p set how old fault;
+  closes = λ p old new failed fault. Unit {0};
+  status = restore_status;
+  message = restore_message;
+  early = restore_early;
+  lines = λ fault. [];
+  repo_effect = λ p least old new. IsStill old new;
+  folder_effect = λ p old nodes. LeavesWhole p how old nodes;
+  others_effect = λ p old new. new ≡ old;
+  turned = λ p old new n. n ≢ 55 → n ≢ 56 → n ≢ 63 → new.nodes ≡ old.nodes;
+}

@@ -1,0 +1,2 @@
+mod OneCluster
+mod PartEffects

@@ -1,0 +1,22 @@
+use Rattle.std.proofs.Common.{refl, ap, arith}
+use Rattle.std.specs.Prelude.{option_map}
+use Rattle.cmd_stanza_create.specs.Server.{server_view}
+use Rattle.cmd_trait.specs.Code.{place_of}
+use Rattle.cmd_trait.proofs.Ends.{rose_to, all_later}
+use Rattle.run_stanza_create.proofs.PartEffects.{create_shows, no_server, as_server, created_ran}
+use Rattle.run_stanza_create.proofs.create.StanzaCreateCommand.run.Goals as goal
+
+pub returns-clause-ran : goal.returns-clause-ran
+returns-clause-ran g c =
+    let e = c.create_stanza.ensures in
+    let asked = c.args.self.now.server in
+    let shows = create_shows c.args.places.now.stanza.now _ _ c.args.ready c.requires.ready c.in-Some.control c.in-Some.is in
+    created_ran (place_of c.args.places.now) (option_map server_view asked) _ _ refl c.in-Some.control shows c.create_stanza.result e.only e.does e.made e.refused
+    (as_server c.create_stanza.result asked _ e.same) e.asks
+    (λ none. ap (λ w. g.V.ServerConnection.state w) (e.quiet (no_server asked none)))
+    e.closed _ (rose_to _ _ _ (λ h. h) (λ h. absurd h) (λ h. absurd h) (λ h. h) (λ h. absurd h) (λ h. absurd h) (λ h. absurd h) (λ h. absurd h) (λ h. absurd h)) e.cause
+    (record { spool = refl; repo = e.frame.opened; tree = refl })
+    (all_later _ _ e.frame.later (omega arith) (omega arith) e.later (omega arith) (omega arith) (omega arith) (omega arith) (omega arith))
+
+pub returns-clause-quiet : goal.returns-clause-quiet
+returns-clause-quiet g c = λ none. c.create_stanza.ensures.quiet (no_server c.args.self.now.server none)
