@@ -1,7 +1,8 @@
 #!/usr/bin/env bash
 # The documents: README has at most 8 KiB and ARCHITECTURE 15,000 bytes; a case of RUNBOOK has at most ten lines to type; each definition
 # has a comment; the numbers of TESTING and DEFINITIONS and the rows of PROVED are those that docs/counts makes, and none is above its bound
-# in docs/bounds; each crate, option and status has its row; the program's hints are the advice of STATUS;
+# in docs/bounds; each crate, option and status has its row; the areas of ARCHITECTURE are the crates of crates.txt, and the silent fields of
+# DEFINITIONS those that docs/figures finds; the program's hints are the advice of STATUS;
 # each link leads to a file and a heading that are there; no sentence has more than 40 words; and none has a word of the list below.
 # Sentences of comments in the crates' code, definitions and proofs are read too.
 # A cell of a table, an item of a list and a heading end a sentence; what is in code counts as one word.
@@ -193,8 +194,38 @@ listed() {
     grep -q -e "^|.*$3" "$2" || complain "$2 has no row for $1"
 }
 
-# Each crate has a row of PROVED, each check one of TESTING, each option one of MOVING, and each status that a crate below program_run has one of STATUS.
-for crate in $(sed -n 's/^\([a-z_]*\):.*/\1/p' crates.txt); do listed "the crate $crate" docs/PROVED.md "\`$crate\`"; done
+# The crates that the areas of ARCHITECTURE name, each area joined with each word beside it; a row without an area is of the area above it, and
+# an area that doesn't end with `_` is a crate. `area_..`, where the rest of an area is left out.
+tabled() {
+    awk -F '|' '
+        /^\| Area \|/ { inside = 1; next }
+        inside && !/^\|/ { exit }
+        !inside || /^\|---/ { next }
+        {
+            gsub(/[` ]/, "", $2)
+            if ($2 != "") area = $2
+            if (area !~ /_$/) { print area; next }
+            count = split($3, words, ",")
+            for (i = 1; i <= count; i++) { gsub(/[` ]/, "", words[i]); print area words[i] }
+        }' docs/ARCHITECTURE.md
+}
+mapfile -t crates < <(sed -n 's/^\([a-z_]*\):.*/\1/p' crates.txt)
+named=$'\n'$(tabled)$'\n'
+for crate in "${crates[@]}"; do
+    if [[ $named != *$'\n'"$crate"$'\n'* && $named != *$'\n'"${crate%%_*}_.."$'\n'* ]]; then complain "docs/ARCHITECTURE.md has no area with the crate $crate"; fi
+done
+for crate in $named; do
+    if [[ $crate != *.. && " ${crates[*]} " != *" $crate "* ]]; then complain "docs/ARCHITECTURE.md names $crate, which is no crate"; fi
+done
+
+# The fields of which a meaning says nothing: the last cell of its row of DEFINITIONS.
+while IFS='|' read -r meaning fields; do
+    silent=$(sed -n "s/^|.*\`$meaning\`.* | \([^|]*\) |$/\1/p" docs/DEFINITIONS.md | tr -d '\`')
+    [ "$silent" = "$fields" ] || complain "docs/DEFINITIONS.md gives '$silent' as what $meaning doesn't say, and it is '$fields'"
+done < <(docs/figures --silent)
+
+# Each crate has a row of PROVED, each check one of TESTING, each option one of MOVING, and each status that a command's crate has one of STATUS.
+for crate in "${crates[@]}"; do listed "the crate $crate" docs/PROVED.md "\`$crate\`"; done
 for check in checks/*.sh; do
     # (wrong bodies are tried crate by crate)
     if [ "$check" != checks/edits.sh ]; then listed "$check" docs/TESTING.md "\`${check#checks/}\`"; fi
@@ -203,11 +234,16 @@ for option in $(sed -n 's/^row [A-Za-z0-9]* = [a-z_]* (codes "\([a-z0-9-]*\)").*
     # (one of a tool that isn't built)
     if [ "$option" != number ]; then listed "the option $option" docs/MOVING.md "\`$option\`"; fi
 done
-below=$(sed -n 's/#.*//; s/^program_run://p' crates.txt)
-for crate in program_run $below; do
+for crate in "${crates[@]}"; do
+    case $crate in cmd_* | run_* | program_run) ;; *) continue ;; esac
     for status in $(cat "crates/$crate"/specs/*.antt 2>/dev/null | sed -n 's/^[a-z_]*status .* = \([0-9]*\)$/\1/p' | sort -u); do
         grep -q "^| $status |" docs/STATUS.md || complain "docs/STATUS.md has no row for $status of $crate"
     done
+done
+
+# Each file that STATUS names as the one that makes a line is there.
+for file in $(grep -o '`[a-z_]*/[a-z_/]*\.rt`' docs/STATUS.md | tr -d '`' | sort -u); do
+    [ -e "crates/${file%%/*}/src/${file#*/}" ] || complain "docs/STATUS.md names $file, which isn't there"
 done
 
 # The program's hints: of each status from 2 on that has a line, the last column of STATUS, and a part of the line where there are several.
