@@ -1,5 +1,5 @@
 -- A backup that is listed after calls that left the stanza's list.
-use Rattle.std.proofs.Common.{◌≡◌, ◌⊎◌, ⊎_elim, inl, inr, Bool, true, false, List, Option, Result, Ok, Err, refl, sym, ◌∙◌, subst, arith}
+use Rattle.std.proofs.Common.{◌≡◌, ◌⊎◌, ⊎_elim, inl, inr, ℕ, Bool, true, false, List, Option, Result, Ok, Err, refl, sym, ◌∙◌, subst, arith}
 use Rattle.std.specs.Prelude.{IsSome}
 use Rattle.base_devices.specs.Content.{Name, Content}
 use Rattle.base_devices.specs.Moments.{View, is_unsynced}
@@ -12,7 +12,7 @@ use Rattle.backup_sink.proofs.Ways.{way_on}
 use Rattle.backup_make.specs.declared.draft.Draft.{Draft}
 use Rattle.backup_make.specs.declared.fault.MakeFault.{MakeFault}
 use Rattle.backup_make.specs.Draft.{pair_of, main_of, is_own_of}
-use Rattle.backup_make.specs.Made.{AreApart, IsSyncedAt, LeavesList, ListsIt, MakesOf, MayBeListed, OutcomeOf}
+use Rattle.backup_make.specs.Made.{AreApart, HasCopies, IsSyncedAt, LeavesList, ListsIt, MakesOf, MayBeListed, OutcomeOf, StopsBy}
 use Rattle.backup_make.specs.Online.{Online}
 
 module _ (draft : Draft) (apart : AreApart (is_own_of draft) (pair_of draft) (main_of draft)) (a b c : View) (first : LeavesList draft a b) where
@@ -76,33 +76,42 @@ module _ (draft : Draft) (apart : AreApart (is_own_of draft) (pair_of draft) (ma
     either_on : (f g h : Content) → Beside f g → Beside g h ⊎ Listed g h → Beside f h ⊎ Listed f h
     either_on f g h s y = ⊎_elim (λ z. inl (beside_on f g h s z)) (λ z. inr (listed_on f g h s z)) y
 
-    pub makes_after : MakesOf draft o links whole a c
-    makes_after = record {
-      names = x.names;
-      names_are = x.names_are;
-      ends = x.ends;
-      kept = x.kept;
-      received = x.received;
-      payload = x.payload;
-      are = x.are;
-      come = x.come;
-      got = λ some. x.got (first.now.known some);
-      stop = x.stop;
-      manifest = x.manifest;
-      manifest_is = x.manifest_is;
-      manifest_valid = x.manifest_valid;
-      control = x.control;
-      list = x.list;
-      listed = x.listed;
-      list_valid = x.list_valid;
-      now = now_on (λ f g. Beside f g ⊎ Listed f g) (λ f g. Beside f g ⊎ Listed f g) either_on x.now;
-      whole_now = λ is. now_on Listed Listed listed_on (x.whole_now is);
-      synced = λ synced some. x.synced (still_synced synced) (first.now.known some);
-      way = λ synced. way_after (λ f g. Beside f g ⊎ Listed f g) (λ f g. Beside f g ⊎ Listed f g) (λ f g s. inl s) either_on synced (x.way (still_synced synced));
-      whole_way = λ synced is. ends_after Listed listed_on synced (x.whole_way (still_synced synced) is);
-    }
+    abbrev Copied : Content → Content → Type 0
+    Copied f g = HasCopies (pair_of draft) (main_of draft) x.manifest x.list g
+
+    pub makes_after : (y : MakesOf draft o links whole a c) × (y.stop ≡ x.stop)
+    makes_after = (
+      record {
+        names = x.names;
+        names_are = x.names_are;
+        ends = x.ends;
+        kept = x.kept;
+        received = x.received;
+        payload = x.payload;
+        are = x.are;
+        come = x.come;
+        got = λ some. x.got (first.now.known some);
+        stop = x.stop;
+        manifest = x.manifest;
+        manifest_is = x.manifest_is;
+        manifest_valid = x.manifest_valid;
+        control = x.control;
+        list = x.list;
+        listed = x.listed;
+        list_valid = x.list_valid;
+        now = now_on (λ f g. Beside f g ⊎ Listed f g) (λ f g. Beside f g ⊎ Listed f g) either_on x.now;
+        whole_now = λ is. now_on Listed Listed listed_on (x.whole_now is);
+        synced = λ synced some. x.synced (still_synced synced) (first.now.known some);
+        way = λ synced. way_after (λ f g. Beside f g ⊎ Listed f g) (λ f g. Beside f g ⊎ Listed f g) (λ f g s. inl s) either_on synced (x.way (still_synced synced));
+        whole_way = λ synced is. ends_after Listed listed_on synced (x.whole_way (still_synced synced) is);
+        copies_now = λ is. now_on Copied Copied (λ f g h s y. y) (x.copies_now is);
+        copies = λ synced is. ends_after Copied (λ f g h s y. y) synced (x.copies (still_synced synced) is);
+      },
+      refl,
+    )
 
   -- the result of the backup since then
-  pub outcome_after : (r : Result (Unit {0}) MakeFault) (o : Option Online) (links : List LinkState) → OutcomeOf r draft o links b c → OutcomeOf r draft o links a c
-  outcome_after (Ok u) o links x = makes_after o links true x
-  outcome_after (Err e) o links x = ⊎_elim (λ (y : LeavesList draft b c). inl (leaves_after y)) (λ (y : MayBeListed e × MakesOf draft o links false b c). inr (y.0, makes_after o links false y.1)) x
+  pub outcome_after : (P : ℕ → Type 0) (r : Result (Unit {0}) MakeFault) (o : Option Online) (links : List LinkState) → (x : OutcomeOf r draft o links b c) × StopsBy P r draft o links b c x
+      → (y : OutcomeOf r draft o links a c) × StopsBy P r draft o links a c y
+  outcome_after P (Ok u) o links (x, stops) = let y = makes_after o links true x in (y.0, subst P (sym y.1) stops)
+  outcome_after P (Err e) o links (x, stops) = (⊎_elim (λ (y : LeavesList draft b c). inl (leaves_after y)) (λ (y : MayBeListed e × MakesOf draft o links false b c). inr (y.0, (makes_after o links false y.1).0)) x, tt)

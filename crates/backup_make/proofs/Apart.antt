@@ -74,6 +74,10 @@ module _ (stanza : Text) (label : Label) (some : 0 < length (label_text label)) 
     main_out = in_stanza (codes "backup.info") refl;
     main_copy_out = subst (λ (n : Name). is_own folder n ≡ false) (sym (copy_in (backup_folder stanza) (codes "backup.info"))) (in_stanza (codes "backup.info.copy") refl);
     apart = (differ (codes "backup.manifest") (codes "backup.info") refl, (λ e. differ (codes "backup.manifest") (codes "backup.info.copy") refl (e ∙ copy_in (backup_folder stanza) (codes "backup.info"))));
+    copy_apart = (
+      λ e. differ (codes "backup.manifest.copy") (codes "backup.info") refl (sym (copy_in folder (codes "backup.manifest")) ∙ e),
+      λ e. differ (codes "backup.manifest.copy") (codes "backup.info.copy") refl (sym (copy_in folder (codes "backup.manifest")) ∙ e ∙ copy_in (backup_folder stanza) (codes "backup.info")),
+    );
     copy_lasts = fixed_lasts stanza (copy_of (manifest_name stanza label)) (Manifested (label, inr refl));
     main_copy_lasts = pair_lasts stanza (copy_of (backup_info stanza)) (inr (inr (inr refl)));
   }

@@ -1,7 +1,7 @@
 -- The backup that a record describes, of what a draft's jobs gave.
-use Rattle.std.proofs.Common.{◌≡◌, Bool, List, [], length, map, Option, Some, None, sym, ◌∙◌, ap, subst, arith}
+use Rattle.std.proofs.Common.{◌≡◌, Bool, List, [], map, Option, Some, None, sym, ◌∙◌, ap, subst, arith}
 use Rattle.std.specs.Prelude.{IfSome, IsSome, unwrap_or}
-use Rattle.base_devices.specs.Content.{Name, Content}
+use Rattle.base_devices.specs.Content.{Content}
 use Rattle.base_devices.specs.Moments.{View}
 use Rattle.base_devices.specs.Links.{LinkState}
 use Rattle.base_model.specs.declared.labels.Label.{Label}
@@ -17,15 +17,14 @@ use Rattle.backup_record.specs.Further.{Further, with_name, with_kept, with_row}
 use Rattle.backup_record.specs.Naming.{IsNaming}
 use Rattle.backup_record.specs.Record.{PriorRead, HasPrior, IsListOf, Adds}
 use Rattle.backup_record.proofs.Adding.{IsMadeOf, adds_none, adds_prior}
-use Rattle.backup_record.proofs.Coming.{came_jobs}
 use Rattle.backup_record.proofs.Left.{OneManifest}
 use Rattle.backup_record.proofs.Maps.{map_of}
-use Rattle.backup_record.proofs.Naming.{naming}
 use Rattle.backup_make.specs.declared.draft.Draft.{Draft}
 use Rattle.backup_make.specs.Draft.{stanza_of, taken_in, folders_in, old_in, list_in, went_with, head_for, further_in, manifest_for, IsDraft, IsFree}
 use Rattle.backup_make.specs.Made.{MakesOf}
 use Rattle.backup_make.specs.Online.{Online}
-use Rattle.backup_make.proofs.Drafted.{one, planned, names_held}
+use Rattle.backup_make.proofs.Completes.{are_named}
+use Rattle.backup_make.proofs.Drafted.{names_held}
 use Rattle.backup_make.proofs.LabelFile.{label_beside}
 
 module _ (draft : Draft) (is_draft : IsDraft draft) (o : Option Online) (free : IfSome o (λ _. IsFree draft)) (links : List LinkState) (whole : Bool) (a d : View) (known : IsSome a.now) (makes : MakesOf draft o links whole a d)
@@ -41,8 +40,7 @@ module _ (draft : Draft) (is_draft : IsDraft draft) (o : Option Online) (free : 
   have = subst (λ (cs : List _). HaveItems (old_in draft) l (taken_in draft) cs) (sym is_draft.plan.choices) (have_items is_draft.plan.settings (old_in draft) (taken_in draft) is_draft.plan.equal is_draft.plan.same)
 
   named : IsNaming (stanza_of draft) draft.label makes.names (went_with draft makes.ends) l
-  named = subst (λ (ns : List Name). IsNaming (stanza_of draft) draft.label ns (went_with draft makes.ends) l) (sym (makes.names_are l (planned draft is_draft)))
-      (naming (stanza_of draft) draft.label (went_with draft makes.ends) l is_draft.plan.singles (came_jobs _ makes.ends makes.come ∙ ap (λ (js : List _). length js) is_draft.plan.jobs) (one draft is_draft))
+  named = are_named draft is_draft o links whole a d makes
 
   made_of : IsMadeOf (stanza_of draft) makes.names makes.kept (head_for draft o makes.stop) (went_with draft makes.ends) l (taken_in draft) draft.plan.choices.items s
   made_of = record {

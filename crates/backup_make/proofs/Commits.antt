@@ -27,7 +27,8 @@ use Rattle.backup_make.specs.Online.{Online}
 use Rattle.backup_make.specs.Stored.{Stored}
 use Rattle.backup_make.specs.Staged.{HasLabel, IsStaged}
 use Rattle.backup_make.specs.Prepared.{Prepares}
-use Rattle.backup_make.specs.Made.{AreApart, IsSyncedAt, LeavesList, ListsIt, MakesOf}
+use Rattle.backup_make.specs.Made.{AreApart, HasCopies, IsSyncedAt, LeavesList, ListsIt, MakesOf}
+use Rattle.backup_make.proofs.Copies.{copies_end, copies_held}
 use Rattle.backup_make.proofs.Drafted.{names_held}
 use Rattle.backup_make.proofs.LabelFile.{label_own, label_lasts}
 use Rattle.backup_make.proofs.Nows.{stored_now, saved_now, listed_now, made_now}
@@ -119,7 +120,7 @@ module _ (draft : Draft) (apart : AreApart (is_own_of draft) (pair_of draft) (ma
       list_ends text given d n is same h synced = subst (λ (t : Text). Ends (AllOf (member_writes (main_of draft) t)) e d) same
           (subst (λ (k : Name). is_unsynced e k ≡ false → is_unsynced e (copy_of k) ≡ false → Ends (AllOf (member_writes k given)) e d) is h (main_synced synced) (main_copy_synced synced))
 
-      module _ (is_draft : IsDraft draft) (text : Text) (d : View) (ended : List (List EndedItem)) (staged : IsStaged draft o links ended b) (prepares : Prepares draft o ended m text) (within : length (manifest_text m) ≤ manifest_limit)
+      module _ (is_draft : IsDraft draft) (text : Text) (d : View) (ended : List (List EndedItem)) (staged : IsStaged draft o links ended b) (stop : ℕ) (prepares : Prepares draft o ended stop m text) (within : length (manifest_text m) ≤ manifest_limit)
           (ends : Synced → Ends (AllOf (member_writes (pair_of draft) (manifest_text m))) b e) (last : Synced → Crash (FirstOf (member_writes (main_of draft) text)) e d)
           (pair_goes : NowChanges (AllOf (member_writes (pair_of draft) (manifest_text m))) b.now e.now) (list_goes : NowChanges (FirstOf (member_writes (main_of draft) text)) e.now d.now) where
         abbrev got : Stored draft links ended b.now
@@ -127,16 +128,16 @@ module _ (draft : Draft) (apart : AreApart (is_own_of draft) (pair_of draft) (ma
 
         -- the label file, where a server ran
         abbrev further : Option Further
-        further = further_in draft o prepares.stop
+        further = further_in draft o stop
 
         abbrev names : List Name
-        names = with_name (further_in draft o prepares.stop) staged.stored.names
+        names = with_name (further_in draft o stop) staged.stored.names
 
         abbrev kept : List JobItems
-        kept = with_kept (further_in draft o prepares.stop) staged.stored.kept
+        kept = with_kept (further_in draft o stop) staged.stored.kept
 
         abbrev Listed : Content → Content → Type 0
-        Listed f g = ListsIt draft o m prepares.list staged.stored.names staged.stored.kept prepares.stop f g
+        Listed f g = ListsIt draft o m prepares.list staged.stored.names staged.stored.kept stop f g
 
         count : length staged.stored.names ≡ length staged.stored.kept
         count = names_held draft is_draft staged.stored.names staged.stored.names_are ended staged.stored.kept staged.stored.are staged.stored.come
@@ -147,7 +148,7 @@ module _ (draft : Draft) (apart : AreApart (is_own_of draft) (pair_of draft) (ma
         label_in : (g : Content) → IsSome b.now → HasStored own b.now g → IfSome further (λ y. g y.name ≡ Some y.bytes)
         label_in g known has = by o staged.label
           where
-            by : (o : Option Online) → IfSome o (HasLabel draft b.now) → IfSome (further_in draft o prepares.stop) (λ y. g y.name ≡ Some y.bytes)
+            by : (o : Option Online) → IfSome o (HasLabel draft b.now) → IfSome (further_in draft o stop) (λ y. g y.name ≡ Some y.bytes)
             by None x = tt
             by (Some y) x = held_one b.now (label_name draft) (g (label_name draft)) y.label_file (x known) (has.stored (label_name draft) (label_own draft) (label_lasts draft) (held_bytes b.now (label_name draft) y.label_file (x known)))
 
@@ -174,13 +175,13 @@ module _ (draft : Draft) (apart : AreApart (is_own_of draft) (pair_of draft) (ma
         lasting : Synced → IsSome b.now → (j i : ℕ) (n : Name) (k : JobItems) (x : Done) → slice_get names j ≡ Some n → slice_get kept j ≡ Some k → slice_get k.done i ≡ Some x → 0 < x.held.count → is_unsynced d n ≡ false
         lasting synced known = by o staged.label
           where
-            by : (o : Option Online) → IfSome o (HasLabel draft b.now) → (j i : ℕ) (n : Name) (k : JobItems) (x : Done) → slice_get (with_name (further_in draft o prepares.stop) staged.stored.names) j ≡ Some n
-                → slice_get (with_kept (further_in draft o prepares.stop) staged.stored.kept) j ≡ Some k → slice_get k.done i ≡ Some x → 0 < x.held.count → is_unsynced d n ≡ false
+            by : (o : Option Online) → IfSome o (HasLabel draft b.now) → (j i : ℕ) (n : Name) (k : JobItems) (x : Done) → slice_get (with_name (further_in draft o stop) staged.stored.names) j ≡ Some n
+                → slice_get (with_kept (further_in draft o stop) staged.stored.kept) j ≡ Some k → slice_get k.done i ≡ Some x → 0 < x.held.count → is_unsynced d n ≡ false
             by None h j i n k x is_n is_k is_x some = item_lasting synced known j i n k x is_n is_k is_x some
             by (Some y) h j i n k x is_n is_k is_x some = ⊎_elim
                 (λ (r : (slice_get staged.stored.names j ≡ Some n) × (slice_get staged.stored.kept j ≡ Some k)). item_lasting synced known j i n k x r.0 r.1 is_x some)
-                (λ (r : (n ≡ label_name draft) × (k ≡ kept_of (label_further draft y prepares.stop))). subst (λ (q : Name). is_unsynced d q ≡ false) (sym r.0) (own_lasting synced (label_name draft) (label_own draft) (label_lasts draft) (held_bytes b.now (label_name draft) y.label_file (h known))))
-                (at_both (stanza_of draft) draft.label staged.stored.kept staged.stored.names (label_further draft y prepares.stop) count j n k is_n is_k)
+                (λ (r : (n ≡ label_name draft) × (k ≡ kept_of (label_further draft y stop))). subst (λ (q : Name). is_unsynced d q ≡ false) (sym r.0) (own_lasting synced (label_name draft) (label_own draft) (label_lasts draft) (held_bytes b.now (label_name draft) y.label_file (h known))))
+                (at_both (stanza_of draft) draft.label staged.stored.kept staged.stored.names (label_further draft y stop) count j n k is_n is_k)
 
         some_of : (o : Option Content) (f : Content) → o ≡ Some f → IsSome o
         some_of o f is = subst (λ (x : Option Content). IsSome x) (sym is) refl
@@ -190,38 +191,44 @@ module _ (draft : Draft) (apart : AreApart (is_own_of draft) (pair_of draft) (ma
             let x = listed_now own pair main (manifest_text m) text apart.pair_lasts apart.main_lasts apart.pair_two apart.main_two apart.pair_out apart.copy_out apart.main_out apart.main_copy_out apart.apart b.now b.now e.now none_goes d.now pair_goes list_goes in
             record { known = x.known; goes = λ f g is_f is_g. ⊎_elim inl (λ made. inr (has_backup (some_of b.now f is_f) f g made)) (x.goes f g is_f is_g) }
 
-        makes : (whole : Bool) → (Synced → whole ≡ true → Ends Listed b d) → (whole ≡ true → NowChanges Listed b.now d.now) → MakesOf draft o links whole b d
-        makes whole at_end all_now = record {
-          names = staged.stored.names;
-          names_are = staged.stored.names_are;
-          ends = ended;
-          kept = staged.stored.kept;
-          received = staged.stored.received;
-          payload = staged.stored.payload;
-          are = staged.stored.are;
-          come = staged.stored.come;
-          got = staged.stored.got;
-          stop = prepares.stop;
-          manifest = m;
-          manifest_is = prepares.manifest_is;
-          manifest_valid = record { rules = prepares.rules; spelled = refl; within = within };
-          control = prepares.control;
-          list = prepares.list;
-          listed = prepares.listed;
-          list_valid = subst (IsBackupText prepares.list) spelled prepares.valid;
-          now = done_goes;
-          whole_now = all_now;
-          synced = lasting;
-          way = done_way;
-          whole_way = at_end;
-        }
+        makes : (whole : Bool) → (Synced → whole ≡ true → Ends Listed b d) → (whole ≡ true → NowChanges Listed b.now d.now) → (Synced → whole ≡ true → Ends (λ f g. HasCopies pair main m prepares.list g) b d)
+            → (whole ≡ true → NowChanges (λ f g. HasCopies pair main m prepares.list g) b.now d.now) → (x : MakesOf draft o links whole b d) × (x.stop ≡ stop)
+        makes whole at_end all_now copied copied_now = (
+          record {
+            names = staged.stored.names;
+            names_are = staged.stored.names_are;
+            ends = ended;
+            kept = staged.stored.kept;
+            received = staged.stored.received;
+            payload = staged.stored.payload;
+            are = staged.stored.are;
+            come = staged.stored.come;
+            got = staged.stored.got;
+            stop = stop;
+            manifest = m;
+            manifest_is = prepares.manifest_is;
+            manifest_valid = record { rules = prepares.rules; spelled = refl; within = within };
+            control = prepares.control;
+            list = prepares.list;
+            listed = prepares.listed;
+            list_valid = subst (IsBackupText prepares.list) spelled prepares.valid;
+            now = done_goes;
+            whole_now = all_now;
+            synced = lasting;
+            way = done_way;
+            whole_way = at_end;
+            copies_now = copied_now;
+            copies = copied;
+          },
+          refl,
+        )
 
         -- the stanza's list may have been saved
         pub makes_part : MakesOf draft o links false b d
-        makes_part = makes false (λ synced (none : false ≡ true). cc) (λ (none : false ≡ true). cc)
+        makes_part = (makes false (λ synced (none : false ≡ true). cc) (λ (none : false ≡ true). cc) (λ synced (none : false ≡ true). cc) (λ (none : false ≡ true). cc)).0
 
         -- it was
-        pub makes_whole : (Synced → Ends (AllOf (member_writes (main_of draft) text)) e d) → NowChanges (AllOf (member_writes (main_of draft) text)) e.now d.now → MakesOf draft o links true b d
+        pub makes_whole : (Synced → Ends (AllOf (member_writes (main_of draft) text)) e d) → NowChanges (AllOf (member_writes (main_of draft) text)) e.now d.now → (x : MakesOf draft o links true b d) × (x.stop ≡ stop)
         makes_whole all all_goes = makes true
             (λ synced is. record {
               comes = λ known g leaves. let x = (made_ends own pair main (manifest_text m) text apart.pair_lasts apart.main_lasts apart.pair_two apart.main_two apart.pair_out apart.copy_out apart.main_out apart.main_copy_out apart.apart b b e d none_way (saved synced) staged.sealed (ends synced) (all synced)).comes known g leaves in
@@ -229,3 +236,5 @@ module _ (draft : Draft) (apart : AreApart (is_own_of draft) (pair_of draft) (ma
             })
             (λ is. let x = made_now own pair main (manifest_text m) text apart.pair_lasts apart.main_lasts apart.pair_two apart.main_two apart.pair_out apart.copy_out apart.main_out apart.main_copy_out apart.apart b.now b.now e.now none_goes d.now pair_goes all_goes in
             record { known = x.known; goes = λ f g is_f is_g. has_backup (some_of b.now f is_f) f g (x.goes f g is_f is_g) })
+            (λ synced is. copies_end own pair main apart m prepares.list text spelled b e d (saved synced).known (ends synced) (all synced))
+            (λ is. copies_held own pair main apart m prepares.list text spelled b.now e.now d.now pair_goes all_goes)

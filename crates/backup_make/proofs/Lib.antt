@@ -4,6 +4,10 @@ pub mod Nows
 pub mod Commits
 pub mod Outcomes
 pub mod After
+pub mod Touched
+pub mod Copies
+pub mod Completes
+pub mod Lasting
 pub mod Parts
 pub mod Stages
 pub mod Besides

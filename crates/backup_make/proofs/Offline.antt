@@ -99,7 +99,7 @@ end_in (e ∷ es) [] i d are is = absurd are
 end_in (e ∷ es) (x ∷ ds) zero d are is = let same : x ≡ d = (let y : ◌≡◌ {A = Option Done} (Some x) (Some d) = is in cc) in (e, refl, ap (λ (y : Done). y.end) (sym same) ∙ are.1)
 end_in (e ∷ es) (x ∷ ds) (suc i) d are is = end_in es ds i d are.2 is
 
-end_of : (ess : List (List EndedItem)) (ks : List JobItems) (j i : ℕ) (k : JobItems) (d : Done) → AreAllEnds ess ks → slice_get ks j ≡ Some k → slice_get k.done i ≡ Some d → (e : EndedItem) × (end_at ess j i ≡ Some e) × (d.end ≡ e.how)
+pub end_of : (ess : List (List EndedItem)) (ks : List JobItems) (j i : ℕ) (k : JobItems) (d : Done) → AreAllEnds ess ks → slice_get ks j ≡ Some k → slice_get k.done i ≡ Some d → (e : EndedItem) × (end_at ess j i ≡ Some e) × (d.end ≡ e.how)
 end_of [] [] j i k d are is in_k = absurd (let e : ◌≡◌ {A = Option JobItems} None (Some k) = is in cc)
 end_of [] (x ∷ ks) j i k d are is in_k = absurd are
 end_of (es ∷ ess) [] j i k d are is in_k = absurd are

@@ -1,5 +1,7 @@
 pub mod Online
 pub mod Draft
+pub mod Touched
+pub mod Kept
 pub mod Stored
 pub mod Staged
 pub mod Prepared

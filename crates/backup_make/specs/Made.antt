@@ -40,6 +40,7 @@ pub record AreApart (own : Name → Bool) (pair main : Name) : Type 0 where
   pub main_out : own main ≡ false
   pub main_copy_out : own (copy_of main) ≡ false
   pub apart : (pair ≢ main) × (pair ≢ copy_of main)
+  pub copy_apart : (copy_of pair ≢ main) × (copy_of pair ≢ copy_of main)
   pub copy_lasts : ¬ IsTemporary (copy_of pair)
   pub main_copy_lasts : ¬ IsTemporary (copy_of main)
 
@@ -58,6 +59,11 @@ pub record HasBackup (own : Name → Bool) (pair main : Name) (m : Manifest) (v 
   pub placed : IsPlaced names kept g
   pub others : (n : Name) → own n ≡ false → ¬ IsTemporary n → n ≢ pair → n ≢ copy_of pair → n ≢ main → n ≢ copy_of main
       → g n ≡ f n
+
+-- the copies of the two pairs have these values
+pub record HasCopies (pair main : Name) (m : Manifest) (v : BackupInfo) (g : Content) : Type 0 where
+  pub manifest_is : g (copy_of pair) ≡ Some (manifest_text m)
+  pub info_is : g (copy_of main) ≡ Some (info_text (backup_sections v))
 
 -- the same for the draft's backup, with its label file where a server ran
 abbrev pub ListsIt : Draft → Option Online → Manifest → BackupInfo → List Name → List JobItems → ℕ → Content → Content
@@ -100,6 +106,11 @@ pub record MakesOf (d : Draft) (o : Option Online) (links : List LinkState) (who
       ⊎ ListsIt d o manifest list names kept stop f g) old new
   pub whole_way : IsSyncedAt (pair_of d) (main_of d) old → whole ≡ true
       → Ends (ListsIt d o manifest list names kept stop) old new
+  -- where it is listed at the end, the two pairs' copies have it too, and so they have it in what a crash then leaves
+  pub copies_now : whole ≡ true
+      → NowChanges (λ f g. HasCopies (pair_of d) (main_of d) manifest list g) old.now new.now
+  pub copies : IsSyncedAt (pair_of d) (main_of d) old → whole ≡ true
+      → Ends (λ f g. HasCopies (pair_of d) (main_of d) manifest list g) old new
 
 -- of a stopped server
 abbrev pub Makes : Draft → List LinkState → Bool → View → View → Type 0
@@ -130,6 +141,12 @@ LeavesAlike main old new = IsSome old.view.now → IfSome new.view.now (AgreeAt 
 abbrev pub OutcomeOf : Result (Unit {0}) MakeFault → Draft → Option Online → List LinkState → View → View → Type 0
 OutcomeOf (Ok x) d o links old new = MakesOf d o links true old new
 OutcomeOf (Err e) d o links old new = LeavesList d old new ⊎ (MayBeListed e × MakesOf d o links false old new)
+
+-- it stopped in a second of this kind, where it is listed
+abbrev pub StopsBy : (ℕ → Type 0) → (result : Result (Unit {0}) MakeFault) (d : Draft) (o : Option Online)
+    (links : List LinkState) (old new : View) → OutcomeOf result d o links old new → Type 0
+StopsBy P (Ok x) d o links old new made = P made.stop
+StopsBy P (Err e) d o links old new made = Unit {0}
 
 -- of a stopped server
 abbrev pub Outcome : Result (Unit {0}) MakeFault → Draft → List LinkState → View → View → Type 0

@@ -11,10 +11,10 @@ use Rattle.backup_make.specs.declared.draft.Draft.{Draft}
 use Rattle.backup_make.specs.Draft.{list_in, manifest_for}
 use Rattle.backup_make.specs.Online.{Online}
 
--- The manifest is that of a draft whose jobs ended so, and the text is that of the stanza's list with its backup.
-pub record Prepares (d : Draft) (o : Option Online) (ends : List (List EndedItem)) (m : Manifest) (text : Text) : Type
-    0 where
-  pub stop : ℕ
+-- The manifest is that of a draft whose jobs ended so and which stopped in this second, and the text is that of the
+-- stanza's list with its backup.
+pub record Prepares (d : Draft) (o : Option Online) (ends : List (List EndedItem)) (stop : ℕ) (m : Manifest)
+    (text : Text) : Type 0 where
   pub manifest_is : m ≡ manifest_for d o ends stop
   pub rules : IsManifest m
   pub control : HasControl m.files

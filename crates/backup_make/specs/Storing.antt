@@ -2,7 +2,7 @@
 use Rattle.std.specs.Prelude.{◌≡◌, ℕ, List, map, None, Some, Result, slice_get, Vec}
 use Rattle.std.specs.declared.alloc.Global.{Global}
 use Rattle.base_devices.specs.Links.{LinkState}
-use Rattle.base_devices.specs.States.{ClockState, DiskState}
+use Rattle.base_devices.specs.States.{ClockState, DiskState, ShowsSecond}
 use Rattle.base_model.specs.Text.{Text}
 use Rattle.worker_protocol.specs.declared.frames.frames.Job as rust_job
 use Rattle.worker_protocol.specs.Frames.{Item, Job}
@@ -20,7 +20,7 @@ use Rattle.backup_make.specs.declared.draft_jobs.Fetched.{Fetched}
 use Rattle.backup_make.specs.declared.fault.MakeFault.{MakeFault}
 use Rattle.backup_make.specs.Draft.{jobs_in}
 use Rattle.backup_make.specs.Faults.{MakeFails, StoreFails}
-use Rattle.backup_make.specs.Made.{Outcome}
+use Rattle.backup_make.specs.Made.{Outcome, StopsBy}
 use Rattle.backup_make.specs.Staged.{IsStaged, fetched_ends}
 use Rattle.backup_make.specs.Stored.{Stored}
 
@@ -70,11 +70,14 @@ FetchingFails d of old new state before after fault =
     StoreFails fault (jobs_in d) (links_in of old) (links_in of new) old.lost.items new.lost.items
     (state before).faults (state after).faults
 
--- at Ok its backup is listed, of what the pool's links read; else the list stays, or after some faults it may be
-abbrev pub MakesOutcome : {L S D : Type 0} → Result (Unit {0}) MakeFault → Draft → (L → LinkState) → Pool L S
-    → (D → DiskState) → D → D → Type 0
-MakesOutcome result d of pool state before after =
-    Outcome result d (links_in of pool) (state before).view (state after).view
+-- at Ok its backup is listed, of what the pool's links read, with a second of its stop that the clock showed; else the
+-- list stays, or after some faults it may be
+abbrev pub MakesOutcome : {L S D C : Type 0} → Result (Unit {0}) MakeFault → Draft → (L → LinkState) → Pool L S
+    → (D → DiskState) → D → D → (C → ClockState) → C → C → Type 0
+MakesOutcome result d of pool state before after clock first last =
+    (made : Outcome result d (links_in of pool) (state before).view (state after).view)
+    × StopsBy (λ stop. ShowsSecond stop (clock first) (clock last)) result d None (links_in of pool)
+    (state before).view (state after).view made
 
 -- why it isn't made, by the pool, the disk and the clock before and after
 abbrev pub MakingFails : {L S D C : Type 0} → Draft → (L → LinkState) → Pool L S → Pool L S → (D → DiskState) → D → D

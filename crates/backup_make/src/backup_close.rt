@@ -1,16 +1,17 @@
 // A backup stops: its stop second is taken, and its label file is stored.
 ghost use Rattle.std.specs.Prelude.{◌≡◌, ◌≤◌, None, Some, IfOk, IfErr, OnOk};
 ghost use Rattle.base_devices.specs.Content.{SameBut};
-ghost use Rattle.base_devices.specs.States.{CallsProperly, last_second};
+ghost use Rattle.base_devices.specs.States.{CallsProperly, ShowsSecond};
 ghost use Rattle.backup_sink.specs.Relation.{Touches};
 ghost use Rattle.backup_sink.specs.Sealed.{IsSealedAt};
 ghost use Rattle.backup_sink.specs.Writing.{GrowsAt, Replaces};
 ghost use Rattle.base_crash_lists.specs.Beside.{StaysBeside};
 ghost use Rattle.backup_make.specs.Draft.{IsDraft, IsFree, is_own_of, label_name};
-ghost use Rattle.backup_make.specs.Closing.{EndingFails, StagesLabel};
+ghost use Rattle.backup_make.specs.Closing.{EndingFails, StagesLabel, StopsShown};
 ghost use Rattle.backup_make.specs.Faults.{StopFails, WriteFails};
 ghost use Rattle.backup_make.specs.Made.{LeavesList};
 ghost use Rattle.backup_make.specs.Online.{IsOnline, online_of};
+ghost use Rattle.backup_make.specs.Touched.{TouchesBackup};
 ghost use Rattle.backup_make.specs.Staged.{IsClosed, IsClosedOf, IsFetched, fetched_draft};
 
 use crate::draft::Draft;
@@ -31,7 +32,7 @@ pub struct Closed<'a> {
 
 // The second in which the backup stops.
 fn stop_of<C: Clock>(clock: &mut C) -> Result<u64, MakeFault>
-    ensures within { IfOk result (λ now. now ≤ last_second) }
+    ensures shows { IfOk result (λ now. ShowsSecond now (C.state clock.old) (C.state clock.new)) }
     ensures later { (C.state clock.old).faults ≤ (C.state clock.new).faults }
     ensures least { (C.state clock.old).least ≤ (C.state clock.new).least }
     ensures fault { IfErr result (λ e. StopFails e (C.state clock.old).faults (C.state clock.new).faults) }
@@ -48,6 +49,7 @@ pub fn close<'a, C: Clock>(clock: &mut C, fetched: Fetched<'a>) -> Result<Closed
     requires { IsFetched fetched }
     ensures closed { IfOk result IsClosed }
     ensures of { IfOk result (IsClosedOf fetched.entry None) }
+    ensures shows { IfOk result (StopsShown (C.state clock.old) (C.state clock.new)) }
     ensures later { (C.state clock.old).faults ≤ (C.state clock.new).faults }
     ensures least { (C.state clock.old).least ≤ (C.state clock.new).least }
     ensures fault { IfErr result (λ e. StopFails e (C.state clock.old).faults (C.state clock.new).faults) }
@@ -85,7 +87,8 @@ fn store_label<D: Disk>(
 }
 
 /// The backup of a running server, whose jobs are done and which the server stopped, stops now. The server's label file
-/// is stored among its files, durably. The stanza's list stays unchanged, in what a crash leaves too.
+/// is stored among its files, durably. The stanza's list stays unchanged, in what a crash leaves too, and so does all
+/// that isn't of this backup.
 pub fn close_online<'a, D: Disk, C: Clock>(
     alloc: Global,
     d: &mut D,
@@ -98,8 +101,10 @@ pub fn close_online<'a, D: Disk, C: Clock>(
     requires free { IsFree (fetched_draft fetched) }
     ensures closed { IfOk result IsClosed }
     ensures of { IfOk result (IsClosedOf fetched.entry (Some (online_of online))) }
+    ensures shows { IfOk result (StopsShown (C.state clock.old) (C.state clock.new)) }
     ensures staged { OnOk result (StagesLabel fetched.entry (online_of online) (D.state d.old) (D.state d.new)) }
     ensures unlisted { LeavesList (fetched_draft fetched.entry) (D.state d.old).view (D.state d.new).view }
+    ensures only { TouchesBackup (fetched_draft fetched.entry) (D.state d.old) (D.state d.new) }
     ensures beside { StaysBeside (fetched_draft fetched.entry).stanza.now (D.state d.old).view (D.state d.new).view }
     ensures frame { CallsProperly (D.state d.old) (D.state d.new) }
     ensures later { (C.state clock.old).faults ≤ (C.state clock.new).faults }

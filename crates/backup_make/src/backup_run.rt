@@ -7,6 +7,7 @@ ghost use Rattle.worker_pool.specs.Run.{AreReady};
 ghost use Rattle.backup_make.specs.Draft.{IsDraft, jobs_in, main_of};
 ghost use Rattle.backup_make.specs.Made.{LeavesAlike};
 ghost use Rattle.backup_make.specs.Storing.{MakesOutcome, MakingFails};
+ghost use Rattle.backup_make.specs.Touched.{TouchesBackup};
 
 use crate::backup_close::close;
 use crate::draft::Draft;
@@ -32,9 +33,12 @@ pub fn make<D: Disk, L: Link, U: Scheduler, C: Clock>(
 
     // The stanza's list is unchanged, or the backup is listed, of the bytes that the links read; and so it is in what a
     // crash leaves, at each moment. At Ok both members of the list's pair have it, and at an error it may be listed
-    // only where the disk failed or memory ran out. Nothing besides the stanza's folders is changed.
-    ensures made { MakesOutcome result draft.entry L.link_state pool.old D.state d.old d.new }
+    // only where the disk failed or memory ran out. It is listed with a second of its stop that the clock showed.
+    // Nothing is changed that isn't of this backup, or of the list's pair.
+    ensures made { MakesOutcome result draft.entry L.link_state pool.old D.state d.old d.new
+        C.state clock.old clock.new }
     ensures alike { OnOk result (LeavesAlike (main_of draft.entry) (D.state d.old) (D.state d.new)) }
+    ensures only { TouchesBackup draft.entry (D.state d.old) (D.state d.new) }
     ensures beside { StaysBeside draft.entry.stanza.now (D.state d.old).view (D.state d.new).view }
     ensures frame { CallsProperly (D.state d.old) (D.state d.new) }
     ensures later { (C.state clock.old).faults ≤ (C.state clock.new).faults }

@@ -10,6 +10,7 @@ ghost use Rattle.backup_sink.specs.Sealed.{IsSealed};
 ghost use Rattle.base_crash_lists.specs.Beside.{StaysBeside};
 ghost use Rattle.backup_make.specs.Draft.{IsDraft, jobs_in, is_own_of};
 ghost use Rattle.backup_make.specs.Made.{LeavesList};
+ghost use Rattle.backup_make.specs.Touched.{TouchesBackup};
 ghost use Rattle.backup_make.specs.Staged.{IsFetched, fetched_draft};
 ghost use Rattle.backup_make.specs.Storing.{FetchingFails, StagesDraft, StoresEnds};
 
@@ -66,7 +67,7 @@ pub struct Fetched<'a> {
 }
 
 /// Has the draft's jobs done, and stores the result of them in the label's folder, durably. The stanza's list stays
-/// unchanged, in what a crash leaves too.
+/// unchanged, in what a crash leaves too, and so does all that isn't of this backup.
 pub fn fetch<'a, D: Disk, L: Link, U: Scheduler>(
     alloc: Global,
     d: &mut D,
@@ -80,6 +81,7 @@ pub fn fetch<'a, D: Disk, L: Link, U: Scheduler>(
     ensures fetched { IfOk result IsFetched }
     ensures staged { IfOk result (StagesDraft draft.entry L.link_state pool.old (D.state d.new)) }
     ensures unlisted { LeavesList draft.entry (D.state d.old).view (D.state d.new).view }
+    ensures only { TouchesBackup draft.entry (D.state d.old) (D.state d.new) }
     ensures beside { StaysBeside draft.entry.stanza.now (D.state d.old).view (D.state d.new).view }
     ensures frame { CallsProperly (D.state d.old) (D.state d.new) }
 

@@ -3,9 +3,10 @@ ghost use Rattle.std.specs.Prelude.{◌≡◌, IfErr, OnOk};
 ghost use Rattle.base_devices.specs.States.{CallsProperly};
 ghost use Rattle.base_crash_lists.specs.Beside.{StaysBeside};
 ghost use Rattle.backup_make.specs.Draft.{main_of};
-ghost use Rattle.backup_make.specs.Closing.{PublishesStaged, PublishingFails};
+ghost use Rattle.backup_make.specs.Closing.{PublishesAt, PublishesStaged, PublishingFails};
 ghost use Rattle.backup_make.specs.Made.{LeavesAlike};
 ghost use Rattle.backup_make.specs.Staged.{IsClosed, closed_draft};
+ghost use Rattle.backup_make.specs.Touched.{TouchesBackup};
 
 use crate::backup_close::Closed;
 use crate::closing_record::prepare;
@@ -22,9 +23,12 @@ pub fn publish<D: Disk>(alloc: Global, d: &mut D, closed: Closed<'_>) -> Result<
 
     // The stanza's list is unchanged, or the backup is listed, of the bytes that the links read; and so it is in what a
     // crash leaves, at each moment. At Ok both members of the list's pair have it, and at an error it may be listed
-    // only where the disk failed or memory ran out. Nothing besides the stanza's folders is changed.
+    // only where the disk failed or memory ran out. It is listed with the second in which it was closed. Nothing is
+    // changed that isn't of this backup, or of the list's pair.
     ensures made { PublishesStaged closed.entry result (D.state d.old) (D.state d.new) }
+    ensures stops { PublishesAt closed.entry result (D.state d.old) (D.state d.new) }
     ensures alike { OnOk result (LeavesAlike (main_of (closed_draft closed.entry)) (D.state d.old) (D.state d.new)) }
+    ensures only { TouchesBackup (closed_draft closed.entry) (D.state d.old) (D.state d.new) }
     ensures beside { StaysBeside (closed_draft closed.entry).stanza.now (D.state d.old).view (D.state d.new).view }
     ensures frame { CallsProperly (D.state d.old) (D.state d.new) }
     ensures fault { IfErr result (PublishingFails closed.entry (D.state d.old) (D.state d.new)) }

@@ -5,3 +5,4 @@ pub mod Stores
 pub mod StoreCauses
 pub mod Opened
 pub mod Refusals
+pub mod Putting

@@ -1,14 +1,15 @@
 -- A file that was opened, and what storing it does and answers; and why it isn't opened.
-use Rattle.std.proofs.Common.{◌≡◌, ◌∙◌, ℕ, ◌<◌, ◌^◌, Option, Some, Result, subst}
+use Rattle.std.proofs.Common.{◌≡◌, ◌∙◌, ⊎_elim, ℕ, [], ◌∷◌, ◌<◌, ◌^◌, Option, Some, Result, refl, subst}
 use Rattle.std.specs.Prelude.{IfSome, IsSome, IsSomeAnd, IfErr, IsErrAnd, string_bytes}
 use Rattle.sha1.specs.Sha1.{sha1}
 use Rattle.base_text.proofs.Digests.{IsSum-sha1}
-use Rattle.base_devices.specs.Content.{Content}
-use Rattle.base_devices.specs.Crash.{IsAlikeAt}
+use Rattle.base_devices.specs.Content.{Content, put}
+use Rattle.base_devices.specs.Crash.{Alike, FirstOf, IsAlikeAt}
 use Rattle.base_devices.specs.Moments.{View}
 use Rattle.base_devices.specs.DataFolder.{Nodes, known_path}
 use Rattle.base_model.specs.declared.clusters.ClusterId.{ClusterId}
 use Rattle.base_model.specs.declared.wal.ArchiveId.{ArchiveId}
+use Rattle.base_model.specs.declared.wal.ArchiveName.{ArchiveName}
 use Rattle.base_model.specs.Text.{Text}
 use Rattle.base_model.specs.Fields.{at_number}
 use Rattle.base_model.specs.Names.{archive_info, wal_text}
@@ -16,6 +17,9 @@ use Rattle.base_model.specs.Represents.{IsArchiveFile}
 use Rattle.base_model.specs.Steps.{Command}
 use Rattle.base_model.specs.Values.{ArchiveInfo}
 use Rattle.base_model.specs.Walks.{IsSynced}
+use Rattle.base_model.proofs.Frame.{AgreesPast, past_alike, past_past}
+use Rattle.base_model.proofs.Healed.{put_past}
+use Rattle.base_model.proofs.Walking.{crash_walks}
 use Rattle.repo_pair.specs.Member.{IsMember}
 use Rattle.repo_stanza.specs.declared.control.Control.{Control}
 use Rattle.repo_stanza.specs.Pairs.{identity_kept, identity_known}
@@ -135,6 +139,21 @@ module _ (stanza : Text) (order : PushOrder) (id : ArchiveId) (fits : (id.versio
       → IsAlikeAt (IsMember (archive_info stanza)) new
   opened_alike synced some alike =
       members_on stanza (archive_path stanza id order.name (sha1 w.0)) w.0 old new file (w.2.crash synced some) some alike
+
+-- and so does what is synced
+module _ (stanza : Text) (id : ArchiveId) (name : ArchiveName) (bytes : Text) (old new : View)
+    (w : Writes stanza id name bytes old new) where
+  abbrev path : Text
+  path = archive_path stanza id name (sha1 bytes)
+
+  past : (f g : Content) → FirstOf ((path, bytes) ∷ []) f g → AgreesPast stanza f g
+  past f g k = ⊎_elim (λ (a : Alike f g). past_alike stanza f g a)
+      (λ (a : Alike (put path (Some bytes) f) g). past_past stanza f (put path (Some bytes) f) g
+      (put_past stanza path bytes f refl) (past_alike stanza (put path (Some bytes) f) g a)) k
+
+  pub written_synced : IsSynced stanza old → IsSome old.now → IsSynced stanza new
+  written_synced synced some = (crash_walks stanza (FirstOf ((path, bytes) ∷ [])) old new synced some
+      (w.crash synced some) past (λ f g. Unit {0}) (λ f g leaves k. tt)).synced
 
 -- the file isn't there, or it is too long
 pub unopened_ends : (stanza : Text) (order : PushOrder) (repo : Option Content) (nodes : Option Nodes) (known : Control)

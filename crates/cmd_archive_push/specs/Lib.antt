@@ -5,6 +5,7 @@ pub mod LogFile
 pub mod Faults
 pub mod Commands
 pub mod Causes
+pub mod Putting
 pub mod Storing
 pub mod Outcomes
 pub mod Texts

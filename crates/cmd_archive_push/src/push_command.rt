@@ -16,7 +16,7 @@ ghost use Rattle.cmd_archive_push.specs.Faults.{push_early};
 ghost use Rattle.cmd_archive_push.specs.LogFile.{IsOpened};
 ghost use Rattle.cmd_archive_push.specs.Outcomes.{pushed_lines};
 ghost use Rattle.cmd_archive_push.specs.WalPath.{wal_path};
-ghost use Rattle.cmd_archive_push.specs.Storing.{IsIdOfCurrentIn, DoesPush, StoresBy, LastsBy, StaysAgreed, StaysAlike, PushEnds};
+ghost use Rattle.cmd_archive_push.specs.Storing.{IsIdOfCurrentIn, DoesPush, StoresBy, PutsByOrder, LastsBy, StaysAgreed, StaysAlike, StaysSynced, PushEnds};
 
 use crate::current::id_of;
 use crate::fault::{PushFault, of_store};
@@ -76,7 +76,10 @@ fn store<D: Disk, T: DataFolder>(
     ensures stored { IfOk result (StoresBy D.state T.state stanza.now order.now repo.old repo.new tree.old) }
     // No crash removes it.
     ensures lasts { IfOk result (LastsBy stanza.now order.now (D.state repo.old) (D.state repo.new)) }
+    // Whatever else lies in the repository, nothing of it changes but the file's path.
+    ensures puts { PutsByOrder stanza.now order.now (D.state repo.old) (D.state repo.new) (T.state tree.old) }
     ensures agrees { StaysAgreed stanza.now (D.state repo.old) (D.state repo.new) }
+    ensures synced { StaysSynced stanza.now (D.state repo.old) (D.state repo.new) }
     ensures alike { StaysAlike stanza.now (D.state repo.old) (D.state repo.new) }
     ensures rest { OnNone (reached_by push_early result) (IsStill (D.state repo.old).view (D.state repo.new).view) }
     ensures looks { OnlyReadsFolder (T.state tree.old) (T.state tree.new) }
@@ -123,7 +126,10 @@ pub fn push_file<D: Disk, T: DataFolder, K: Locks>(
     ensures stored { IfOk result (StoresBy D.state T.state stanza.now order.entry repo.old repo.new tree.old) }
     // No crash removes it.
     ensures lasts { IfOk result (LastsBy stanza.now order.entry (D.state repo.old) (D.state repo.new)) }
+    // Whatever else lies in the repository, nothing of it changes but the file's path.
+    ensures puts { PutsByOrder stanza.now order.entry (D.state repo.old) (D.state repo.new) (T.state tree.old) }
     ensures agrees { StaysAgreed stanza.now (D.state repo.old) (D.state repo.new) }
+    ensures synced { StaysSynced stanza.now (D.state repo.old) (D.state repo.new) }
     ensures alike { StaysAlike stanza.now (D.state repo.old) (D.state repo.new) }
     ensures rest { OnNone (reached_by push_early result) (IsStill (D.state repo.old).view (D.state repo.new).view) }
     ensures looks { OnlyReadsFolder (T.state tree.old) (T.state tree.new) }

@@ -35,10 +35,12 @@ use Rattle.cmd_archive_push_async.specs.declared.files.pushing.Tried.{Tried}
 use Rattle.cmd_archive_push_async.specs.declared.files.pushing.Tried.TheVariants.{Stored, Refused}
 use Rattle.cmd_archive_push_async.specs.Draining.{AreOf, Drains, end_of}
 use Rattle.cmd_archive_push_async.specs.Ends.{EndCause, EndCauseOf, IsLongFile, SkipsMissing, is_missing, three}
-use Rattle.cmd_archive_push_async.specs.Fates.{Entry, absent, kept_of, marks_of, names_of, kept_files, all_marks, kept_number, refused_number, AreFates, IsFateOf, IsCountOf, Counts}
+use Rattle.cmd_archive_push_async.specs.Fates.{Entry, absent, kept_of, marks_of, names_of, kept_files, all_marks, kept_number, refused_number, AreFates, HasNoOther, HasOther, IsFateOf, IsCountOf, Counts}
 use Rattle.cmd_archive_push_async.specs.Pushing.{stored_of, tried_of, fate_of}
+use Rattle.cmd_archive_push_async.specs.Putting.{PutsFrom, PutsOne}
 use Rattle.cmd_archive_push_async.specs.Storing.{GoesByStores, stored}
 use Rattle.cmd_archive_push_async.proofs.Goings.{stores_still, stores_on, stores_now}
+use Rattle.cmd_archive_push_async.proofs.Putting.{files_on, puts_from_none, puts_from_absent, puts_from_wide, puts_from_on, puts_from_one, puts_from_failed}
 use Rattle.cmd_archive_push_async.proofs.Stores.{stored_after}
 
 -- ---- files of names
@@ -60,10 +62,6 @@ are_one f name bytes is = inr (bytes, [], refl, is, refl)
 names_on : (xs ys : List Entry) → names_of (xs ++ ys) ≡ names_of xs ++ names_of ys
 names_on [] ys = refl
 names_on (e ∷ xs) ys = ap (λ (l : List ArchiveName). e.name ∷ l) (names_on xs ys)
-
-pub files_on : (xs ys : List Entry) → kept_files (xs ++ ys) ≡ kept_files xs ++ kept_files ys
-files_on [] ys = refl
-files_on (e ∷ xs) ys = ap (λ (l : List Named). kept_of e.name e.fate ++ l) (files_on xs ys) ∙ sym (append_assoc (kept_of e.name e.fate) (kept_files xs) (kept_files ys))
 
 marks_all : (stanza : Text) (xs ys : List Entry) → all_marks stanza (xs ++ ys) ≡ all_marks stanza xs ++ all_marks stanza ys
 marks_all stanza [] ys = refl
@@ -102,6 +100,7 @@ module _ (stanza : Text) (id : ArchiveId) (system : ℕ) (f : Nodes) where
     ended = λ some. cc;
     counted = tt;
     repository = stores_still stanza id repo;
+    puts = puts_from_none stanza id system f names repo;
     fates = λ s some now. tt;
     marks = marks_still stanza [] spool;
     part = now_none [] spool.now spool.now refl;
@@ -116,6 +115,7 @@ module _ (stanza : Text) (id : ArchiveId) (system : ℕ) (f : Nodes) where
     ended = λ some. (refl, refl);
     counted = record { pushed = pushed; refused = refused };
     repository = stores_still stanza id repo;
+    puts = puts_from_none stanza id system f [] repo;
     fates = λ s some now. tt;
     marks = marks_still stanza [] spool;
     part = now_none [] spool.now spool.now refl;
@@ -137,6 +137,7 @@ module _ (stanza : Text) (id : ArchiveId) (system : ℕ) (f : Nodes) where
         ended = λ some. (refl, refl);
         counted = record { pushed = pushed; refused = refused };
         repository = none.repository;
+        puts = puts_from_absent stanza id system f name lacks repo;
         fates = λ s some now. (inl (lacks, refl), tt);
         marks = none.marks;
         part = none.part;
@@ -164,6 +165,8 @@ module _ (stanza : Text) (id : ArchiveId) (system : ℕ) (f : Nodes) where
       counted = counts p.entries q.entries p.counted q.counted;
       repository = subst (λ (l : List Named). GoesByStores stanza id l q.more repo new_repo) (sym (files_on p.entries q.entries))
           (stores_on stanza id (kept_files p.entries) (kept_files q.entries) q.more repo mid_repo new_repo first_goes q.repository);
+      puts = puts_from_on stanza id system f xs ys p.entries q.entries q.more repo mid_repo new_repo (p.ended refl).0 q.of_names
+          (subst (λ (l : List Named). PutsFrom stanza id system f xs p.entries l repo mid_repo) none p.puts) q.puts;
       fates = λ s some now. fates_on f s id system p.entries q.entries (p.fates s some now)
           (q.fates (stored s id (kept_files p.entries)) (p.repository.known some) (stores_now stanza id (kept_files p.entries) repo mid_repo first_goes s some now));
       marks = subst (λ (l : List Named). GivesMarks stanza l spool new_spool) (sym (files_on p.entries q.entries))
@@ -183,6 +186,7 @@ module _ (stanza : Text) (id : ArchiveId) (system : ℕ) (f : Nodes) where
     ended = λ some. cc;
     counted = tt;
     repository = p.repository;
+    puts = puts_from_wide stanza id system f xs ys p.entries p.more repo new_repo p.puts;
     fates = p.fates;
     marks = p.marks;
     part = p.part;
@@ -247,53 +251,58 @@ module _ (stanza : Text) (id : ArchiveId) (system : ℕ) (f : Nodes) (name : Arc
 
   -- a file whose push was answered, and what was marked of it
   pub drains_one : (tried : Tried) (r : Result Drained (Halt PushFault)) → GoesByStores stanza id (stored_of (Ok tried) (named name bytes)) [] repo new_repo
-      → ((s : Stanza) → IsSome repo.now → NowRepresents stanza (Some s) repo.now → IsFateOf s id system name bytes (fate_of tried bytes))
+      → PutsOne stanza id system name bytes (Ok tried) repo new_repo
+      → ((s : Stanza) → IsSome repo.now → NowRepresents stanza (Some s) repo.now → IsFateOf (HasNoOther s id name) (HasOther s id name) system name bytes (fate_of tried bytes))
       → GivesMarks stanza (kept_of name (fate_of tried bytes)) spool new_spool → NowChanges (FirstOf (marks_of stanza name (fate_of tried bytes))) spool.now new_spool.now
       → OnOk r (NowChanges (AllOf (marks_of stanza name (fate_of tried bytes))) spool.now new_spool.now) → IfOk r (IsCountOf (fate_of tried bytes))
       → Drains stanza id system f (name ∷ []) (end_of r) repo new_repo spool new_spool
-  drains_one (Stored sum) (Ok d) goes fate marks part whole counted = record {
+  drains_one (Stored sum) (Ok d) goes puts fate marks part whole counted = record {
     entries = record { name = name; fate = fate_of (Stored sum) bytes } ∷ [];
     more = [];
     of_names = are_one f name bytes known;
     ended = λ some. (refl, refl);
     counted = record { pushed = counted.pushed; refused = counted.refused };
     repository = goes;
+    puts = puts_from_one stanza id system f name bytes known repo new_repo (Stored sum) puts;
     fates = λ s some now. (inr (bytes, known, fate s some now), tt);
     marks = marks;
     part = part;
     whole = λ some. whole;
   }
-  drains_one (Stored sum) (Err e) goes fate marks part whole counted = record {
+  drains_one (Stored sum) (Err e) goes puts fate marks part whole counted = record {
     entries = record { name = name; fate = fate_of (Stored sum) bytes } ∷ [];
     more = [];
     of_names = are_one f name bytes known;
     ended = λ some. (refl, refl);
     counted = tt;
     repository = goes;
+    puts = puts_from_one stanza id system f name bytes known repo new_repo (Stored sum) puts;
     fates = λ s some now. (inr (bytes, known, fate s some now), tt);
     marks = marks;
     part = part;
     whole = λ some. cc;
   }
-  drains_one (Refused fault line) (Ok d) goes fate marks part whole counted = record {
+  drains_one (Refused fault line) (Ok d) goes puts fate marks part whole counted = record {
     entries = record { name = name; fate = fate_of (Refused fault line) bytes } ∷ [];
     more = [];
     of_names = are_none f (name ∷ []);
     ended = λ some. (refl, refl);
     counted = record { pushed = counted.pushed; refused = counted.refused };
     repository = goes;
+    puts = puts_from_one stanza id system f name bytes known repo new_repo (Refused fault line) puts;
     fates = λ s some now. (inr (bytes, known, fate s some now), tt);
     marks = marks;
     part = part;
     whole = λ some. whole;
   }
-  drains_one (Refused fault line) (Err e) goes fate marks part whole counted = record {
+  drains_one (Refused fault line) (Err e) goes puts fate marks part whole counted = record {
     entries = record { name = name; fate = fate_of (Refused fault line) bytes } ∷ [];
     more = [];
     of_names = are_none f (name ∷ []);
     ended = λ some. (refl, refl);
     counted = tt;
     repository = goes;
+    puts = puts_from_one stanza id system f name bytes known repo new_repo (Refused fault line) puts;
     fates = λ s some now. (inr (bytes, known, fate s some now), tt);
     marks = marks;
     part = part;
@@ -302,9 +311,9 @@ module _ (stanza : Text) (id : ArchiveId) (system : ℕ) (f : Nodes) (name : Arc
 
   -- a file whose push failed
   pub drains_failed : (r : Result Tried (Halt PushFault)) (halt : Halt PushFault) → r ≡ Err halt → GoesByStores stanza id (stored_of r (named name bytes)) (tried_of r (named name bytes)) repo new_repo
-      → Drains stanza id system f (name ∷ []) None repo new_repo spool spool
+      → PutsOne stanza id system name bytes r repo new_repo → Drains stanza id system f (name ∷ []) None repo new_repo spool spool
   unfolding drains_not
-  drains_failed r halt is goes =
+  drains_failed r halt is goes puts =
       let not = drains_not stanza id system f (name ∷ []) repo spool in record {
         entries = [];
         more = n ∷ [];
@@ -312,6 +321,7 @@ module _ (stanza : Text) (id : ArchiveId) (system : ℕ) (f : Nodes) (name : Arc
         ended = λ some. cc;
         counted = tt;
         repository = subst (λ (k : Result Tried (Halt PushFault)). GoesByStores stanza id (stored_of k n) (tried_of k n) repo new_repo) is goes;
+        puts = puts_from_failed stanza id system f name bytes known repo new_repo halt (subst (λ (k : Result Tried (Halt PushFault)). PutsOne stanza id system name bytes k repo new_repo) is puts);
         fates = λ s some now. tt;
         marks = not.marks;
         part = not.part;
@@ -322,6 +332,10 @@ module _ (stanza : Text) (id : ArchiveId) (system : ℕ) (f : Nodes) (name : Arc
 pub answered_goes : (stanza : Text) (id : ArchiveId) (n : Named) (repo new_repo : View) (r : Result Tried (Halt PushFault)) (tried : Tried) → r ≡ Ok tried
     → GoesByStores stanza id (stored_of r n) (tried_of r n) repo new_repo → GoesByStores stanza id (stored_of (Ok tried) n) [] repo new_repo
 answered_goes stanza id n repo new_repo r tried is goes = subst (λ (k : Result Tried (Halt PushFault)). GoesByStores stanza id (stored_of k n) (tried_of k n) repo new_repo) is goes
+
+pub answered_puts : (stanza : Text) (id : ArchiveId) (system : ℕ) (name : ArchiveName) (bytes : Text) (repo new_repo : View) (r : Result Tried (Halt PushFault)) (tried : Tried) → r ≡ Ok tried
+    → PutsOne stanza id system name bytes r repo new_repo → PutsOne stanza id system name bytes (Ok tried) repo new_repo
+answered_puts stanza id system name bytes repo new_repo r tried is puts = subst (λ (k : Result Tried (Halt PushFault)). PutsOne stanza id system name bytes k repo new_repo) is puts
 
 -- ---- why a file ends the drain
 

@@ -52,7 +52,7 @@ moves_as stanza P U a b wider m = record {
 pub held_on : (stanza : Text) (s : Stanza) (id : ArchiveId) (fs : List Named) (n : Named) → IsArchivedIn stanza s id n → IsArchivedIn stanza (stored s id fs) id n
 held_on stanza s id fs n h = record { file = h.file; archived = stays_archived h.file s id fs h.archived; lies = h.lies; sum = h.sum }
 
-in_either : {X : Type 0} (x : X) (xs ys : List X) → In x (xs ++ ys) → In x xs ⊎ In x ys
+pub in_either : {X : Type 0} (x : X) (xs ys : List X) → In x (xs ++ ys) → In x xs ⊎ In x ys
 in_either x [] ys h = inr h
 in_either x (z ∷ xs) ys h = ⊎_elim (λ (e : x ≡ z). inl (inl e)) (λ k. ⊎_elim (λ i. inl (inr i)) (λ i. inr i) (in_either x xs ys k)) h
 

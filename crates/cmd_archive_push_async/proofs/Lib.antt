@@ -1,6 +1,9 @@
 pub mod Stores
 pub mod Goings
 pub mod Pushes
+pub mod Putting
+pub mod PutOne
+pub mod Held
 pub mod Put
 pub mod Following
 pub mod Groups

@@ -1,20 +1,16 @@
 -- What a drain leaves of the archive pair, push by push.
-use Rattle.std.proofs.Common.{⊎_elim, refl, [], ◌∷◌, Some}
+use Rattle.std.proofs.Common.{refl}
 use Rattle.sha1.specs.Sha1.{sha1}
 use Rattle.base_text.specs.Sum.{IsSum}
 use Rattle.base_text.proofs.Digests.{IsSum-sha1}
-use Rattle.base_devices.specs.Content.{Content, put}
-use Rattle.base_devices.specs.Crash.{FirstOf, Alike}
 use Rattle.base_devices.specs.Moments.{View}
 use Rattle.base_model.specs.declared.wal.ArchiveId.{ArchiveId}
 use Rattle.base_model.specs.declared.wal.ArchiveName.{ArchiveName}
 use Rattle.base_model.specs.Represents.{IsArchivePlace, IsArchiveFile}
 use Rattle.base_model.specs.Text.{Text}
-use Rattle.base_model.proofs.Frame.{AgreesPast, past_alike, past_past}
-use Rattle.base_model.proofs.Healed.{put_past}
-use Rattle.base_model.proofs.Walking.{crash_walks}
 use Rattle.archive_lookup.specs.Stored.{archive_path}
 use Rattle.archive_store.specs.Pushes.{Writes}
+use Rattle.cmd_archive_push.proofs.Putting.{puts_first}
 use Rattle.cmd_archive_push.proofs.Stores.{agrees_on, members_on}
 use Rattle.cmd_archive_push_async.specs.Paired.{KeepsPair}
 
@@ -37,14 +33,10 @@ module _ (stanza : Text) (id : ArchiveId) (name : ArchiveName) (place : (sum : T
   file : IsArchiveFile stanza path
   file = record { id = id; file = name; sum = sha1 bytes; fits = place (sha1 bytes) (IsSum-sha1 bytes); is = refl }
 
-  past : (f g : Content) → FirstOf ((path, bytes) ∷ []) f g → AgreesPast stanza f g
-  past f g w = ⊎_elim (λ (k : Alike f g). past_alike stanza f g k)
-      (λ (k : Alike (put path (Some bytes) f) g). past_past stanza f (put path (Some bytes) f) g (put_past stanza path bytes f refl) (past_alike stanza (put path (Some bytes) f) g k)) w
-
   pub pair_pushed : (old new : View) → Writes stanza id name bytes old new → KeepsPair stanza old new
   pair_pushed old new w = record {
     known = w.now.known;
     agrees = λ some h. agrees_on stanza path bytes old.now new.now file w.now some h;
-    synced = λ t some. (crash_walks stanza (FirstOf ((path, bytes) ∷ [])) old new t some (w.crash t some) past (FirstOf ((path, bytes) ∷ [])) (λ f g leaves k. k)).synced;
+    synced = λ t some. (puts_first stanza id name place bytes old new w).synced t some;
     alike = λ t some h. members_on stanza path bytes old new file (w.crash t some) some h;
   }

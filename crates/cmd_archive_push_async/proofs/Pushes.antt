@@ -23,7 +23,7 @@ use Rattle.base_model.specs.Steps.{Named, after_all, push_of}
 use Rattle.base_model.specs.Now.{NowRepresents}
 use Rattle.base_model.specs.Steady.{IsSteady, EachImage}
 use Rattle.base_model.proofs.Created.{put_same}
-use Rattle.base_model.proofs.Pushed.{at_known}
+use Rattle.base_model.proofs.Pushed.{at_known, file_of}
 use Rattle.base_model.proofs.Segments.{IsPartOfPush, NowPartOfPush}
 use Rattle.base_model.proofs.Temporary.{file_lasts}
 use Rattle.base_model.proofs.Turned.{note_represents}
@@ -37,7 +37,7 @@ use Rattle.archive_store.specs.Still.{IsStill}
 use Rattle.archive_store.proofs.Got.{same_place}
 use Rattle.archive_store.proofs.Piecewise.{read_is}
 use Rattle.archive_store.proofs.PushedEach.{part_now, part_moves, all_now, all_steady}
-use Rattle.archive_lookup.specs.Stored.{archived_file, archive_path, HasSum, StoresOnly, StoresTwo}
+use Rattle.archive_lookup.specs.Stored.{archived_file, archive_path, HasSum, Stores, StoresNone, StoresOnly, StoresTwo}
 use Rattle.archive_lookup.specs.Causes.{OnFinding, PushCause, IsFileOf, StoresLong}
 use Rattle.archive_lookup.specs.declared.stored.fault.ArchiveFault.{ArchiveFault}
 use Rattle.archive_lookup.specs.declared.stored.fault.ArchiveFault.TheVariants.{HeaderForm, SegmentSize, HeaderMismatch, Ambiguous, Duplicate, NotFound, SegmentDamaged, TooLong, TooMany, Disk, NoMemory}
@@ -55,7 +55,7 @@ use Rattle.cmd_archive_push_async.specs.declared.files.pushing.Tried.{Tried}
 use Rattle.cmd_archive_push_async.specs.declared.files.pushing.Tried.TheVariants.{Stored, Refused}
 use Rattle.cmd_archive_push_async.specs.Pushing.{stored_of, tried_of, fate_of, ShowsSum, EndsDrain, IsHaltedBy}
 use Rattle.cmd_archive_push_async.specs.Ends.{EndCause, three}
-use Rattle.cmd_archive_push_async.specs.Fates.{HasOther, IsContentOf, IsFateOf}
+use Rattle.cmd_archive_push_async.specs.Fates.{HasNoOther, HasOther, IsContentOf, IsFateOf}
 use Rattle.cmd_archive_push_async.specs.Storing.{stored, IsPartOfStores, IsArchivedIn, GoesByStores}
 use Rattle.cmd_archive_push_async.proofs.Stores.{one_stored, one_part}
 use Rattle.cmd_archive_push_async.proofs.Goings.{moves_as, stores_none}
@@ -73,7 +73,7 @@ same_bytes None s t h k = absurd h
 same_bytes (Some b) s t h k = sym h ∙ k
 
 -- two sums that give a file one path, of which the bytes at the path have the second where the path doesn't state it
-one_sum : (stanza : Text) (id : ArchiveId) (name : ArchiveName) (s t : Text) (v : Option Text) → IsSum s → archive_path stanza id name s ≡ archive_path stanza id name t → HasSum name v s → HasSum name v t → s ≡ t
+pub one_sum : (stanza : Text) (id : ArchiveId) (name : ArchiveName) (s t : Text) (v : Option Text) → IsSum s → archive_path stanza id name s ≡ archive_path stanza id name t → HasSum name v s → HasSum name v t → s ≡ t
 one_sum stanza id (Whole g) s t v is e h k =
     let x : segment_text g ++ 45 ∷ sum_text s ≡ segment_text g ++ 45 ∷ sum_text t = unslash (segment_folder g) (segment_text g ++ 45 ∷ sum_text s) (segment_text g ++ 45 ∷ sum_text t) (below_id_same stanza id (archive_text (Whole g) (sum_text s)) (archive_text (Whole g) (sum_text t)) e) in
     let y : 45 ∷ sum_text s ≡ 45 ∷ sum_text t = append_cancel_left (segment_text g) (45 ∷ sum_text s) (45 ∷ sum_text t) x in
@@ -134,27 +134,50 @@ module _ (stanza : Text) (id : ArchiveId) (name : ArchiveName) (bytes : Text) (p
       let x = sum_archived kept digest f.0 s (now.represents f.0 f.1) stores.stored in
       record { file = x.0; archived = x.1; of_id = x.2; of_name = x.3; of_sum = x.4 }
 
+  -- where it was stored under no name, or with the sum of these bytes alone, the stanza has it with no other
+  no_other : (f : Content) (s : Stanza) → HasStanza stanza f s → (sum : Text) → ((other : Text) → Stores stanza id name f other → other ≡ sum) → HasNoOther s id name sum
+  no_other f s h sum only = record {
+    each = λ file at i n.
+        let there : f (archive_path stanza file.id file.name (sha1 file.bytes)) ≡ Some file.bytes =
+        (h.archived (stored_name stanza file) file.bytes (file_of stanza file (h.named file at))).1 (file, at, refl, refl) in
+        let here : f (archive_path stanza id name (sha1 file.bytes)) ≡ Some file.bytes =
+        subst (λ (k : ArchiveId). f (archive_path stanza k name (sha1 file.bytes)) ≡ Some file.bytes) i (subst (λ (m : ArchiveName). f (archive_path stanza file.id m (sha1 file.bytes)) ≡ Some file.bytes) n there) in
+        only (sha1 file.bytes) (subst (λ (o : Option Text). HasSum name o (sha1 file.bytes)) (sym here) (has_own name file.bytes));
+  }
+
+  pub own_alone : (system count : ℕ) (first : Text) (old new : Option Content) (pushed : Pushed) (sum : Sum) → IsPushedAs stanza id name system (Some bytes) first count old new pushed sum
+      → (s : Stanza) → IsSome old → NowRepresents stanza (Some s) old → HasNoOther s id name (sha1 bytes)
+  own_alone system count first old new New sum x s some now =
+      let f = known_as old some in
+      let none = at_known (StoresNone stanza id name) old f.0 f.1 (x.new refl).0 in
+      no_other f.0 s (now.represents f.0 f.1) (sha1 bytes) (λ other stores. absurd (none other stores))
+  own_alone system count first old new Same sum x s some now =
+      let f = known_as old some in
+      let only = at_known (λ f. StoresOnly stanza id name f (sha1 x.bytes)) old f.0 f.1 (x.same refl).0 in
+      no_other f.0 s (now.represents f.0 f.1) (sha1 bytes) (λ other stores. only.only other stores ∙ ap sha1 (sym x.read.known))
+
   -- a push that is refused for its content is reported so
-  found_as : (system : ℕ) (o : Option Content) (rose : Type 0) (e : ArchiveFault) (fault : PushFault) (line : Text) → ◌≡◌ {A = Halt PushFault} (IsRefused fault) (of_archive e)
-      → content_text fault ≡ Some line → PushCause stanza id name system bytes o rose e → (s : Stanza) → IsSome o → NowRepresents stanza (Some s) o → IsContentOf s id system name bytes fault
-  found_as system o rose (HeaderForm i) fault line is text h s some now =
-      let e : fault ≡ FormFault i = cc in subst (λ (k : PushFault). IsContentOf s id system name bytes k) (sym e) h
-  found_as system o rose (SegmentSize t f) fault line is text h s some now =
-      let e : fault ≡ SizeFault t f = cc in subst (λ (k : PushFault). IsContentOf s id system name bytes k) (sym e) h
-  found_as system o rose (HeaderMismatch k f) fault line is text h s some now =
-      let e : fault ≡ MismatchFault k f = cc in subst (λ (x : PushFault). IsContentOf s id system name bytes x) (sym e) h
-  found_as system o rose (Ambiguous x y) fault line is text h s some now =
+  pub found_as : (system : ℕ) (o : Option Content) (rose : Type 0) (other : Text → Type 0) → ((kept : Text) → IfSome o (λ f. StoresOnly stanza id name f kept) → other kept)
+      → (e : ArchiveFault) (fault : PushFault) (line : Text) → ◌≡◌ {A = Halt PushFault} (IsRefused fault) (of_archive e)
+      → content_text fault ≡ Some line → PushCause stanza id name system bytes o rose e → IsContentOf other system name bytes fault
+  found_as system o rose other given (HeaderForm i) fault line is text h =
+      let e : fault ≡ FormFault i = cc in subst (λ (k : PushFault). IsContentOf other system name bytes k) (sym e) h
+  found_as system o rose other given (SegmentSize t f) fault line is text h =
+      let e : fault ≡ SizeFault t f = cc in subst (λ (k : PushFault). IsContentOf other system name bytes k) (sym e) h
+  found_as system o rose other given (HeaderMismatch k f) fault line is text h =
+      let e : fault ≡ MismatchFault k f = cc in subst (λ (x : PushFault). IsContentOf other system name bytes x) (sym e) h
+  found_as system o rose other given (Ambiguous x y) fault line is text h =
       let e : fault ≡ AmbiguousFault x y = cc in let n : ◌≡◌ {A = Option Text} None (Some line) = subst (λ (k : PushFault). content_text k ≡ Some line) e text in cc
-  found_as system o rose (Duplicate k f) fault line is text h s some now =
+  found_as system o rose other given (Duplicate k f) fault line is text h =
       let e : fault ≡ DuplicateFault k f = cc in
-      subst (λ (x : PushFault). IsContentOf s id system name bytes x) (sym e) (h.0, h.1, h.2, other_of k.0 o h.3 s some now)
-  found_as system o rose NotFound fault line is text h s some now = absurd h
-  found_as system o rose (SegmentDamaged t f) fault line is text h s some now = absurd h
-  found_as system o rose (TooLong m l) fault line is text h s some now =
+      subst (λ (x : PushFault). IsContentOf other system name bytes x) (sym e) (h.0, h.1, h.2, given k.0 h.3)
+  found_as system o rose other given NotFound fault line is text h = absurd h
+  found_as system o rose other given (SegmentDamaged t f) fault line is text h = absurd h
+  found_as system o rose other given (TooLong m l) fault line is text h =
       let e : fault ≡ LongFault m l = cc in let n : ◌≡◌ {A = Option Text} None (Some line) = subst (λ (k : PushFault). content_text k ≡ Some line) e text in cc
-  found_as system o rose (TooMany l) fault line is text h s some now = absurd h
-  found_as system o rose Disk fault line is text h s some now = cc
-  found_as system o rose NoMemory fault line is text h s some now = cc
+  found_as system o rose other given (TooMany l) fault line is text h = absurd h
+  found_as system o rose other given Disk fault line is text h = cc
+  found_as system o rose other given NoMemory fault line is text h = cc
 
   -- what the disk has so is archived
   has_archived : (f : Content) (s : Stanza) → HasStanza stanza f s → HasSum name (f path) (sha1 bytes) → IsArchivedIn stanza s id (named name bytes)
@@ -252,7 +275,7 @@ found_still v d (TooMany l) fault is h = h
 found_still v d Disk fault is h = cc
 found_still v d NoMemory fault is h = cc
 
-still_found : (v d : View) (e : StoreFault) (fault : PushFault) → ◌≡◌ {A = Halt PushFault} (IsRefused fault) (of_store e) → OnPushFinding e (IsStill v d) → IsStill v d
+pub still_found : (v d : View) (e : StoreFault) (fault : PushFault) → ◌≡◌ {A = Halt PushFault} (IsRefused fault) (of_store e) → OnPushFinding e (IsStill v d) → IsStill v d
 still_found v d (Archive e) fault is h = found_still v d e fault is h
 still_found v d Source fault is h = cc
 
@@ -273,7 +296,7 @@ halted_sum halt P (Err end) h = tt
 -- ---- what became of it
 
 -- the bytes that were read are those that are known
-known_cause : (stanza : Text) (id : ArchiveId) (name : ArchiveName) (system count : ℕ) (first : Text) (model : Option Text) (o : Option Content) (rose source_rose : Type 0) (e : ArchiveFault) (bytes : Text) → model ≡ Some bytes
+pub known_cause : (stanza : Text) (id : ArchiveId) (name : ArchiveName) (system count : ℕ) (first : Text) (model : Option Text) (o : Option Content) (rose source_rose : Type 0) (e : ArchiveFault) (bytes : Text) → model ≡ Some bytes
     → PushFromCause stanza id name system model first count o rose source_rose (Archive e) → PushCause stanza id name system bytes o rose e
 known_cause stanza id name system count first model o rose source_rose e bytes is x =
     subst (λ (b : Text). PushCause stanza id name system b o rose e) (read_is model first count x.0 x.1 bytes is) x.2
@@ -282,20 +305,25 @@ module _ (stanza : Text) (id : ArchiveId) (name : ArchiveName) (system count : �
     (Known : Text → Type 0) (known : (bytes : Text) → Known bytes → model ≡ Some bytes) where
   pub halted_fate : (e : StoreFault) (halt : Halt PushFault) → halt ≡ of_store e → PushFromCause stanza id name system model first count o rose source_rose e
       → (r : Result Tried (Halt PushFault)) → IsHaltedBy halt r
-      → IfOk r (λ tried. (bytes : Text) → Known bytes → (s : Stanza) → IsSome o → NowRepresents stanza (Some s) o → IsFateOf s id system name bytes (fate_of tried bytes))
+      → IfOk r (λ tried. (bytes : Text) → Known bytes → (s : Stanza) → IsSome o → NowRepresents stanza (Some s) o → IsFateOf (HasNoOther s id name) (HasOther s id name) system name bytes (fate_of tried bytes))
   halted_fate e halt is cause (Ok (Stored sum)) h = absurd h
   halted_fate (Archive e) halt is cause (Ok (Refused fault line)) h = λ bytes t s some now. (
     fault,
-    found_as stanza id name bytes place system o rose e fault (string_bytes line) (sym h.0 ∙ is) h.1 (known_cause stanza id name system count first model o rose source_rose e bytes (known bytes t) cause) s some now,
+    found_as stanza id name bytes place system o rose (HasOther s id name) (λ kept only. other_of stanza id name bytes place kept o only s some now) e fault (string_bytes line) (sym h.0 ∙ is) h.1
+        (known_cause stanza id name system count first model o rose source_rose e bytes (known bytes t) cause),
     refl,
     h.1,
   )
   halted_fate Source halt is cause (Ok (Refused fault line)) h = let k : ◌≡◌ {A = Halt PushFault} (IsRefused fault) (of_store Source) = sym h.0 ∙ is in cc
   halted_fate e halt is cause (Err end) h = tt
 
-  pub stored_fate : (old new : Option Content) (pushed : Pushed) (sum : Sum) → IsPushedAs stanza id name system model first count old new pushed sum
-      → (bytes : Text) → Known bytes → (s : Stanza) → IsSome o → NowRepresents stanza (Some s) o → IsFateOf s id system name bytes (fate_of (Stored sum) bytes)
-  stored_fate old new pushed sum x bytes t s some now = (refl, subst (λ (b : Text). IsFileOf name b system) (read_is model first count x.bytes x.read bytes (known bytes t)) x.of_system)
+  pub stored_fate : (new : Option Content) (pushed : Pushed) (sum : Sum) → IsPushedAs stanza id name system model first count o new pushed sum
+      → (bytes : Text) → Known bytes → (s : Stanza) → IsSome o → NowRepresents stanza (Some s) o → IsFateOf (HasNoOther s id name) (HasOther s id name) system name bytes (fate_of (Stored sum) bytes)
+  stored_fate new pushed sum x bytes t s some now = (
+    refl,
+    subst (λ (b : Text). IsFileOf name b system) (read_is model first count x.bytes x.read bytes (known bytes t)) x.of_system,
+    own_alone stanza id name bytes place system count first o new pushed sum (subst (λ (m : Option Text). IsPushedAs stanza id name system m first count o new pushed sum) (known bytes t) x) s some now,
+  )
 
   pub stored_sum : (old new : Option Content) (pushed : Pushed) (sum : Sum) → IsPushedAs stanza id name system model first count old new pushed sum
       → (bytes : Text) → Known bytes → sum.0 ≡ sha1 bytes

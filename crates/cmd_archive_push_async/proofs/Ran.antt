@@ -18,6 +18,7 @@ use Rattle.cmd_archive_push_async.specs.Draining.{DrainsFrom}
 use Rattle.cmd_archive_push_async.specs.Fates.{kept_files}
 use Rattle.cmd_archive_push_async.specs.Keeping.{IsUnderCurrent, DrainsLog, turn_of}
 use Rattle.cmd_archive_push_async.proofs.Commands.{drain_as, turn_as}
+use Rattle.cmd_archive_push_async.proofs.Held.{gives_held}
 use Rattle.cmd_archive_push_async.proofs.Kept.{drain_runs, drain_gives}
 
 pub current_under : (stanza : Text) (id : ArchiveId) (now : Option Content) → (c : ClusterId) × (id ≡ id_kept c) × IfSome now (λ f. HasCurrent stanza f c) → IsUnderCurrent stanza id now
@@ -35,5 +36,6 @@ drains_log stanza id system f names end held repo new_repo spool new_spool law n
   drains = d;
   runs = λ current. drain_runs stanza id (kept_files d.entries) d.more (ArchivePushDrain (kept_files d.entries ++ d.more)) (drain_as id (kept_files d.entries ++ d.more)) repo new_repo current d.repository spool new_spool law new_law d.marks (λ some. d.part.known (known some)) end (λ some. (d.ended some).1);
   waited = λ current. drain_runs stanza id (kept_files d.entries) d.more (ArchivePushAsync (turn_of end id (kept_files d.entries ++ d.more) ∷ [])) (turn_as id (kept_files d.entries ++ d.more) (is_some end)) repo new_repo current d.repository spool new_spool law new_law d.marks (λ some. d.part.known (known some)) end (λ some. (d.ended some).1);
+  receipts = λ apart. gives_held stanza id system f names d.entries d.more repo new_repo d.puts apart spool new_spool law new_law d.marks;
   gives = λ current. drain_gives stanza id (kept_files d.entries) d.more (ArchivePushDrain (kept_files d.entries ++ d.more)) (drain_as id (kept_files d.entries ++ d.more)) repo new_repo current d.repository spool new_spool law new_law d.marks (is_some end);
 }

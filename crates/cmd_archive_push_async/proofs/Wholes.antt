@@ -45,6 +45,7 @@ module _ (stanza : Text) (id : ArchiveId) (system : ℕ) (f : Nodes) (names : Li
     ended = p.ended;
     counted = p.counted;
     repository = p.repository;
+    puts = p.puts;
     fates = p.fates;
     marks = marks_on stanza [] (kept_files p.entries) spool mid new_spool gone p.marks;
     part = p.part;
@@ -118,6 +119,7 @@ module _ (stanza : Text) (id : ArchiveId) (system : ℕ) (f : Nodes) (names : Li
     ended = λ some. p.ended (subst (λ (o : Option Drained). IsSome o) (ends some) some);
     counted = counts last ends;
     repository = p.repository;
+    puts = p.puts;
     fates = p.fates;
     marks = subst (λ (l : List Named). GivesMarks stanza l spool new_spool) (append-nil (kept_files p.entries))
         (marks_on stanza (kept_files p.entries) [] spool mid new_spool p.marks (marks_none stanza [] mid new_spool rests));

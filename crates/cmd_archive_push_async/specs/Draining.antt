@@ -17,6 +17,7 @@ use Rattle.cmd_archive_push.specs.WalPath.{wal_path}
 use Rattle.archive_spool.specs.Marks.{named, GivesMarks}
 use Rattle.cmd_archive_push_async.specs.declared.files.push_marks.Drained.{Drained}
 use Rattle.cmd_archive_push_async.specs.Fates.{Entry, names_of, Counts, kept_files, all_marks, AreFates}
+use Rattle.cmd_archive_push_async.specs.Putting.{PutsFrom}
 use Rattle.cmd_archive_push_async.specs.Storing.{GoesByStores}
 
 -- these are some of the files of these names, in their order, with the bytes that the folder has
@@ -41,6 +42,7 @@ pub record DrainsFrom (stanza : Text) (id : ArchiveId) (system : ℕ) (f : Nodes
   pub ended : IsSome end → (names_of entries ≡ names) × (more ≡ [])
   pub counted : IfSome end (Counts entries)
   pub repository : GoesByStores stanza id (kept_files entries) more repo new_repo
+  pub puts : PutsFrom stanza id system f names entries more repo new_repo
   pub fates : (s : Stanza) → IsSome repo.now → NowRepresents stanza (Some s) repo.now → AreFates f s id system entries
   pub marks : GivesMarks stanza (kept_files entries) spool new_spool
   pub part : NowChanges (FirstOf (all_marks stanza entries)) held new_spool.now

@@ -1,6 +1,7 @@
 -- What becomes of files that are ready, one after the other.
 use Rattle.std.specs.Prelude.{◌≡◌, ◌≢◌, ◌⊎◌, ◌+◌, ℕ, List, [], ◌∷◌, ◌++◌, Some, None}
 use Rattle.sha1.specs.Sha1.{sha1}
+use Rattle.base_devices.specs.Content.{Content}
 use Rattle.base_devices.specs.Crash.{Write}
 use Rattle.base_devices.specs.DataFolder.{Nodes, file_bytes}
 use Rattle.base_model.specs.declared.wal.ArchiveId.{ArchiveId}
@@ -10,6 +11,7 @@ use Rattle.base_model.specs.Repository.{Archived, Stanza}
 use Rattle.base_model.specs.Steps.{Named}
 use Rattle.base_model.specs.Text.{Text, In}
 use Rattle.archive_lookup.specs.Causes.{HeaderCause, IsFileOf}
+use Rattle.archive_lookup.specs.Stored.{StoresOnly}
 use Rattle.archive_lookup.specs.declared.stored.fault.ArchiveFault.TheVariants.{HeaderForm as FormOf, SegmentSize as SizeOf, HeaderMismatch as MismatchOf}
 use Rattle.archive_lookup.specs.Turns.{refusal_name}
 use Rattle.cmd_archive_push.specs.declared.fault.PushFault.{PushFault}
@@ -92,42 +94,56 @@ pub record HasOther (s : Stanza) (id : ArchiveId) (name : ArchiveName) (sum : Te
   pub of_name : file.name ≡ name
   pub of_sum : sha1 file.bytes ≡ sum
 
--- the bytes are refused so as a file of this name: they aren't one of the cluster with this system identifier, or the
--- stanza has other bytes
-abbrev pub IsContentOf : Stanza → ArchiveId → ℕ → ArchiveName → Text → PushFault → Type 0
-IsContentOf s id system name bytes (HeaderForm info) = HeaderCause name bytes system (FormOf info)
-IsContentOf s id system name bytes (SegmentSize known found) = HeaderCause name bytes system (SizeOf known found)
-IsContentOf s id system name bytes (HeaderMismatch kept found) = HeaderCause name bytes system (MismatchOf kept found)
-IsContentOf s id system name bytes (Duplicate kept found) = IsFileOf name bytes system × (found.0 ≡ sha1 bytes)
-    × (found.0 ≢ kept.0) × HasOther s id name kept.0
-IsContentOf s id system name bytes (SegmentName word) = ⊥
-IsContentOf s id system name bytes (PathOutside word) = ⊥
-IsContentOf s id system name bytes (StanzaMismatch kept found) = ⊥
-IsContentOf s id system name bytes (SegmentMissing path) = ⊥
-IsContentOf s id system name bytes (TooLong path limit) = ⊥
-IsContentOf s id system name bytes (Ambiguous first second) = ⊥
+-- each file of this id and name that the stanza has archived has this sum
+pub record HasNoOther (s : Stanza) (id : ArchiveId) (name : ArchiveName) (sum : Text) : Type 0 where
+  pub each : (file : Archived) → In file s.archived → file.id ≡ id → file.name ≡ name → sha1 file.bytes ≡ sum
+
+-- the bytes are refused so as a file of this name: they aren't one of the cluster with this system identifier, or this
+-- holds of another sum
+abbrev pub IsContentOf : (other : Text → Type 0) → ℕ → ArchiveName → Text → PushFault → Type 0
+IsContentOf other system name bytes (HeaderForm info) = HeaderCause name bytes system (FormOf info)
+IsContentOf other system name bytes (SegmentSize known found) = HeaderCause name bytes system (SizeOf known found)
+IsContentOf other system name bytes (HeaderMismatch kept found) = HeaderCause name bytes system (MismatchOf kept found)
+IsContentOf other system name bytes (Duplicate kept found) = IsFileOf name bytes system × (found.0 ≡ sha1 bytes)
+    × (found.0 ≢ kept.0) × other kept.0
+IsContentOf other system name bytes (SegmentName word) = ⊥
+IsContentOf other system name bytes (PathOutside word) = ⊥
+IsContentOf other system name bytes (StanzaMismatch kept found) = ⊥
+IsContentOf other system name bytes (SegmentMissing path) = ⊥
+IsContentOf other system name bytes (TooLong path limit) = ⊥
+IsContentOf other system name bytes (Ambiguous first second) = ⊥
 
 -- such a refusal has this status and this line
-abbrev pub IsRefusedAs : Stanza → ArchiveId → ℕ → ArchiveName → Text → ℕ → Text → Type 0
-IsRefusedAs s id system name bytes code line = (fault : PushFault) × IsContentOf s id system name bytes fault
+abbrev pub IsRefusedAs : (other : Text → Type 0) → ℕ → ArchiveName → Text → ℕ → Text → Type 0
+IsRefusedAs other system name bytes code line = (fault : PushFault) × IsContentOf other system name bytes fault
     × (code ≡ push_status fault) × (content_text fault ≡ Some line)
 
--- this is the result for the bytes
-abbrev pub IsFateOf : Stanza → ArchiveId → ℕ → ArchiveName → Text → Fate → Type 0
-IsFateOf s id system name bytes absent = ⊥
-IsFateOf s id system name bytes (saved other) = (other ≡ bytes) × IsFileOf name bytes system
-IsFateOf s id system name bytes (refused code line) = IsRefusedAs s id system name bytes code line
+-- this is the result for the bytes: they are stored, and this holds of their sum; or they are refused, as they aren't
+-- one of the cluster, or as that holds of another sum
+abbrev pub IsFateOf : (own other : Text → Type 0) → ℕ → ArchiveName → Text → Fate → Type 0
+IsFateOf own other system name bytes absent = ⊥
+IsFateOf own other system name bytes (saved kept) = (kept ≡ bytes) × IsFileOf name bytes system × own (sha1 bytes)
+IsFateOf own other system name bytes (refused code line) = IsRefusedAs other system name bytes code line
 
 -- this is the result for the file that the data folder has under the name
-abbrev pub IsFate : Nodes → Stanza → ArchiveId → ℕ → ArchiveName → Fate → Type 0
-IsFate f s id system name fate = ((file_bytes (f (wal_path (wal_text name))) ≡ None) × (fate ≡ absent))
-    ⊎ ((bytes : Text) × (file_bytes (f (wal_path (wal_text name))) ≡ Some bytes) × IsFateOf s id system name bytes fate)
+abbrev pub IsFate : Nodes → (own other : Text → Type 0) → ℕ → ArchiveName → Fate → Type 0
+IsFate f own other system name fate = ((file_bytes (f (wal_path (wal_text name))) ≡ None) × (fate ≡ absent))
+    ⊎ ((bytes : Text) × (file_bytes (f (wal_path (wal_text name))) ≡ Some bytes)
+    × IsFateOf own other system name bytes fate)
 
--- this is the result for them in a stanza, one after the other
+-- This is the result for them in a stanza, one after the other: what is stored the stanza doesn't have with another
+-- sum, and what is refused for its sum it has so.
 abbrev pub AreFates : Nodes → Stanza → ArchiveId → ℕ → List Entry → Type 0
 AreFates f s id system [] = Unit {0}
-AreFates f s id system (e ∷ es) = IsFate f s id system e.name e.fate
+AreFates f s id system (e ∷ es) = IsFate f (HasNoOther s id e.name) (HasOther s id e.name) system e.name e.fate
     × AreFates f (stored s id (kept_of e.name e.fate)) id system es
+
+-- This is the result for them by what the repository then holds, whatever else lies there. A file that is stored has
+-- its name there with the sum of its bytes alone. One that is refused for its sum has it with another sum alone.
+abbrev pub AreFound : Nodes → Text → ArchiveId → ℕ → Content → List Entry → Type 0
+AreFound f stanza id system g [] = Unit {0}
+AreFound f stanza id system g (e ∷ es) = IsFate f (StoresOnly stanza id e.name g) (StoresOnly stanza id e.name g)
+    system e.name e.fate × AreFound f stanza id system g es
 
 -- ---- what is counted
 

@@ -1,5 +1,5 @@
 -- What a drain is in a log of commands, and which receipts it gives.
-use Rattle.std.specs.Prelude.{◌≡◌, ◌⊎◌, ◌≤◌, ℕ, List, [], ◌∷◌, ◌++◌, false, Option, Some, None, IsSome, is_some}
+use Rattle.std.specs.Prelude.{◌≡◌, ◌⊎◌, ◌≤◌, ℕ, List, [], ◌∷◌, ◌++◌, false, Option, Some, None, IsSome, IfSome, is_some}
 use Rattle.base_devices.specs.Content.{Content}
 use Rattle.base_devices.specs.Crash.{Leaves}
 use Rattle.base_devices.specs.Moments.{View, is_unsynced}
@@ -16,12 +16,15 @@ use Rattle.base_model.specs.Represents.{IsWalName}
 use Rattle.base_model.specs.Steady.{IsSteady}
 use Rattle.base_model.specs.Steps.{Named, Turn, ArchivePushAsync, ArchivePushDrain}
 use Rattle.base_model.specs.Text.{Text}
+use Rattle.base_model.specs.Walks.{IsSynced}
 use Rattle.cmd_types.specs.declared.stages.plan.SyncScope.TheVariants.{Whole}
 use Rattle.cmd_types.specs.DisksEffect.{Reached, to_end, stopped, DisksEffect}
+use Rattle.archive_lookup.specs.Stored.{StoresOnly}
 use Rattle.archive_lookup.specs.Turns.{HadReceipt, IsStoredBy}
 use Rattle.cmd_archive_push_async.specs.declared.files.push_marks.Drained.{Drained}
 use Rattle.cmd_archive_push_async.specs.Draining.{DrainsFrom}
 use Rattle.cmd_archive_push_async.specs.Fates.{kept_files}
+use Rattle.cmd_archive_push_async.specs.Putting.{AreApart}
 
 -- the stanza's current cluster has this id
 abbrev pub IsCurrentId : Stanza → ArchiveId → Type 0
@@ -55,10 +58,25 @@ pub record GivesStored (stanza : Text) (t : Turn) (repo new_repo spool new_spool
       (name : ArchiveName) (sum : Text) → IsWalName name → HasReceipt stanza f name sum
       → HadReceipt stanza spool name sum ⊎ IsStoredBy stanza t name sum new_repo
 
+-- the disk stores the file under this id with this sum alone; and where no name that is looked at was unsynced, so does
+-- all that a crash leaves of it
+pub record IsHeld (stanza : Text) (id : ArchiveId) (name : ArchiveName) (sum : Text) (old new : View) : Type 0 where
+  pub now : IfSome new.now (λ g. StoresOnly stanza id name g sum)
+  pub lasts : IsSynced stanza old → (g : Content) → Leaves new new.moment g → StoresOnly stanza id name g sum
+
+-- At each moment each receipt that the spool has, or a crash leaves, is an earlier one, or of a file that the
+-- repository holds as the drain ends, whatever else lies there.
+pub record GivesHeld (stanza : Text) (id : ArchiveId) (repo new_repo spool new_spool : View) : Type 0 where
+  pub each : IsSome repo.now → IsSome spool.now → HasNoUnsynced stanza spool
+      → (m : ℕ) (f : Content) → spool.moment ≤ m → m ≤ new_spool.moment → Leaves new_spool m f
+      → (name : ArchiveName) (sum : Text) → IsWalName name → HasReceipt stanza f name sum
+      → HadReceipt stanza spool name sum ⊎ IsHeld stanza id name sum repo new_repo
+
 -- The drain of these names, from what the spool held. Under the id of the current cluster it is a command of the log:
 -- it stores these files, all of them where it succeeds; and to processes that wait for it, it is a step of others. At
 -- each moment of either disk all that a crash leaves is that of the log with a part of it. Each receipt that it gives
--- is of a file that, as it ends, the repository and all that a crash leaves of it have.
+-- is of a file that, as it ends, the repository and all that a crash leaves of it have; where each name is there once,
+-- this holds whatever else the repository holds.
 pub record DrainsLog (stanza : Text) (id : ArchiveId) (system : ℕ) (f : Nodes) (names : List ArchiveName)
     (end : Option Drained) (held : Option Content) (repo new_repo spool new_spool : View) : Type 0 where
   pub drains : DrainsFrom stanza id system f names end held repo new_repo spool new_spool
@@ -69,5 +87,6 @@ pub record DrainsLog (stanza : Text) (id : ArchiveId) (system : ℕ) (f : Nodes)
   pub waited : IsUnderCurrent stanza id repo.now
       → DisksEffect Whole stanza (ArchivePushAsync (turn_of end id (kept_files drains.entries ++ drains.more) ∷ []))
       (reached_of end) repo spool new_repo new_spool
+  pub receipts : AreApart names → GivesHeld stanza id repo new_repo spool new_spool
   pub gives : IsUnderCurrent stanza id repo.now
       → GivesStored stanza (turn_of end id (kept_files drains.entries ++ drains.more)) repo new_repo spool new_spool

@@ -1,6 +1,7 @@
 pub mod Storing
 pub mod Fates
 pub mod Pushing
+pub mod Putting
 pub mod Draining
 pub mod Keeping
 pub mod Ends

@@ -1,6 +1,6 @@
 -- Which files of the log are ready (PostgreSQL: a server makes `archive_status/NAME.ready` for each file that it wants
 -- archived).
-use Rattle.std.specs.Prelude.{◌≡◌, ◌≢◌, ◌++◌, Bool, true, false, List, map, codes, IsSome, string_bytes}
+use Rattle.std.specs.Prelude.{◌≡◌, ◌≢◌, ◌++◌, Bool, true, false, List, map, codes, Some, IsSome, string_bytes}
 use Rattle.base_devices.specs.Content.{Name}
 use Rattle.base_devices.specs.Order.{are_in_order}
 use Rattle.base_devices.specs.DataFolder.{Nodes, file_bytes}
@@ -10,7 +10,9 @@ use Rattle.base_devices.specs.declared.data_folder.FolderEntry.{FolderEntry}
 use Rattle.base_model.specs.declared.wal.ArchiveName.{ArchiveName}
 use Rattle.base_model.specs.Names.{wal_text}
 use Rattle.base_model.specs.Represents.{IsWalName}
+use Rattle.base_model.specs.Steps.{Named}
 use Rattle.base_model.specs.Text.{In}
+use Rattle.cmd_archive_push.specs.WalPath.{wal_path}
 
 -- where the server says that the file is ready
 abbrev pub ready_path : ArchiveName → Name
@@ -19,6 +21,11 @@ ready_path name = codes "pg_wal/archive_status/" ++ (wal_text name ++ codes ".re
 -- it is
 abbrev pub IsReady : Nodes → ArchiveName → Type 0
 IsReady f name = IsSome (file_bytes (f (ready_path name)))
+
+-- it is, and the data folder has these bytes of it
+pub record IsReadyAs (f : Nodes) (file : Named) : Type 0 where
+  pub ready : IsReady f file.name
+  pub has : file_bytes (f (wal_path (wal_text file.name))) ≡ Some file.bytes
 
 -- these are the files that are ready, each once, in byte order of their names
 pub record AreReady (f : Nodes) (names : List ArchiveName) : Type 0 where

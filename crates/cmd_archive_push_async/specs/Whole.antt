@@ -7,12 +7,13 @@ use Rattle.base_devices.specs.DataFolder.{Nodes}
 use Rattle.base_model.specs.declared.wal.ArchiveId.{ArchiveId}
 use Rattle.base_model.specs.declared.wal.ArchiveName.{ArchiveName}
 use Rattle.base_model.specs.Names.{archive_folder}
-use Rattle.base_model.specs.Text.{Text, ◌⫽◌}
+use Rattle.base_model.specs.Text.{Text, ◌⫽◌, In}
 use Rattle.cmd_archive_push.specs.declared.fault.PushFault.{PushFault}
 use Rattle.archive_spool.specs.Clearing.{IsStale, IsCleared}
 use Rattle.cmd_archive_push_async.specs.declared.files.push_marks.Drained.{Drained}
 use Rattle.cmd_archive_push_async.specs.Ends.{EndCause}
 use Rattle.cmd_archive_push_async.specs.Keeping.{DrainsLog}
+use Rattle.cmd_archive_push_async.specs.Putting.{AreApart}
 use Rattle.cmd_archive_push_async.specs.Ready.{IsReady, AreReady}
 
 -- A drain of these names: the marks of no use are removed, and then the result of each file is marked.
@@ -22,10 +23,12 @@ pub record DrainsNamed (stanza : Text) (id : ArchiveId) (system : ℕ) (f : Node
   pub cleared : IsSome end → IsCleared (IsStale stanza names) spool.now held
   pub log : DrainsLog stanza id system f names end held repo new_repo spool new_spool
 
--- a drain of the files that are ready
+-- A drain of files that are ready, of each once. Where it succeeds these are all of them.
 pub record DrainsReady (stanza : Text) (id : ArchiveId) (system : ℕ) (f : Nodes) (end : Option Drained)
     (repo new_repo spool new_spool : View) : Type 0 where
   pub names : List ArchiveName
+  pub each : (name : ArchiveName) → In name names → IsReady f name
+  pub apart : AreApart names
   pub ready : IsSome end → AreReady f names
   pub named : DrainsNamed stanza id system f names end repo new_repo spool new_spool
 

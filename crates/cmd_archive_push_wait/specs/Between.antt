@@ -1,6 +1,6 @@
 -- What archive-push in the background and its parts do between two states of the repository, of the spool, of the data
 -- folder and of other processes. `others`, `disk`, `spooled` and `folder` say what is known of each.
-use Rattle.std.specs.Prelude.{◌≡◌, ◌⊎◌, [], ℕ, Bool, false, List, Result, IfSome, IsSome, IsSomeAnd}
+use Rattle.std.specs.Prelude.{◌≡◌, ◌⊎◌, ◌≤◌, [], ℕ, Bool, false, List, Result, IfSome, IsSome, IsSomeAnd}
 use Rattle.sha1.specs.Sha1.{sha1}
 use Rattle.base_text.specs.declared.sum.Sum.{Sum}
 use Rattle.base_devices.specs.Cause.{Rises}
@@ -16,7 +16,7 @@ use Rattle.archive_lookup.specs.Causes.{limit_of}
 use Rattle.archive_lookup.specs.Turns.{ProcessesState}
 use Rattle.archive_spool.specs.declared.spool_query.Asked.{Asked}
 use Rattle.archive_spool.specs.declared.spool_query.Asked.TheVariants.{NotYet as Nothing}
-use Rattle.archive_wait.specs.TurnsDone.{TurnsDone}
+use Rattle.archive_wait.specs.TurnsDone.{Counts, TurnsDone}
 use Rattle.cmd_types.specs.declared.stages.halt.Halt.{Halt}
 use Rattle.cmd_types.specs.declared.stages.object.Object.TheVariants.{Spool, TheDataFolder}
 use Rattle.cmd_types.specs.declared.stages.outcome.Outcome.{Outcome}
@@ -70,6 +70,10 @@ MarkEnds stanza name old new =
 -- this program was started once with these arguments, or not at all
 abbrev pub MayStart : List Text → ProcessesState → ProcessesState → Type 0
 MayStart arguments old new = (new.started ≡ old.started) ⊎ IsStarted arguments old new
+
+-- this many steps of others succeeded at most
+abbrev pub TakesFew : ℕ → ProcessesState → ProcessesState → Type 0
+TakesFew most old new = (n : ℕ) × (n ≤ most) × Counts n old.turns new.turns
 
 -- the repository or the spool failed, or memory did
 abbrev pub TurnStops : {D S : Type 0} → (D → DiskState) → (S → DiskState) → D → D → S → S → Halt QueueFault → Type 0

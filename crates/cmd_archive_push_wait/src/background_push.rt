@@ -1,8 +1,7 @@
 // archive-push in the background: the file is queued for archive-push:async.
-ghost use Rattle.std.specs.Prelude.{◌≤◌, ℕ, map, IfOk, IfErr, string_bytes};
+ghost use Rattle.std.specs.Prelude.{◌≤◌, map, IfOk, IfErr, string_bytes};
 ghost use Rattle.base_devices.specs.States.{CallsProperly, OnlyReadsFolder};
-ghost use Rattle.archive_wait.specs.TurnsDone.{Counts};
-ghost use Rattle.cmd_archive_push_wait.specs.Between.{MayStart, StayBeside, WaitsByTurns, AcknowledgesLog, QueuePushEnds};
+ghost use Rattle.cmd_archive_push_wait.specs.Between.{MayStart, TakesFew, StayBeside, WaitsByTurns, AcknowledgesLog, QueuePushEnds};
 
 use crate::fault::QueueFault;
 use crate::log_file_sum::sum_file;
@@ -36,7 +35,7 @@ pub fn queue_push<D: Disk, S: Disk, T: DataFolder, A: OtherProcesses<D, S>>(
     ensures repo_frame { CallsProperly (D.state repo.old) (D.state repo.new) }
     ensures spool_frame { CallsProperly (S.state spool.old) (S.state spool.new) }
     ensures looks { OnlyReadsFolder (T.state tree.old) (T.state tree.new) }
-    ensures few { (n : ℕ) × (n ≤ turns) × Counts n (A.state processes.old).turns (A.state processes.new).turns }
+    ensures few { TakesFew turns (A.state processes.old) (A.state processes.new) }
     ensures started { MayStart (map string_bytes arguments.now) (A.state processes.old) (A.state processes.new) }
     ensures later { (A.state processes.old).faults ≤ (A.state processes.new).faults }
     ensures cause { IfErr result (QueuePushEnds A.state D.state S.state T.state

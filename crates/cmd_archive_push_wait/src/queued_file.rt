@@ -1,9 +1,8 @@
 // Queues a file for other processes.
-ghost use Rattle.std.specs.Prelude.{◌≤◌, ℕ, map, is_ok, IfErr, OnOk, string_bytes};
+ghost use Rattle.std.specs.Prelude.{◌≤◌, map, is_ok, IfErr, OnOk, string_bytes};
 ghost use Rattle.base_text.specs.Sum.{IsSum};
 ghost use Rattle.base_devices.specs.States.{CallsProperly};
-ghost use Rattle.archive_wait.specs.TurnsDone.{Counts};
-ghost use Rattle.cmd_archive_push_wait.specs.Between.{MayStart, Skips, WentByStanza, AcknowledgesFile, QueueEnds};
+ghost use Rattle.cmd_archive_push_wait.specs.Between.{MayStart, TakesFew, Skips, WentByStanza, AcknowledgesFile, QueueEnds};
 
 use crate::fault::QueueFault;
 use crate::mark_lookup::look;
@@ -40,7 +39,7 @@ pub fn queue_file<D: Disk, S: Disk, A: OtherProcesses<D, S>>(
         processes.old processes.new repo.old repo.new spool.old spool.new }
     ensures repo_frame { CallsProperly (D.state repo.old) (D.state repo.new) }
     ensures spool_frame { CallsProperly (S.state spool.old) (S.state spool.new) }
-    ensures few { (n : ℕ) × (n ≤ turns) × Counts n (A.state processes.old).turns (A.state processes.new).turns }
+    ensures few { TakesFew turns (A.state processes.old) (A.state processes.new) }
     ensures started { MayStart (map string_bytes arguments.now) (A.state processes.old) (A.state processes.new) }
     ensures later { (A.state processes.old).faults ≤ (A.state processes.new).faults }
     ensures quiet { Skips stanza.now name sum.now.0 (S.state spool.old) processes.old processes.new repo.old repo.new }

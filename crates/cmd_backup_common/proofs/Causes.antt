@@ -1,5 +1,5 @@
 -- Why a backup is refused, from what was there before.
-use Rattle.std.proofs.Common.{◌≡◌, inl, inr, ℕ, ◌<◌, ◌^◌, List, [], Option, Some, None, string_bytes, refl, length}
+use Rattle.std.proofs.Common.{◌≡◌, inl, inr, ℕ, ◌<◌, ◌^◌, List, [], Option, Some, None, string_bytes, refl, length, ap, subst}
 use Rattle.std.specs.Prelude.{IfSome}
 use Rattle.base_devices.specs.Content.{Content}
 use Rattle.base_devices.specs.Links.{LinkState}
@@ -9,11 +9,14 @@ use Rattle.base_model.specs.declared.clusters.BackupInfo as rust_backup_info
 use Rattle.base_model.specs.InfoFiles.{IsBackupText}
 use Rattle.base_model.specs.Names.{backup_info}
 use Rattle.base_model.specs.Pair.{PairIs}
-use Rattle.base_model.specs.Values.{BackupInfo, archive_info_of, backup_info_of}
+use Rattle.base_model.specs.Text.{Text}
+use Rattle.base_model.specs.Values.{ArchiveInfo, BackupInfo, archive_info_of, backup_info_of}
 use Rattle.worker_pool.specs.declared.dispatch.fault.Lost.{Lost}
 use Rattle.worker_pool.specs.Run.{Left}
 use Rattle.backup_plan.specs.Filter.{ListedNode}
 use Rattle.backup_record.specs.Faults.{IsMissing}
+use Rattle.backup_record.specs.Making.{labels_of}
+use Rattle.repo_stanza.specs.Judging.{Validates, As, Without}
 use Rattle.cmd_types.specs.Current.{HasValue}
 use Rattle.backup_make.specs.declared.draft.Draft.{Draft}
 use Rattle.backup_make.specs.Draft.{jobs_in, files_with}
@@ -24,9 +27,10 @@ use Rattle.cmd_types.specs.Risen.{none, rose_in}
 use Rattle.cmd_setup.specs.Readies.{IsArchiveOf, IsBackupOf}
 use Rattle.cmd_backup_common.specs.declared.parts.fault.BackupFault.{BackupFault}
 use Rattle.cmd_backup_common.specs.declared.parts.fault.BackupFault.TheVariants as faults
-use Rattle.cmd_backup_common.specs.Causes.{Before, CauseBy}
+use Rattle.cmd_backup_common.specs.Causes.{Before, HasSecond, CauseBy}
 use Rattle.cmd_backup_common.specs.Drafting.{ListingCause, DraftCause}
 use Rattle.cmd_backup_common.specs.Making.{MakeCause}
+use Rattle.cmd_backup_common.specs.Seconds.{ListsSecond, NamesSecond, StatesSecond}
 use Rattle.cmd_backup_common.proofs.Links.{Comes, left_comes, where_done, unread_used, all_used_lost, within_count}
 use Rattle.cmd_backup_common.proofs.Makings.{Either}
 
@@ -66,24 +70,39 @@ module _ (b : Before) (IsIt : Draft → Type 0) (seen : List ListedNode) (listin
   shows : (P : List ListedNode → Type 0) → P seen → IfSome b.nodes (λ f. (ns : List ListedNode) × IsTreeListing f ns × P ns)
   shows P p = if_as (λ f. IsTreeListing f seen) (λ f. (ns : List ListedNode) × IsTreeListing f ns × P ns) b.nodes listing (λ f l. (seen, l, p))
 
-  pub draft_takes : (e : BackupFault) → DraftCause seen b.least e → CauseBy b IsIt e
-  draft_takes (faults.HistoryDiffers at) h = absurd h
-  draft_takes (faults.StanzaMismatch kept found) h = absurd h
-  draft_takes faults.Running h = absurd h
-  draft_takes (faults.TooMany limit) h = inr (shows (λ ns. ListingCause ns (faults.TooMany limit)) h)
-  draft_takes (faults.WorkersLost lost) h = absurd h
-  draft_takes (faults.ClockBehind latest now) h = h
-  draft_takes (faults.LinkFound path) h = shows (λ ns. ListingCause ns (faults.LinkFound path)) h
-  draft_takes (faults.NameRefused path) h = shows (λ ns. ListingCause ns (faults.NameRefused path)) h
-  draft_takes faults.ListingUnordered h = none_shows seen b.nodes listing h
-  draft_takes (faults.ControlMissing path) h = inl (shows (λ ns. ListingCause ns (faults.ControlMissing path)) h)
-  draft_takes (faults.Unread path) h = absurd h
-  draft_takes (faults.TooLong name limit) h = absurd h
+  module _ (Stated : ℕ → Type 0) (has : (second : ℕ) → Stated second → IfSome b.repo (HasSecond b.stanza second)) where
+    pub draft_takes : (e : BackupFault) → DraftCause seen b.least Stated e → CauseBy b IsIt e
+    draft_takes (faults.HistoryDiffers at) h = absurd h
+    draft_takes (faults.StanzaMismatch kept found) h = absurd h
+    draft_takes faults.Running h = absurd h
+    draft_takes (faults.TooMany limit) h = inr (shows (λ ns. ListingCause ns (faults.TooMany limit)) h)
+    draft_takes (faults.WorkersLost lost) h = absurd h
+    draft_takes (faults.ClockBehind latest now) h = (h.0, h.1, has latest h.2)
+    draft_takes (faults.LinkFound path) h = shows (λ ns. ListingCause ns (faults.LinkFound path)) h
+    draft_takes (faults.NameRefused path) h = shows (λ ns. ListingCause ns (faults.NameRefused path)) h
+    draft_takes faults.ListingUnordered h = none_shows seen b.nodes listing h
+    draft_takes (faults.ControlMissing path) h = inl (shows (λ ns. ListingCause ns (faults.ControlMissing path)) h)
+    draft_takes (faults.Unread path) h = absurd h
+    draft_takes (faults.TooLong name limit) h = absurd h
+
+-- a validated list has the backups that the pair's value has
+pub same_backups : (a : ArchiveInfo) (list w : BackupInfo) → Validates a list w → w.backups ≡ list.backups
+same_backups a list w (As same is) = ap (λ v. v.backups) is
+same_backups a list w (Without p is) = ap (λ v. v.backups) is
+
+pub states_as : (stanza : Text) (now : Option Content) (second : ℕ) (list w : BackupInfo) → w.backups ≡ list.backups → StatesSecond stanza w now second → StatesSecond stanza list now second
+states_as stanza now second list w same (inl lists) = inl (subst (λ bs. ListsSecond (labels_of bs) second) same lists)
+states_as stanza now second list w same (inr names) = inr names
 
 module _ (b : Before) (archive : rust_archive_info.ArchiveInfo) (backup : rust_backup_info.BackupInfo) (is_archive : IsArchiveOf b.stanza b.repo archive) (is_backup : IsBackupOf b.stanza b.repo backup) where
   -- what both pairs have
   pub of_pairs : (P : Content → Type 0) → ((f : Content) → HasValue b.stanza f (archive_info_of archive) → PairIs IsBackupText f (backup_info b.stanza) (backup_info_of backup) → P f) → IfSome b.repo P
   of_pairs P to = if_both (λ f. HasValue b.stanza f (archive_info_of archive)) (λ f. PairIs IsBackupText f (backup_info b.stanza) (backup_info_of backup)) P b.repo is_archive.0 is_backup.0 to
+
+  -- the second of a label that is listed, or that names a folder with files
+  pub has_second : (second : ℕ) → StatesSecond b.stanza (backup_info_of backup) b.repo second → IfSome b.repo (HasSecond b.stanza second)
+  has_second second (inl lists) = of_pairs (HasSecond b.stanza second) (λ f p q. inl (backup_info_of backup, q, lists))
+  has_second second (inr names) = if_as (NamesSecond b.stanza second) (HasSecond b.stanza second) b.repo names (λ f n. inr n)
 
 -- ---- why the draft's backup isn't made
 

@@ -1,5 +1,6 @@
 pub mod StampOrder
 pub mod Latest
+pub mod Times
 pub mod Free
 pub mod Priors
 pub mod Statuses

@@ -13,6 +13,7 @@ use Rattle.backup_plan.specs.declared.fault.PlanFault.{PlanFault}
 use Rattle.backup_plan.specs.declared.fault.PlanFault.TheVariants as plans
 use Rattle.backup_plan.specs.Filter.{ListedNode, kept, IsRefused}
 use Rattle.backup_record.specs.Faults.{IsMissing}
+use Rattle.backup_record.specs.Making.{labels_of}
 use Rattle.repo_stanza.specs.declared.control.Control.{Control}
 use Rattle.repo_stanza.specs.Causes.{HistoriesDiffer, HasOther}
 use Rattle.repo_stanza.specs.Judging.{Validates}
@@ -24,6 +25,7 @@ use Rattle.cmd_backup_common.specs.declared.parts.fault.BackupFault.{BackupFault
 use Rattle.cmd_backup_common.specs.declared.parts.fault.BackupFault.TheVariants.{HistoryDiffers, StanzaMismatch, Running, TooMany, WorkersLost, ClockBehind, LinkFound, NameRefused, ListingUnordered, ControlMissing, Unread, TooLong}
 use Rattle.cmd_backup_common.specs.Beginning.{most_backups, server_path, AreLost}
 use Rattle.cmd_backup_common.specs.Making.{CannotRead, IsPast}
+use Rattle.cmd_backup_common.specs.Seconds.{ListsSecond, NamesSecond}
 
 -- What comes before: the repository and the data folder, the least second that the clock may show, and the links that
 -- are used.
@@ -59,6 +61,12 @@ abbrev pub IsFull : Text → Content → Type 0
 IsFull stanza f = (list : BackupInfo) × PairIs IsBackupText f (backup_info stanza) list
     × (most_backups ≤ length list.backups)
 
+-- f has a label of this second: that of a listed backup, or of a folder with files
+abbrev pub HasSecond : Text → ℕ → Content → Type 0
+HasSecond stanza second f =
+    ((list : BackupInfo) × PairIs IsBackupText f (backup_info stanza) list × ListsSecond (labels_of list.backups) second)
+    ⊎ NamesSecond stanza second f
+
 -- why a backup is refused that is made by a draft of this kind
 abbrev pub CauseBy : Before → (Draft → Type 0) → BackupFault → Type 0
 CauseBy b IsIt (HistoryDiffers at) = IfSome b.repo (λ f. HistoriesDiffer b.stanza f at)
@@ -68,6 +76,7 @@ CauseBy b IsIt (TooMany limit) = ((limit ≡ most_backups) × IfSome b.repo (IsF
     ⊎ Refuses b (plans.TooMany limit)
 CauseBy b IsIt (WorkersLost lost) = AreLost b.used lost
 CauseBy b IsIt (ClockBehind latest now) = (now + 10 < latest) × (b.least ≤ now)
+    × IfSome b.repo (HasSecond b.stanza latest)
 CauseBy b IsIt (LinkFound path) = Refuses b (plans.LinkFound path)
 CauseBy b IsIt (NameRefused path) = Shows b
     (λ seen. (fault : NameFault) × IsRefused (kept false seen) (plans.NameRefused path fault))

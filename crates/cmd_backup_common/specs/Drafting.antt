@@ -16,7 +16,7 @@ ListingCause seen ListingUnordered = (nodes : Nodes) → ¬ IsTreeListing nodes 
 ListingCause seen (ControlMissing path) = IsRefused (kept false seen) (plans.ControlMissing path)
 ListingCause seen other = ⊥
 
--- or the clock is too far behind
-abbrev pub DraftCause : List ListedNode → ℕ → BackupFault → Type 0
-DraftCause seen least (ClockBehind latest now) = (now + 10 < latest) × (least ≤ now)
-DraftCause seen least other = ListingCause seen other
+-- or the clock is too far behind a second of which this holds
+abbrev pub DraftCause : List ListedNode → ℕ → (ℕ → Type 0) → BackupFault → Type 0
+DraftCause seen least Stated (ClockBehind latest now) = (now + 10 < latest) × (least ≤ now) × Stated latest
+DraftCause seen least Stated other = ListingCause seen other

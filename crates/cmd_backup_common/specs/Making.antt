@@ -1,8 +1,9 @@
 -- How the making of a backup ends the command, and why. Own.
-use Rattle.std.specs.Prelude.{◌≡◌, ◌⊎◌, ◌<◌, ◌^◌, ℕ, List, length, Some, Result, Ok, Err, String, string_bytes, slice_get}
+use Rattle.std.specs.Prelude.{◌≡◌, ◌⊎◌, ◌<◌, ◌^◌, ℕ, List, length, None, Some, Result, Ok, Err, String, string_bytes, slice_get}
 use Rattle.std.specs.declared.alloc.Global.{Global}
 use Rattle.base_devices.specs.Links.{LinkState}
 use Rattle.base_devices.specs.Moments.{View}
+use Rattle.base_devices.specs.States.{ClockState, ShowsSecond}
 use Rattle.base_model.specs.InfoFiles.{info_limit}
 use Rattle.base_model.specs.ManifestText.{manifest_limit}
 use Rattle.base_model.specs.Text.{Text, In}
@@ -31,11 +32,13 @@ pub data IsEndWith (d : Draft) (line : Text) : Result (Unit {0}) MakeFault → R
   Ill : (lost : ℕ) (fault : MakeFault) (halt : Halt BackupFault) → IsHaltOf (stanza_of d) d.label lost fault halt
       → IsEndWith d line (Err fault) (Err halt)
 
--- The draft's backup was made of what these links read, and the command ended so; or it wasn't.
-pub record Finishes (d : Draft) (line : Text) (links : List LinkState) (old new : View)
+-- The draft's backup was made of what these links read, and stopped in a second that the clock showed, and the command
+-- ended so; or it wasn't.
+pub record Finishes (d : Draft) (line : Text) (links : List LinkState) (old new : View) (clock new_clock : ClockState)
     (result : Result Outcome (Halt BackupFault)) : Type 0 where
   pub made : Result (Unit {0}) MakeFault
   pub outcome : backup.Outcome made d links old new
+  pub stopped : backup.StopsBy (λ stop. ShowsSecond stop clock new_clock) made d None links old new outcome
   pub end : IsEndWith d line made result
 
 -- ---- why it isn't made

@@ -2,7 +2,7 @@
 use Rattle.std.specs.Prelude.{List, [], take, Result, String, string_bytes}
 use Rattle.std.specs.declared.alloc.Global.{Global}
 use Rattle.base_devices.specs.Links.{LinkState}
-use Rattle.base_devices.specs.States.{DiskState}
+use Rattle.base_devices.specs.States.{ClockState, DiskState}
 use Rattle.worker_pool.specs.declared.pool.Pool.{Pool}
 use Rattle.worker_pool.specs.Pools.{links_in}
 use Rattle.worker_pool.specs.Run.{Left}
@@ -22,7 +22,8 @@ abbrev pub LeavesUsed : {L S : Type 0} → TakeOrder → (L → LinkState) → P
 LeavesUsed order of old new = Left [] (used_in order of old) [] new.lost.items (links_in of new)
 
 -- the draft's backup was made of what the pool's links read, and the command ended so; or it wasn't
-abbrev pub FinishesBy : {L S D : Type 0} → Draft → String Global → (L → LinkState) → Pool L S → (D → DiskState) → D → D
-    → Result Outcome (Halt BackupFault) → Type 0
-FinishesBy d line of pool state before after result =
-    Finishes d (string_bytes line) (links_in of pool) (state before).view (state after).view result
+abbrev pub FinishesBy : {L S D C : Type 0} → Draft → String Global → (L → LinkState) → Pool L S → (D → DiskState)
+    → D → D → (C → ClockState) → C → C → Result Outcome (Halt BackupFault) → Type 0
+FinishesBy d line of pool state before after clock first last result =
+    Finishes d (string_bytes line) (links_in of pool) (state before).view (state after).view (clock first) (clock last)
+    result

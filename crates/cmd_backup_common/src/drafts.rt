@@ -12,8 +12,8 @@
 //!
 //! What is proved, by the contract of the function that is named:
 //!
-//! - `next_second`: a second of the clock, past each that the label of a listed backup states, or a folder's among
-//!   those of the backups. Where the clock is refused, the two seconds that are reported lie more than ten apart.
+//! - `next_second`: a second that the clock showed, past each that the label of a listed backup states, or a folder's
+//!   among those of the backups. Where the clock is refused, the two seconds that are reported lie more than ten apart.
 //! - That the later one is a label's, and that no other clock is refused, is only tested.
 //! - `prior_of`: of the listed backups of the cluster that belong to the latest full one, the last on which one of the
 //!   kind may be based. `made_label`, `kind_line`: the label that it then gets, and the line of one that becomes full.

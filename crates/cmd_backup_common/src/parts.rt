@@ -9,8 +9,9 @@
 //! - `begin`: where it is Ok the folder had no `postmaster.pid`, and the pairs fit together and are of the cluster
 //!   that was given. Fewer than 10,000 backups were listed. It only reads the data folder, and each refusal has its
 //!   cause in what was there before; where the workers are lost none of them was steady.
-//! - `finish`: it ends as the making of the backup did, with the line that it was handed at Ok. It keeps to its
-//!   stanza, and at Ok both members of the backup pair are alike.
+//! - `finish`: it ends as the making of the backup did, with the line that it was handed at Ok. It changes nothing but
+//!   the folder of its label and the backup pair. At Ok it stopped in a second that the clock showed, and both members
+//!   of the backup pair are alike.
 //! - Which folders the workers are given is stated of a private function alone.
 
 mod backup_begin;

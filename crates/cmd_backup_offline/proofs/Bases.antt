@@ -148,6 +148,7 @@ pub offline_with : (stanza : Text) (o : OfflineOrder) (list : BackupInfo) (old :
 offline_with stanza o list old second equal listing d by same online seen takes = record {
   stanza_is = by.stanza_is;
   label = by.label;
+  start = by.start;
   prior = by.prior;
   old_is = by.old_is;
   takes = subst (λ (l : Listing). Takes online seen (map taken_of l.files.items) (map string_bytes l.folders.items)) (sym by.listing_is) takes;

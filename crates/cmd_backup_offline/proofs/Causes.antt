@@ -21,7 +21,7 @@ use Rattle.cmd_types.specs.Current.{HasValue}
 use Rattle.repo_stanza.specs.Causes.{HistoriesDiffer, HasOther}
 use Rattle.repo_stanza.specs.Judging.{Validates}
 use Rattle.backup_make.specs.declared.draft.Draft.{Draft}
-use Rattle.backup_make.specs.Draft.{taken_in, folders_in}
+use Rattle.backup_make.specs.Draft.{IsDraft, taken_in, folders_in}
 use Rattle.cmd_types.specs.declared.stages.object.Object.{Object}
 use Rattle.cmd_types.specs.declared.stages.object.Object.TheVariants as objects
 use Rattle.cmd_types.specs.declared.stages.halt.Halt.{Halt}
@@ -33,7 +33,8 @@ use Rattle.cmd_backup_common.specs.declared.parts.fault.BackupFault.TheVariants 
 use Rattle.cmd_backup_common.specs.Beginning.{BeginCause}
 use Rattle.cmd_backup_common.specs.Drafting.{ListingCause, DraftCause}
 use Rattle.cmd_backup_common.specs.Causes.{Before, SettlesTo, IsFull, CauseBy}
-use Rattle.cmd_backup_common.proofs.Causes.{Any, if_as, of_pairs, draft_takes}
+use Rattle.cmd_backup_common.specs.Seconds.{StatesSecond}
+use Rattle.cmd_backup_common.proofs.Causes.{Any, if_as, of_pairs, draft_takes, has_second, same_backups, states_as}
 use Rattle.cmd_backup_common.proofs.Links.{left_comes, all_used_lost, within_count}
 use Rattle.cmd_backup_common.proofs.Makings.{Either}
 use Rattle.cmd_backup_offline.specs.declared.fault.OfflineFault.{OfflineFault}
@@ -54,19 +55,19 @@ of_backup_as P Q F G to failed (Failed o) h = failed o h
 of_backup_as P Q F G to failed NoMemory h = tt
 
 -- what refuses a listing refuses a draft
-pub listing_draft : (seen : List ListedNode) (least : ℕ) (e : BackupFault) → ListingCause seen e → DraftCause seen least e
-listing_draft seen least (takes.HistoryDiffers at) h = h
-listing_draft seen least (takes.StanzaMismatch kept found) h = h
-listing_draft seen least takes.Running h = h
-listing_draft seen least (takes.TooMany limit) h = h
-listing_draft seen least (takes.WorkersLost lost) h = h
-listing_draft seen least (takes.ClockBehind latest now) h = absurd h
-listing_draft seen least (takes.LinkFound path) h = h
-listing_draft seen least (takes.NameRefused path) h = h
-listing_draft seen least takes.ListingUnordered h = h
-listing_draft seen least (takes.ControlMissing path) h = h
-listing_draft seen least (takes.Unread path) h = h
-listing_draft seen least (takes.TooLong name limit) h = h
+pub listing_draft : (seen : List ListedNode) (least : ℕ) (Stated : ℕ → Type 0) (e : BackupFault) → ListingCause seen e → DraftCause seen least Stated e
+listing_draft seen least Stated (takes.HistoryDiffers at) h = h
+listing_draft seen least Stated (takes.StanzaMismatch kept found) h = h
+listing_draft seen least Stated takes.Running h = h
+listing_draft seen least Stated (takes.TooMany limit) h = h
+listing_draft seen least Stated (takes.WorkersLost lost) h = h
+listing_draft seen least Stated (takes.ClockBehind latest now) h = absurd h
+listing_draft seen least Stated (takes.LinkFound path) h = h
+listing_draft seen least Stated (takes.NameRefused path) h = h
+listing_draft seen least Stated takes.ListingUnordered h = h
+listing_draft seen least Stated (takes.ControlMissing path) h = h
+listing_draft seen least Stated (takes.Unread path) h = h
+listing_draft seen least Stated (takes.TooLong name limit) h = h
 
 module _ (b : Before) (o : OfflineOrder) (archive : rust_archive_info.ArchiveInfo) (backup : rust_backup_info.BackupInfo) (is_archive : IsArchiveOf b.stanza b.repo archive) (is_backup : IsBackupOf b.stanza b.repo backup) where
   pairs_of : (P : Content → Type 0) → ((f : Content) → HasValue b.stanza f (archive_info_of archive) → PairIs IsBackupText f (backup_info b.stanza) (backup_info_of backup) → P f) → IfSome b.repo P
@@ -128,8 +129,9 @@ module _ (b : Before) (o : OfflineOrder) (archive : rust_archive_info.ArchiveInf
         (settled Settled (λ f s. s)) (lacking (string_bytes text) main copy (base_label o.kind list) h) (λ f s l. (list, s, l))
 
     -- a draft of the folder that was listed
-    pub offline_draft : (seen : List ListedNode) → IfSome b.nodes (λ f. IsTreeListing f seen) → (files : List FileEntry) (second : ℕ) (links : List LinkState) (d : Draft) → IsDraftedBy b.stanza o seen list files second links d → IsDraftOf b o d
-    offline_draft seen listing files second links d by = let later = by.later in record {
+    pub offline_draft : (seen : List ListedNode) → IfSome b.nodes (λ f. IsTreeListing f seen) → (files : List FileEntry) (second : ℕ) (links : List LinkState) (d : Draft) → IsDraft d → IsDraftedBy b.stanza o seen list files second links d → IsDraftOf b o d
+    offline_draft seen listing files second links d is by = let later = by.later in record {
+      is = is;
       stanza_is = later.stanza_is;
       prior = subst (λ (v : BackupInfo). d.prior ≡ base_label o.kind v) (sym later.list_is) later.prior;
       takes = if_as (λ f. IsTreeListing f seen) (λ f. (ns : List ListedNode) × IsTreeListing f ns × Takes false ns (taken_in d) (folders_in d)) b.nodes listing (λ f t. (seen, t, later.takes));
@@ -156,13 +158,17 @@ module _ (b : Before) (o : OfflineOrder) (archive : rust_archive_info.ArchiveInf
     equal_takes seen listing old now mid left few (takes.TooLong name limit) h = absurd h
 
     -- there is no draft of it, the digests weren't reported, or that of one isn't made
-    pub made_takes : (seen : List ListedNode) → IfSome b.nodes (λ f. IsTreeListing f seen) → (files : List FileEntry) (now : List LinkState) (mid : List Lost) → Left [] b.used [] mid now → length b.used < 2 ^ 32
-        → (e : BackupFault) → MakingCause b.stanza o seen list files b.least now mid e → CauseBy b (IsDraftOf b o) e ⊎ DigestCause b e
-    made_takes seen listing files now mid left few e (inl (inl h)) = inl (draft_takes b (IsDraftOf b o) seen listing e h)
-    made_takes seen listing files now mid left few e (inl (inr h)) = equal_takes seen listing files now mid left few e h
-    made_takes seen listing files now mid left few e (inr h) =
+    -- (the disk is as it was)
+    pub made_takes : (repo : Option Content) → repo ≡ b.repo → (seen : List ListedNode) → IfSome b.nodes (λ f. IsTreeListing f seen) → (files : List FileEntry) (now : List LinkState) (mid : List Lost) → Left [] b.used [] mid now → length b.used < 2 ^ 32
+        → (e : BackupFault) → MakingCause b.stanza o seen list files b.least (StatesSecond b.stanza list repo) now mid e → CauseBy b (IsDraftOf b o) e ⊎ DigestCause b e
+    made_takes repo same seen listing files now mid left few e (inl (inl h)) = inl (draft_takes b (IsDraftOf b o) seen listing (StatesSecond b.stanza list repo)
+        (λ second s. has_second b archive backup is_archive is_backup second
+        (states_as b.stanza b.repo second (backup_info_of backup) list (same_backups (archive_info_of archive) (backup_info_of backup) list settles)
+        (subst (λ (r : Option Content). StatesSecond b.stanza list r second) same s))) e h)
+    made_takes repo same seen listing files now mid left few e (inl (inr h)) = equal_takes seen listing files now mid left few e h
+    made_takes repo same seen listing files now mid left few e (inr h) =
         let first = left_is [] b.used [] mid now left in
-        inl (offline_takes b (IsDraftOf b o) h.draft (offline_draft seen listing files h.second now h.draft h.later) h.now h.lost
+        inl (offline_takes b (IsDraftOf b o) h.draft (offline_draft seen listing files h.second now h.draft h.is h.later) h.now h.lost
         (left_twice b.used now h.now mid h.lost first h.left) few e h.cause)
 
 -- ---- which object failed

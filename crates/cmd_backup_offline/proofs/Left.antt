@@ -21,6 +21,7 @@ use Rattle.backup_record.specs.Faults.{IsMissing}
 use Rattle.backup_make.specs.declared.draft.Draft.{Draft}
 use Rattle.backup_make.specs.Draft.{jobs_in, files_with}
 use Rattle.backup_make.specs.Faults.{IsManifestTooLong, IsListTooLong}
+use Rattle.backup_make.specs.Kept.{IsKeptUnlessAbsent}
 use Rattle.cmd_backup_common.specs.declared.parts.fault.BackupFault.{BackupFault}
 use Rattle.cmd_backup_common.specs.declared.parts.fault.BackupFault.TheVariants as faults
 use Rattle.cmd_backup_common.specs.Beginning.{AreLost}
@@ -81,6 +82,10 @@ module _ (used now : List LinkState) (comes : Comes used now) where
   new_used : (delta : Bool) (old : List FileEntry) (f : Taken) → IsNew now delta old f → IsNew used delta old f
   new_used true old f h = changed_used old f h
   new_used false old f h = h
+
+  pub kept_used : (es : List FileEntry) (f : Taken) → IsKeptUnlessAbsent now es f → IsKeptUnlessAbsent used es f
+  kept_used es f (inl x) = inl x
+  kept_used es f (inr gone) = inr (absent_used (item_for f) gone)
 
   pub entry_used : (delta : Bool) (old : List FileEntry) (fs : List Taken) (e : FileEntry) → IsEntryBy now delta old fs e → IsEntryBy used delta old fs e
   entry_used delta old fs e h = record {

@@ -4,5 +4,7 @@ pub mod Left
 pub mod Marks
 pub mod Chosen
 pub mod Folder
+pub mod Lying
+pub mod Touchings
 pub mod Takings
 pub mod Causes

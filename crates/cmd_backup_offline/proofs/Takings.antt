@@ -1,16 +1,18 @@
 -- What a backup of any kind does, and what is reported about it.
-use Rattle.std.proofs.Common.{◌≡◌, ⊎_elim, inl, inr, ◌<◌, ℕ, List, length, Bool, true, false, Option, Some, None, refl, sym, ◌∙◌, ap, subst, string_bytes}
+use Rattle.std.proofs.Common.{◌≡◌, ◌≤◌, ⊎_elim, inl, inr, ◌<◌, ℕ, arith, List, length, Bool, true, false, Option, Some, None, refl, sym, ◌∙◌, ap, subst, string_bytes}
 use Rattle.std.specs.Prelude.{IfSome, IsSome, IsErrAnd, OnOk, IfOk, Result, Ok, Err}
-use Rattle.base_devices.specs.Content.{Content}
+use Rattle.base_devices.specs.Content.{Content, Value}
 use Rattle.base_devices.specs.Links.{LinkState}
 use Rattle.base_devices.specs.Moments.{View, LeavesNoMore}
+use Rattle.base_devices.specs.States.{ClockState, ShowsSecond}
 use Rattle.base_model.specs.declared.clusters.ArchiveInfo as rust_archive_info
 use Rattle.base_model.specs.declared.clusters.BackupInfo as rust_backup_info
 use Rattle.base_model.specs.declared.labels.Choices.{Choices}
 use Rattle.base_model.specs.declared.labels.BackupKind.{BackupKind}
 use Rattle.base_model.specs.declared.labels.BackupKind.TheVariants.{Full, Diff, Incr}
 use Rattle.base_model.specs.declared.labels.Label.{Label}
-use Rattle.base_model.specs.InfoFiles.{IsBackupText}
+use Rattle.base_model.specs.InfoFiles.{IsBackupText, backup_sections}
+use Rattle.base_model.specs.InfoText.{info_text}
 use Rattle.base_model.specs.Names.{backup_info, manifest_name}
 use Rattle.base_model.specs.Now.{NowRepresents}
 use Rattle.base_model.specs.Pair.{PairIs}
@@ -22,13 +24,16 @@ use Rattle.repo_text_lemmas.proofs.Lists.{one_list}
 use Rattle.repo_text_lemmas.proofs.Manifests.{one_manifest}
 use Rattle.backup_sink.proofs.Ways.{Law}
 use Rattle.backup_plan.specs.Filter.{ListedNode, kept, files_of}
+use Rattle.backup_record.specs.Making.{list_with}
 use Rattle.repo_stanza.specs.declared.control.Control.{Control}
 use Rattle.repo_stanza.specs.Judging.{Validates, IsOf}
 use Rattle.repo_stanza.specs.Pairs.{AgreeAt}
 use Rattle.backup_make.specs.declared.draft.Draft.{Draft}
 use Rattle.backup_make.specs.declared.fault.MakeFault.{MakeFault}
 use Rattle.backup_make.specs.Draft.{stanza_of, main_of, IsDraft, pair_of, taken_in, old_in, files_with, went_with}
-use Rattle.backup_make.specs.Made.{Outcome as Makes, MakesOf}
+use Rattle.backup_make.specs.Kept.{IsKeptUnlessAbsent}
+use Rattle.backup_make.specs.Made.{Outcome as Makes, MakesOf, StopsBy}
+use Rattle.backup_make.proofs.Completes.{all_kept}
 use Rattle.archive_store.specs.Still.{IsStill}
 use Rattle.cmd_types.specs.declared.stages.halt.Halt.{Halt}
 use Rattle.cmd_types.specs.declared.stages.halt.Halt.TheVariants.{Refused, Failed, NoMemory}
@@ -53,13 +58,15 @@ use Rattle.cmd_backup_common.specs.Making.{IsEndWith, Well, Ill, Finishes}
 use Rattle.cmd_backup_common.proofs.Causes.{if_both}
 use Rattle.cmd_backup_common.proofs.Links.{Comes, link_by_used, full_by_used, all_read_on}
 use Rattle.cmd_backup_common.proofs.Makings.{end_ok, end_early}
+use Rattle.cmd_backup_common.specs.Seconds.{ShowsTimes}
+use Rattle.cmd_backup_common.proofs.Times.{times_shown, times_within}
 use Rattle.cmd_backup_offline.specs.declared.fault.OfflineFault.{OfflineFault}
 use Rattle.cmd_backup_offline.specs.declared.order.OfflineOrder.{OfflineOrder}
 use Rattle.cmd_backup_offline.specs.Basing.{base_in, base_label, old_files, ReadsBase}
 use Rattle.cmd_backup_offline.specs.Drafting.{IsPlannedBy, IsOfflineOf}
 use Rattle.cmd_backup_offline.specs.Faults.{of_backup, offline_early}
 use Rattle.cmd_backup_offline.specs.Kinds.{IsBackupBy}
-use Rattle.cmd_backup_offline.specs.Making.{BeginsFrom, IsMade, HasEntries}
+use Rattle.cmd_backup_offline.specs.Making.{BeginsFrom, IsMade, HasAdded, HasEntries}
 use Rattle.cmd_backup_offline.specs.Taken.{HasRoom}
 use Rattle.cmd_backup_offline.specs.Texts.{offline_lines}
 use Rattle.cmd_backup_offline.proofs.Bases.{begins_later, begins_full, no_base}
@@ -72,7 +79,8 @@ use Rattle.cmd_backup_offline.specs.Equal.{IsEntryBy}
 use Rattle.cmd_backup_offline.specs.Folder.{ShowsFrom}
 use Rattle.cmd_backup_offline.proofs.Chosen.{chosen, entries_of}
 use Rattle.cmd_backup_offline.proofs.Folder.{all_held}
-use Rattle.cmd_backup_offline.proofs.Left.{entry_used}
+use Rattle.cmd_backup_offline.proofs.Left.{entry_used, kept_used}
+use Rattle.cmd_backup_offline.proofs.Lying.{lies_there}
 
 -- ---- where it is refused before
 
@@ -146,11 +154,11 @@ undrafted_does kind links stanza result h is a b rests same = none_by kind links
 
 module _ (stanza : Text) (o : OfflineOrder) (seen : List ListedNode) (list : BackupInfo) (old : List FileEntry) (second : ℕ) (draft : Draft) (later : IsOfflineOf false stanza o seen list old second draft) (first : List LinkState) (planned : IsPlannedBy first o draft) (lines : Text)
     (line_is : lines ≡ offline_lines o.kind (base_in o.kind list) draft.label) (links : List LinkState) (comes : Comes first links) (a b d : View) (rests : LeavesNoMore a b) (same : b.now ≡ a.now) (law : Law b) (is_draft : IsDraft draft)
-    (from : BeginsFrom stanza o a.now list old) where
+    (from : BeginsFrom stanza o a.now list old) (clock mid last : ClockState) where
   begins : BeginsBackup draft b
   begins = begins_later false stanza o seen list old second draft later b law (subst (λ (n : Option Content). BeginsFrom stanza o n list old) (sym same) from) is_draft
 
-  any_does : (result : Result Outcome (Halt BackupFault)) → Finishes draft lines links b d result → On (one (IsAnyBackup first stanza a.now)) (λ command. RepoEffect Whole stanza command (reached_by backup_early result) a d)
+  any_does : (result : Result Outcome (Halt BackupFault)) → Finishes draft lines links b d mid last result → On (one (IsAnyBackup first stanza a.now)) (λ command. RepoEffect Whole stanza command (reached_by backup_early result) a d)
   any_does result f =
       let x = does_backup one_list one_manifest draft links b d begins f.made (reached_by backup_early result) f.outcome (end_ok draft lines f.made result f.end) (end_early draft lines f.made result f.end) in (
         x.0,
@@ -161,7 +169,7 @@ module _ (stanza : Text) (o : OfflineOrder) (seen : List ListedNode) (list : Bac
   full : draft.prior ≡ None → BeginsFull draft b.now
   full none = begins_full false stanza o seen list old second draft later b law (subst (λ (n : Option Content). BeginsFrom stanza o n list old) (sym same) from) is_draft none
 
-  full_does : draft.prior ≡ None → (result : Result Outcome (Halt BackupFault)) → Finishes draft lines links b d result → On (one (IsFullBackup first)) (λ command. RepoEffect Whole stanza command (reached_by backup_early result) a d)
+  full_does : draft.prior ≡ None → (result : Result Outcome (Halt BackupFault)) → Finishes draft lines links b d mid last result → On (one (IsFullBackup first)) (λ command. RepoEffect Whole stanza command (reached_by backup_early result) a d)
   full_does none result f =
       let x = does_full one_list one_manifest draft links b d (full none) f.made (reached_by backup_early result) f.outcome (end_ok draft lines f.made result f.end) (end_early draft lines f.made result f.end) in (
         x.0,
@@ -169,7 +177,7 @@ module _ (stanza : Text) (o : OfflineOrder) (seen : List ListedNode) (list : Bac
         does_after stanza x.0 (reached_by backup_early result) a b d rests same (subst (λ (s : Text). RepoEffect Whole s x.0 (reached_by backup_early result) b d) later.stanza_is x.2),
       )
 
-  pub finished_does : (result : Result Outcome (Halt BackupFault)) → Finishes draft lines links b d result → On (one (IsBackupBy o.kind first stanza a.now)) (λ command. RepoEffect Whole stanza command (reached_by backup_early result) a d)
+  pub finished_does : (result : Result Outcome (Halt BackupFault)) → Finishes draft lines links b d mid last result → On (one (IsBackupBy o.kind first stanza a.now)) (λ command. RepoEffect Whole stanza command (reached_by backup_early result) a d)
   finished_does result f = by o.kind refl
     where
       by : (kind : BackupKind) → o.kind ≡ kind → On (one (IsBackupBy kind first stanza a.now)) (λ command. RepoEffect Whole stanza command (reached_by backup_early result) a d)
@@ -195,8 +203,8 @@ module _ (stanza : Text) (o : OfflineOrder) (seen : List ListedNode) (list : Bac
       (all_held one_list one_manifest draft b begins f seen listing later.takes first repo read o.settings.delta known from_it (taken_in draft) draft.plan.choices.items (λ t i. i) files) seen listing later.takes
 
   -- the manifest of what was made
-  has_entries : (makes : MakesOf draft None links true b d) (x : Backup) → x.entry.label ≡ draft.label → HasEntries stanza o seen list first a.now d.now x
-  has_entries makes x label =
+  has_entries : (makes : MakesOf draft None links true b d) → (full_backup draft links true b d makes).entry.label ≡ draft.label → HasEntries stanza o seen list first a.now d.now (full_backup draft links true b d makes)
+  has_entries makes label =
       let p = planned in
       let w = went_with draft makes.ends in
       let files = chosen first o.settings (old_in draft) (taken_in draft) p.equal p.same p.marked draft.plan.choices.items p.planned in
@@ -208,37 +216,69 @@ module _ (stanza : Text) (o : OfflineOrder) (seen : List ListedNode) (list : Bac
         held = λ some. subst (λ (l : Label). IfSome d.now (λ g. PairIs IsManifestText g (manifest_name stanza l) makes.manifest)) (sym label)
             (subst (λ (k : Text). IfSome d.now (λ g. PairIs IsManifestText g (manifest_name k draft.label) makes.manifest)) later.stanza_is
             (held_in b.now d.now makes.manifest makes.manifest_valid (λ f g is_f is_g. ((makes.whole_now refl).goes f g is_f is_g).manifest_is) (subst (λ (n : Option Content). IsSome n) (sym same) some)));
+        all = λ t at. subst (λ (es : List FileEntry). IsKeptUnlessAbsent first es t) (sym files_are)
+            (kept_used first links comes (files_with draft makes.ends) t
+            (all_kept draft is_draft None links true b d makes t (subst (λ (ts : List Taken). In t ts) (sym later.takes.files) at)));
+        folders = ap (λ (m : Manifest). m.folders) makes.manifest_is ∙ later.takes.folders_are;
+        wal = ap (λ (m : Manifest). m.wal) makes.manifest_is;
+        states = refl;
         each = λ e at.
             let entry = entries_of first o.settings.delta w (taken_in draft) (taken_in draft) draft.plan.choices.items (λ f i. i) files e (subst (λ (es : List FileEntry). In e es) files_are at) in
             subst (λ (es : List FileEntry). IsEntryBy first o.settings.delta es (files_of (kept false seen)) e) (later.old_is ∙ from.old_is)
             (subst (λ (ts : List Taken). IsEntryBy first o.settings.delta (old_in draft) ts e) later.takes.files entry);
       }
 
-  made_by : (made : Result (Unit {0}) MakeFault) (result : Result Outcome (Halt BackupFault)) → IsEndWith draft lines made result → Makes made draft links b d
-      → OnOk result (IsSome b.now → IfSome d.now (AgreeAt (main_of draft))) → IfOk result (λ outcome. OnFinished outcome (IsMade stanza o list seen first a.now d.now))
-  made_by made result (Well u text shows) makes alike =
+  -- whatever else the disk held, it has the backup
+  has_added : (makes : MakesOf draft None links true b d) → (full_backup draft links true b d makes).entry.label ≡ draft.label → IsSome a.now → IfSome d.now (HasAdded stanza list (full_backup draft links true b d makes) makes.manifest)
+  has_added makes label some = by b.now d.now refl refl (subst (λ (n : Option Content). IsSome n) (sym same) some)
+    where
+      by : (now new : Option Content) → b.now ≡ now → d.now ≡ new → IsSome now → IfSome new (HasAdded stanza list (full_backup draft links true b d makes) makes.manifest)
+      by now None is_b is_d known = tt
+      by None (Some g) is_b is_d known = absurd (let e : ◌≡◌ {A = Bool} false true = known in cc)
+      by (Some f) (Some g) is_b is_d known =
+          let x = (makes.whole_now refl).goes f g is_b is_d in
+          let y = (makes.copies_now refl).goes f g is_b is_d in
+          let list_is : makes.list ≡ list_with (full_backup draft links true b d makes).entry list = makes.listed.is ∙ ap (λ (v : BackupInfo). list_with (full_backup draft links true b d makes).entry v) later.list_is in
+          let at_label : manifest_name stanza (full_backup draft links true b d makes).entry.label ≡ pair_of draft = ap (λ (l : Label). manifest_name stanza l) label ∙ ap (λ (k : Text). manifest_name k draft.label) (sym later.stanza_is) in
+          record {
+            listed = subst (λ (v : BackupInfo). PairIs IsBackupText g (backup_info stanza) v) list_is
+                (subst (λ (k : Text). PairIs IsBackupText g (backup_info k) makes.list) later.stanza_is (inl (info_text (backup_sections makes.list), x.info_is, makes.list_valid)));
+            manifest = subst (λ (n : Text). PairIs IsManifestText g n makes.manifest) (sym at_label) (inl (manifest_text makes.manifest, x.manifest_is, makes.manifest_valid));
+            copies = subst (λ (n : Text). AgreeAt n g) (sym at_label) (y.manifest_is ∙ sym x.manifest_is, subst (λ (v : Value). IsSome v) (sym x.manifest_is) refl);
+            files = λ e at own. lies_there draft is_draft links b d makes (subst (λ (n : Option Content). IsSome n) (sym is_b) refl) g x.placed stanza later.stanza_is (full_backup draft links true b d makes).entry.label label e at own;
+          }
+
+  made_by : ShowsSecond second clock mid → (made : Result (Unit {0}) MakeFault) (result : Result Outcome (Halt BackupFault)) → IsEndWith draft lines made result → (makes : Makes made draft links b d) → StopsBy (λ stop. ShowsSecond stop mid last) made draft None links b d makes
+      → OnOk result (IsSome b.now → IfSome d.now (AgreeAt (main_of draft))) → IfOk result (λ outcome. OnFinished outcome (IsMade stanza o list seen first a.now d.now clock last))
+  unfolding has_entries
+  made_by shown made result (Well u text shows) makes stops alike =
       let x : (y : Backup) × IsAdded draft links b.now d.now y = (full_backup draft links true b d makes, is_made one_list one_manifest draft links b d begins makes) in
+      let start_is : (full_backup draft links true b d makes).entry.start ≡ second = ap (λ (m : Manifest). m.start) makes.manifest_is ∙ later.start in
       let back = λ (some : IsSome a.now). subst (λ (n : Option Content). IsSome n) (sym same) some in
-      let whole : IsMade stanza o list seen first a.now d.now lines = record {
+      let whole : IsMade stanza o list seen first a.now d.now clock last lines = record {
         backup = x.0;
         second = second;
         later = later.next.later;
         label = x.1.label ∙ later.label;
+        start = start_is;
+        times = subst (λ (n : ℕ). ShowsTimes n (full_backup draft links true b d makes).entry.stop clock last) (sym start_is)
+            (subst (λ (n : ℕ). ShowsTimes second n clock last) (sym (ap (λ (m : Manifest). m.stop) makes.manifest_is)) (times_shown second makes.stop clock mid last shown stops));
         prior = x.1.prior ∙ later.prior;
         line = line_is ∙ ap (λ (l : Label). offline_lines o.kind (base_in o.kind list) l) (sym x.1.label);
         delta = ap (λ (k : Choices). k.delta) x.1.choices ∙ later.delta;
         read = left_by_used first links comes stanza a.now x.0 (subst (λ (n : Option Content). IsReadOrLeft links stanza n x.0) same (subst (λ (s : Text). IsReadOrLeft links s b.now x.0) later.stanza_is x.1.read));
-        entries = has_entries makes x.0 x.1.label;
+        entries = has_entries makes x.1.label;
         refers = λ s some represents. x.1.refers s (back some) (subst (λ (k : Text). NowRepresents k (Some s) b.now) (sym later.stanza_is) (subst (λ (n : Option Content). NowRepresents stanza (Some s) n) (sym same) represents));
         adds = subst (λ (s : Text). AddsBackup s x.0 a.now d.now) later.stanza_is (subst (λ (n : Option Content). AddsBackup (stanza_of draft) x.0 n d.now) same x.1.adds);
+        added = has_added makes x.1.label;
         folder = holds_folder makes x.1.prior;
         alike = λ some. subst (λ (s : Text). IfSome d.now (AgreeAt (backup_info s))) later.stanza_is (alike (back some));
       } in
-      subst (λ (t : Text). IsMade stanza o list seen first a.now d.now t) (sym shows) whole
-  made_by made result (Ill lost fault halt why) makes alike = tt
+      subst (λ (t : Text). IsMade stanza o list seen first a.now d.now clock last t) (sym shows) whole
+  made_by shown made result (Ill lost fault halt why) makes stops alike = tt
 
-  pub finished_made : (result : Result Outcome (Halt BackupFault)) → Finishes draft lines links b d result → OnOk result (IsSome b.now → IfSome d.now (AgreeAt (main_of draft))) → IfOk result (λ outcome. OnFinished outcome (IsMade stanza o list seen first a.now d.now))
-  finished_made result f alike = made_by f.made result f.end f.outcome alike
+  pub finished_made : ShowsSecond second clock mid → (result : Result Outcome (Halt BackupFault)) → Finishes draft lines links b d mid last result → OnOk result (IsSome b.now → IfSome d.now (AgreeAt (main_of draft))) → IfOk result (λ outcome. OnFinished outcome (IsMade stanza o list seen first a.now d.now clock last))
+  finished_made shown result f alike = made_by shown f.made result f.end f.outcome f.stopped alike
 
 -- ---- the whole command
 
@@ -259,14 +299,21 @@ module _ (used now : List LinkState) (comes : Comes used now) (stanza : Text) (a
     manifest = h.manifest;
     held = λ some. h.held (subst (λ (n : Option Content). IsSome n) (sym same) some);
     each = λ e at. entry_used used now comes o.settings.delta (old_files h.base) (files_of (kept false seen)) e (h.each e at);
+    all = λ t at. kept_used used now comes h.manifest.files t (h.all t at);
+    folders = h.folders;
+    wal = h.wal;
+    states = h.states;
   }
 
-  pub made_by_used : (o : OfflineOrder) (list : BackupInfo) (seen : List ListedNode) (lines : Text) → IsMade stanza o list seen now c.now d.now lines → IsMade stanza o list seen used a.now d.now lines
-  made_by_used o list seen lines m = record {
+  pub made_by_used : (o : OfflineOrder) (list : BackupInfo) (seen : List ListedNode) (clock last : ClockState) (lines : Text) → IsMade stanza o list seen now c.now d.now clock last lines → IsMade stanza o list seen used a.now d.now clock last lines
+  unfolding entries_by_used
+  made_by_used o list seen clock last lines m = record {
     backup = m.backup;
     second = m.second;
     later = m.later;
     label = m.label;
+    start = m.start;
+    times = m.times;
     prior = m.prior;
     line = m.line;
     delta = m.delta;
@@ -274,10 +321,33 @@ module _ (used now : List LinkState) (comes : Comes used now) (stanza : Text) (a
     entries = entries_by_used o seen list m.backup m.entries;
     refers = λ s some represents. m.refers s (subst (λ (n : Option Content). IsSome n) (sym same) some) (subst (λ (n : Option Content). NowRepresents stanza (Some s) n) (sym same) represents);
     adds = subst (λ (n : Option Content). AddsBackup stanza m.backup n d.now) same m.adds;
+    added = λ some. m.added (subst (λ (n : Option Content). IsSome n) (sym same) some);
     folder = λ f repo listing some read shows. m.folder f repo listing (subst (λ (n : Option Content). IsSome n) (sym same) some) (all_read_on used now comes (bytes_in f) repo read)
         (λ l is. subst (λ (n : Option Content). ShowsFrom stanza n o.settings.delta f l) (sym same) (shows l is));
     alike = λ some. m.alike (subst (λ (n : Option Content). IsSome n) (sym same) some);
   }
+
+-- a later state of the clock is as good
+pub made_later : (stanza : Text) (o : OfflineOrder) (list : BackupInfo) (seen : List ListedNode) (used : List LinkState) (old new : Option Content) (clock mid last : ClockState) → mid.least ≤ last.least → (lines : Text)
+    → IsMade stanza o list seen used old new clock mid lines → IsMade stanza o list seen used old new clock last lines
+made_later stanza o list seen used old new clock mid last on lines m = record {
+  backup = m.backup;
+  second = m.second;
+  later = m.later;
+  label = m.label;
+  start = m.start;
+  times = times_within m.backup.entry.start m.backup.entry.stop clock clock mid last (omega arith) on m.times;
+  prior = m.prior;
+  line = m.line;
+  delta = m.delta;
+  read = m.read;
+  entries = m.entries;
+  refers = m.refers;
+  adds = m.adds;
+  added = m.added;
+  folder = m.folder;
+  alike = m.alike;
+}
 
 -- the pairs that were read have room for it
 pub has_room : (stanza : Text) (known : Control) (archive : rust_archive_info.ArchiveInfo) (backup : rust_backup_info.BackupInfo) (old : Option Content) → IsArchiveOf stanza old archive → IsBackupOf stanza old backup

@@ -3,7 +3,7 @@ use Rattle.std.specs.Prelude.{◌≡◌, ℕ, Bool, List, map, Option, option_ma
 use Rattle.std.specs.declared.alloc.Global.{Global}
 use Rattle.base_devices.specs.declared.data_folder.FolderEntry as rust_seen
 use Rattle.base_devices.specs.Links.{LinkState}
-use Rattle.base_devices.specs.States.{ClockState, DiskState, DiskFailed}
+use Rattle.base_devices.specs.States.{ClockState, DiskState, DiskFailed, ShowsSecond}
 use Rattle.base_model.specs.declared.clusters.BackupInfo as rust_backup
 use Rattle.base_model.specs.declared.files.FileEntry as rust_entry
 use Rattle.base_model.specs.declared.files.Manifest as rust_manifest
@@ -21,6 +21,7 @@ use Rattle.cmd_types.specs.declared.stages.halt.Halt.{Halt}
 use Rattle.cmd_types.specs.declared.stages.object.Object.TheVariants.{Repo}
 use Rattle.cmd_types.specs.Halts.{HaltCause, Only}
 use Rattle.cmd_backup_common.specs.declared.parts.fault.BackupFault.{BackupFault}
+use Rattle.cmd_backup_common.specs.Seconds.{StatesSecond}
 use Rattle.cmd_backup_common.specs.Halting.{RepoOrClockFailed}
 use Rattle.cmd_backup_offline.specs.declared.fault.OfflineFault.{OfflineFault}
 use Rattle.cmd_backup_offline.specs.declared.order.BackupBasis.{BackupBasis}
@@ -87,12 +88,13 @@ IsDraftOfTaken b list second listing d =
     IsOfflineWith b.stanza.now b.order (taken_files listing) (taken_folders listing) (backup_info_of list)
     (basis_files b) second d
 
--- it is of these nodes of a stopped server's folder, with marks that the pool's links reported
-abbrev pub IsDraftOver : {L S : Type 0} → BackupBasis → rust_backup.BackupInfo → List rust_seen.FolderEntry
-    → (L → LinkState) → Pool L S → Draft → Type 0
-IsDraftOver b list seen of pool d = (second : ℕ)
+-- it is of these nodes of a stopped server's folder, with marks that the pool's links reported, and begins in a second
+-- that the clock showed
+abbrev pub IsDraftOver : {L S C : Type 0} → BackupBasis → rust_backup.BackupInfo → List rust_seen.FolderEntry
+    → (L → LinkState) → Pool L S → (C → ClockState) → C → C → Draft → Type 0
+IsDraftOver b list seen of pool clock first last d = (second : ℕ)
     × IsDraftedBy b.stanza.now b.order (map seen_of seen) (backup_info_of list) (basis_files b) second
-    (links_in of pool) d
+    (links_in of pool) d × ShowsSecond second (clock first) (clock last)
 
 -- these lines state its kind and its label
 abbrev pub AreLinesOf : BackupBasis → rust_backup.BackupInfo → Draft → String Global → Type 0
@@ -100,8 +102,10 @@ AreLinesOf b list d lines =
     string_bytes lines ≡ offline_lines b.order.kind (base_in b.order.kind (backup_info_of list)) d.label
 
 -- why there is none
-abbrev pub DraftHalts : {L S D C : Type 0} → BackupBasis → List rust_seen.FolderEntry → (L → LinkState) → Pool L S
-    → (D → DiskState) → D → D → (C → ClockState) → C → C → Halt BackupFault → Type 0
-DraftHalts b seen of pool state before after clock first last = HaltCause
-    (StopCause (map seen_of seen) (clock first).least (links_in of pool) pool.lost.items (basis_files b))
+abbrev pub DraftHalts : {L S D C : Type 0} → BackupBasis → rust_backup.BackupInfo → List rust_seen.FolderEntry
+    → (L → LinkState) → Pool L S → (D → DiskState) → D → D → (C → ClockState) → C → C → Halt BackupFault → Type 0
+DraftHalts b list seen of pool state before after clock first last = HaltCause
+    (StopCause (map seen_of seen) (clock first).least
+    (StatesSecond b.stanza.now (backup_info_of list) (state before).view.now) (links_in of pool) pool.lost.items
+    (basis_files b))
     (RepoOrClockFailed (state before) (state after) (clock first) (clock last))

@@ -4,7 +4,7 @@ use Rattle.base_model.specs.Names.{label_text}
 use Rattle.base_model.specs.Values.{BackupInfo, FileEntry}
 use Rattle.backup_plan.specs.Filter.{kept, files_of, Takes}
 use Rattle.backup_make.specs.declared.draft.Draft.{Draft}
-use Rattle.backup_make.specs.Draft.{stanza_of, taken_in, folders_in, list_in}
+use Rattle.backup_make.specs.Draft.{IsDraft, stanza_of, taken_in, folders_in, list_in}
 use Rattle.cmd_backup_common.specs.declared.parts.fault.BackupFault.{BackupFault}
 use Rattle.cmd_backup_common.specs.declared.parts.fault.BackupFault.TheVariants.{Unread}
 use Rattle.cmd_backup_common.specs.Causes.{Before, Shows, SettlesTo, CauseBy}
@@ -16,6 +16,7 @@ use Rattle.cmd_backup_offline.specs.Equal.{CannotDigest}
 
 -- a draft of a backup of the folder that the order asks for, besides those of the stanza
 pub record IsDraftOf (b : Before) (o : OfflineOrder) (d : Draft) : Type 0 where
+  pub is : IsDraft d
   pub stanza_is : stanza_of d ≡ b.stanza
   pub prior : d.prior ≡ base_label o.kind (list_in d)
   pub takes : Shows b (λ seen. Takes false seen (taken_in d) (folders_in d))

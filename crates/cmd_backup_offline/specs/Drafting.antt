@@ -33,6 +33,7 @@ pub record IsOfflineBy (stanza : Text) (o : OfflineOrder) (list : BackupInfo) (o
     (equal : List Bool) (listing : Listing) (d : Draft) : Type 0 where
   pub stanza_is : stanza_of d ≡ stanza
   pub label : d.label ≡ made_label o.kind (base_in o.kind list) second
+  pub start : d.start ≡ second
   pub prior : d.prior ≡ base_label o.kind list
   pub old_is : old_in d ≡ old
   pub listing_is : d.listing ≡ listing
@@ -56,6 +57,7 @@ pub record IsOfflineOf (online : Bool) (stanza : Text) (o : OfflineOrder) (seen 
     (old : List FileEntry) (second : ℕ) (d : Draft) : Type 0 where
   pub stanza_is : stanza_of d ≡ stanza
   pub label : d.label ≡ made_label o.kind (base_in o.kind list) second
+  pub start : d.start ≡ second
   pub prior : d.prior ≡ base_label o.kind list
   pub old_is : old_in d ≡ old
   pub takes : Takes online seen (taken_in d) (folders_in d)
@@ -79,7 +81,8 @@ pub record IsDraftedBy (stanza : Text) (o : OfflineOrder) (seen : List ListedNod
   pub later : IsOfflineOf false stanza o seen list old second d
   pub planned : IsPlannedBy links o d
 
--- the listing is refused, or the clock is behind; or the links didn't report the digests
-abbrev pub StopCause : List ListedNode → ℕ → List LinkState → List Lost → List FileEntry → BackupFault → Type 0
-StopCause seen least links before old fault = DraftCause seen least fault
+-- the listing is refused, or the clock is behind a second of which this holds; or the links didn't report the digests
+abbrev pub StopCause : List ListedNode → ℕ → (ℕ → Type 0) → List LinkState → List Lost → List FileEntry → BackupFault
+    → Type 0
+StopCause seen least Stated links before old fault = DraftCause seen least Stated fault
     ⊎ EqualCause links before old (files_of (kept false seen)) fault

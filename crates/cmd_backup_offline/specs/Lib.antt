@@ -6,6 +6,7 @@ pub mod Basing
 pub mod Drafting
 pub mod Kinds
 pub mod Making
+pub mod Touching
 pub mod Taken
 pub mod Causes
 pub mod Held

@@ -3,6 +3,7 @@ use Rattle.std.specs.Prelude.{◌<◌, List, length, Option, IfSome}
 use Rattle.base_devices.specs.Content.{Content}
 use Rattle.base_devices.specs.Links.{LinkState}
 use Rattle.base_devices.specs.DataFolder.{Nodes, IsTreeListing}
+use Rattle.base_devices.specs.States.{ClockState}
 use Rattle.base_model.specs.Text.{Text}
 use Rattle.base_model.specs.Values.{ArchiveInfo, BackupInfo}
 use Rattle.backup_plan.specs.Filter.{ListedNode}
@@ -22,12 +23,13 @@ pub record HasRoom (stanza : Text) (known : Control) (list : BackupInfo) (f : Co
   pub settles : Validates archive backup list
   pub few : length list.backups < most_backups
 
--- Ok of a backup, with its lines: of a stopped server one backup more is made, of what its folder shows.
+-- Ok of a backup, with its lines: of a stopped server one backup more is made, of what its folder shows, between these
+-- two states of the clock.
 pub record IsTaken (stanza : Text) (known : Control) (o : OfflineOrder) (nodes : Option Nodes) (used : List LinkState)
-    (old new : Option Content) (lines : Text) : Type 0 where
+    (old new : Option Content) (clock new_clock : ClockState) (lines : Text) : Type 0 where
   pub list : BackupInfo
   pub seen : List ListedNode
   pub room : IfSome old (HasRoom stanza known list)
   pub listing : IfSome nodes (λ f. IsTreeListing f seen)
   pub stopped : IfSome nodes IsStopped
-  pub made : IsMade stanza o list seen used old new lines
+  pub made : IsMade stanza o list seen used old new clock new_clock lines

@@ -17,6 +17,7 @@ use Rattle.cmd_types.specs.Reached.{OnFinished, reached_by}
 use Rattle.cmd_types.specs.Risen.{none, rose_in}
 use Rattle.cmd_backup_common.specs.declared.parts.backup_begin.Begun.{Begun}
 use Rattle.cmd_backup_common.specs.declared.parts.fault.BackupFault.{BackupFault}
+use Rattle.cmd_backup_common.specs.Seconds.{StatesSecond}
 use Rattle.cmd_backup_common.specs.Causes.{Before}
 use Rattle.cmd_backup_common.specs.Halting.{RepoOrClockFailed}
 use Rattle.cmd_backup_common.specs.PartsFaults.{backup_early}
@@ -45,18 +46,19 @@ DoesBackup b of pool result state before after =
     DoesOf b.stanza.now b.order.kind (links_in of pool) (reached_by backup_early result) (state before) (state after)
 
 -- it is made of what the listing shows, besides those of the list
-abbrev pub MakesBackup : {L S D : Type 0} → BackupBasis → Begun → (L → LinkState) → Pool L S → (D → DiskState) → D → D
-    → Outcome → Type 0
-MakesBackup b begun of pool state before after outcome = OnFinished outcome
+abbrev pub MakesBackup : {L S D C : Type 0} → BackupBasis → Begun → (L → LinkState) → Pool L S → (D → DiskState) → D → D
+    → (C → ClockState) → C → C → Outcome → Type 0
+MakesBackup b begun of pool state before after clock first last outcome = OnFinished outcome
     (IsMade b.stanza.now b.order (backup_info_of begun.list) (map seen_of begun.seen.items) (links_in of pool)
-    (state before).view.now (state after).view.now)
+    (state before).view.now (state after).view.now (clock first) (clock last))
 
 -- why it isn't
 abbrev pub MakingHalts : {L S D C : Type 0} → BackupBasis → Begun → (L → LinkState) → Pool L S → (D → DiskState) → D → D
     → (C → ClockState) → C → C → Halt BackupFault → Type 0
 MakingHalts b begun of pool state before after clock first last = HaltCause
     (MakingCause b.stanza.now b.order (map seen_of begun.seen.items) (backup_info_of begun.list) (basis_files b)
-    (clock first).least (links_in of pool) pool.lost.items)
+    (clock first).least (StatesSecond b.stanza.now (backup_info_of begun.list) (state before).view.now)
+    (links_in of pool) pool.lost.items)
     (RepoOrClockFailed (state before) (state after) (clock first) (clock last))
 
 -- ---- the whole command
@@ -69,11 +71,11 @@ DoesOffline task of pool result state before after =
     (state before) (state after)
 
 -- a backup more is made, of what the folder of the stopped server shows
-abbrev pub MakesIt : {L S T D : Type 0} → OfflineTask → (L → LinkState) → Pool L S → (T → DataFolderState) → T
-    → (D → DiskState) → D → D → Outcome → Type 0
-MakesIt task of pool folder tree state before after outcome = OnFinished outcome
+abbrev pub MakesIt : {L S T D C : Type 0} → OfflineTask → (L → LinkState) → Pool L S → (T → DataFolderState) → T
+    → (D → DiskState) → D → D → (C → ClockState) → C → C → Outcome → Type 0
+MakesIt task of pool folder tree state before after clock first last outcome = OnFinished outcome
     (IsTaken task.stanza.name.now task.stanza.control.now task.order (folder tree).nodes
-    (used_in task.order.take of pool) (state before).view.now (state after).view.now)
+    (used_in task.order.take of pool) (state before).view.now (state after).view.now (clock first) (clock last))
 
 -- what there is before it
 abbrev pub before_task : {L S : Type 0} → OfflineTask → (L → LinkState) → Pool L S → DiskState → DataFolderState

@@ -1,5 +1,5 @@
 // backup of a stopped server, of any kind.
-ghost use Rattle.std.specs.Prelude.{◌≡◌, ◌≤◌, ◌<◌, ◌^◌, map, vec_len, option_map, IfOk, IfErr};
+ghost use Rattle.std.specs.Prelude.{◌≡◌, ◌≤◌, ◌<◌, ◌^◌, map, vec_len, option_map, IfOk, IfErr, OnOk};
 ghost use Rattle.base_devices.specs.States.{CallsProperly, OnlyReadsFolder};
 ghost use Rattle.base_model.specs.Values.{file_entry_of, manifest_of};
 ghost use Rattle.base_crash_lists.specs.Beside.{StaysBeside};
@@ -10,6 +10,7 @@ ghost use Rattle.cmd_setup.specs.Readies.{IsArchiveOf, IsBackupOf};
 ghost use Rattle.cmd_backup_offline.specs.Basing.{old_files};
 ghost use Rattle.cmd_backup_offline.specs.Held.{IsHeld};
 ghost use Rattle.cmd_backup_offline.specs.Tasks.{DoesOffline, OfflineHalts, MakesIt};
+ghost use Rattle.cmd_backup_offline.specs.Touching.{CopiesLast, TouchesOne};
 
 use crate::base_manifest::load_base;
 use crate::fault::{OfflineFault, of_backup};
@@ -51,7 +52,13 @@ pub fn back_up_offline<D: Disk, T: DataFolder, C: Clock, K: Locks, L: Link, U: S
     requires backup { IsBackupOf task.stanza.name.now (D.state repo.old).view.now task.stanza.backup }
     // In the log it is a backup of what the used links read, and, unless it is a full one, of what its prior has.
     ensures does { DoesOffline task.entry L.link_state pool.old result D.state repo.old repo.new }
-    ensures taken { IfOk result (MakesIt task.entry L.link_state pool.old T.state tree.old D.state repo.old repo.new) }
+    ensures taken { IfOk result (MakesIt task.entry L.link_state pool.old T.state tree.old D.state repo.old repo.new
+        C.state clock.old clock.new) }
+    // Whatever the repository holds, nothing changes but names of this backup, and the pair of the list. At Ok no crash
+    // takes one of the two members of its manifest, or of the list.
+    ensures only { TouchesOne task.entry.stanza.name.now (D.state repo.old).view (D.state repo.new).view }
+    ensures lasts { OnOk result (CopiesLast task.entry.stanza.name.now (D.state repo.old).view
+        (D.state repo.new).view) }
     ensures beside { StaysBeside task.entry.stanza.name.now (D.state repo.old).view (D.state repo.new).view }
     ensures frame { CallsProperly (D.state repo.old) (D.state repo.new) }
     ensures looks { OnlyReadsFolder (T.state tree.old) (T.state tree.new) }

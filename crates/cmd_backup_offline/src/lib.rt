@@ -14,13 +14,21 @@
 //!   than 10,000 backups were listed.
 //! - At Ok the backup is based on the one of them that its kind asks for, and is a full one without one; the lines
 //!   state its label, and that it became full.
+//! - At Ok it began in the second of its label. The clock showed that second and the one in which it stopped.
 //! - At Ok the disk has its manifest, where it was known. An entry refers to another backup exactly where the prior's
 //!   manifest has its file with the listed size and, without delta, the listed time; with delta where a link reported
-//!   the digest that this manifest has. So the control file is always stored. Each entry has the listed time.
+//!   the digest that this manifest has. So the control file is always stored. Each entry has the listed time. Each
+//!   listed file has an entry, unless a link reported that it is absent, and the folders are those of the listing. The
+//!   manifest has no part of the log, and the list states the sizes that add up from it.
+//! - At Ok, whatever the disk held, the list that was validated is there with the backup after its backups. The manifest
+//!   lies in both members of its pair, and the bytes of each file that isn't an earlier backup's lie at their place.
+//!   Both members of both pairs are alike in all that a crash leaves.
 //! - Where all links read the folder that was listed, the backup has that folder's files and folders, and nothing else.
 //!   With a prior backup that rests on the files' times or digests. With delta no file has the number and SHA-1 of the
 //!   prior's file and other bytes, and without delta none has its number and its time and other bytes.
-//! - It keeps to its stanza, and only reads the data folder. Each refusal has its cause in what was there before.
+//! - Whatever the repository holds, it changes nothing but names in the folder of its label and the backup pair. Its
+//!   label states a later second than each that was listed. It only reads the data folder. Each refusal has its cause
+//!   in what was there before.
 //! - `find_equal`, `draft_listed`: the parts of it that a backup of a running server can share.
 #![tactic(auto)]
 

@@ -1,5 +1,5 @@
 // Makes the backup.
-ghost use Rattle.std.specs.Prelude.{◌≡◌, ◌≤◌, ◌<◌, ◌^◌, vec_len, IfOk, IfErr};
+ghost use Rattle.std.specs.Prelude.{◌≡◌, ◌≤◌, ◌<◌, ◌^◌, vec_len, IfOk, IfErr, OnOk};
 ghost use Rattle.base_devices.specs.States.{CallsProperly};
 ghost use Rattle.base_model.specs.InfoFiles.{IsBackupInfo};
 ghost use Rattle.base_model.specs.Values.{backup_info_of};
@@ -8,6 +8,7 @@ ghost use Rattle.worker_pool.specs.Pools.{links_in};
 ghost use Rattle.worker_pool.specs.Run.{AreReady};
 ghost use Rattle.cmd_backup_offline.specs.Basis.{IsBasisAt, MayBeBasis};
 ghost use Rattle.cmd_backup_offline.specs.Tasks.{DoesBackup, MakesBackup, MakingHalts};
+ghost use Rattle.cmd_backup_offline.specs.Touching.{CopiesLast, TouchesOne};
 
 use crate::offline_draft::draft_offline;
 use crate::order::BackupBasis;
@@ -33,7 +34,10 @@ pub(crate) fn make_offline<D: Disk, L: Link, U: Scheduler, C: Clock>(
     requires from { IsBasisAt basis.now begun.list (D.state repo.old) }
     // In the log it is a backup of what the links read, and, unless it is a full one, of what its prior has.
     ensures does { DoesBackup basis.now L.link_state pool.old result D.state repo.old repo.new }
-    ensures made { IfOk result (MakesBackup basis.now begun L.link_state pool.old D.state repo.old repo.new) }
+    ensures made { IfOk result (MakesBackup basis.now begun L.link_state pool.old D.state repo.old repo.new
+        C.state clock.old clock.new) }
+    ensures only { TouchesOne basis.now.stanza.now (D.state repo.old).view (D.state repo.new).view }
+    ensures lasts { OnOk result (CopiesLast basis.now.stanza.now (D.state repo.old).view (D.state repo.new).view) }
     ensures beside { StaysBeside basis.now.stanza.now (D.state repo.old).view (D.state repo.new).view }
     ensures frame { CallsProperly (D.state repo.old) (D.state repo.new) }
     ensures later { (C.state clock.old).faults ≤ (C.state clock.new).faults }

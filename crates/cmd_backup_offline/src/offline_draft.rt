@@ -79,7 +79,8 @@ pub fn draft_offline<'a, D: Disk, L: Link, U: Scheduler, C: Clock>(
     requires list { IsBackupInfo (backup_info_of list) }
     requires old { MayBeBasis basis.now list }
     ensures draft { IfOk result (λ d. IsDraft d.0) }
-    ensures later { IfOk result (λ d. IsDraftOver basis.now list seen.now L.link_state pool.old d.0) }
+    ensures later { IfOk result (λ d. IsDraftOver basis.now list seen.now L.link_state pool.old
+        C.state clock.old clock.new d.0) }
     ensures label { IfOk result (λ d. IsLabel d.0.label) }
     ensures lines { IfOk result (λ d. AreLinesOf basis.now list d.0 d.1) }
     ensures left { OnOk result (LeavesLinks L.link_state pool.old pool.new) }
@@ -88,7 +89,7 @@ pub fn draft_offline<'a, D: Disk, L: Link, U: Scheduler, C: Clock>(
     ensures looks { OnlyReads (D.state repo.old) (D.state repo.new) }
     ensures clock { (C.state clock.old).faults ≤ (C.state clock.new).faults }
     ensures least { (C.state clock.old).least ≤ (C.state clock.new).least }
-    ensures cause { IfErr result (DraftHalts basis.now seen.now L.link_state pool.old D.state repo.old repo.new
+    ensures cause { IfErr result (DraftHalts basis.now list seen.now L.link_state pool.old D.state repo.old repo.new
         C.state clock.old clock.new) }
 {
     let second = match next_second(alloc, repo, clock, basis.stanza, &list) {

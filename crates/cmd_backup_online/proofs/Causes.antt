@@ -39,7 +39,8 @@ use Rattle.cmd_setup.specs.Readies.{IsArchiveOf, IsBackupOf}
 use Rattle.cmd_backup_common.specs.declared.parts.fault.BackupFault.{BackupFault}
 use Rattle.cmd_backup_common.specs.declared.parts.fault.BackupFault.TheVariants as takes
 use Rattle.cmd_backup_common.specs.Causes.{SettlesTo, IsFull}
-use Rattle.cmd_backup_common.proofs.Causes.{if_as, of_pairs}
+use Rattle.cmd_backup_common.specs.Seconds.{StatesSecond}
+use Rattle.cmd_backup_common.proofs.Causes.{if_as, of_pairs, has_second}
 use Rattle.cmd_backup_common.proofs.Links.{Comes, left_comes, where_done, unread_used, all_used_lost, within_count}
 use Rattle.cmd_backup_offline.specs.declared.fault.OfflineFault.{OfflineFault}
 use Rattle.cmd_backup_offline.specs.declared.fault.OfflineFault.TheVariants as laters
@@ -89,7 +90,7 @@ module _ (x : Asked) (o : OfflineOrder) (kind_is : o.kind ≡ x.kind) (archive :
   pairs_of P to = of_pairs x.before archive backup is_archive is_backup P to
 
   -- before the server was asked
-  second_takes : (e : BackupFault) → SecondCause x.before.known (archive_info_of archive) (backup_info_of backup) x.before.least x.before.used e → RunningCause x e
+  second_takes : (e : BackupFault) → SecondCause x.before.known (archive_info_of archive) (backup_info_of backup) x.before.least (StatesSecond x.before.stanza (backup_info_of backup) x.before.repo) x.before.used e → RunningCause x e
   second_takes (takes.HistoryDiffers at) h = pairs_of (λ f. HistoriesDiffer x.before.stanza f at) (λ f p q. record {
     archive = archive_info_of archive;
     backup = backup_info_of backup;
@@ -111,7 +112,7 @@ module _ (x : Asked) (o : OfflineOrder) (kind_is : o.kind ≡ x.kind) (archive :
   second_takes takes.Running h = absurd h
   second_takes (takes.TooMany limit) h = inl (h.0, pairs_of (IsFull x.before.stanza) (λ f p q. (backup_info_of backup, q, h.1)))
   second_takes (takes.WorkersLost lost) h = h
-  second_takes (takes.ClockBehind latest now) h = h
+  second_takes (takes.ClockBehind latest now) h = (h.0, h.1, has_second x.before archive backup is_archive is_backup latest h.2)
   second_takes (takes.LinkFound path) h = absurd h
   second_takes (takes.NameRefused path) h = absurd h
   second_takes takes.ListingUnordered h = absurd h
@@ -127,6 +128,7 @@ module _ (x : Asked) (o : OfflineOrder) (kind_is : o.kind ≡ x.kind) (archive :
     -- a draft of the folder that was listed
     pub running_draft : (d : Draft) → IsDraftFrom x.before.stanza o x.before.nodes list files d → IsRunningDraft x.before x.kind d
     running_draft d from = record {
+      is = from.is_draft;
       stanza_is = from.later.stanza_is;
       prior = subst (λ (w : BackupInfo). d.prior ≡ base_label x.kind w) (sym from.later.list_is) (from.later.prior ∙ ap (λ (k : BackupKind). base_label k list) kind_is);
       takes = if_as (λ f. IsTreeListing f from.seen) (λ f. (ns : List ListedNode) × IsTreeListing f ns × Takes true ns (taken_in d) (folders_in d)) x.before.nodes from.listing (λ f l. (from.seen, l, from.later.takes));

@@ -11,7 +11,8 @@ use Rattle.repo_stanza.specs.declared.control.Control.{Control}
 use Rattle.repo_stanza.specs.Judging.{Validates}
 use Rattle.cmd_backup_common.specs.declared.drafts.fault.SecondFault.{SecondFault}
 use Rattle.cmd_backup_common.specs.declared.drafts.fault.SecondFault.TheVariants as seconds
-use Rattle.cmd_backup_common.specs.Seconds.{SecondCause as NoSecond}
+use Rattle.cmd_backup_common.specs.Seconds.{StatesSecond, SecondCause as NoSecond}
+use Rattle.cmd_backup_common.proofs.Causes.{same_backups, states_as}
 use Rattle.cmd_types.specs.declared.stages.object.Object.TheVariants as objects
 use Rattle.cmd_types.specs.declared.stages.halt.Halt.{Halt}
 use Rattle.cmd_types.specs.declared.stages.halt.Halt.TheVariants.{Refused, Failed, NoMemory}
@@ -34,18 +35,18 @@ module _ (stanza : Text) (kind : BackupKind) (known : Control) (a : ArchiveInfo)
   base_stops list settles least repo clock (Failed object) h = subst (Either repo clock) (sym h.0) h.1
   base_stops list settles least repo clock NoMemory h = tt
 
-  second_halt : (old new : ℕ) (clock new_clock : ClockState) (repo : Type 0) → (Rises old new → repo) → (fault : SecondFault) → NoSecond fault old new clock new_clock
-      → HaltCause (SecondCause known a b clock.least used) (Either repo (Rises clock.faults new_clock.faults)) (of_second fault)
-  second_halt old new clock new_clock repo rose (seconds.ClockBehind latest second) h = h
-  second_halt old new clock new_clock repo rose seconds.Clock h = h
-  second_halt old new clock new_clock repo rose seconds.Disk h = rose h
-  second_halt old new clock new_clock repo rose seconds.NoMemory h = tt
+  second_halt : (list : BackupInfo) → Validates a b list → (old new : ℕ) (clock new_clock : ClockState) (repo : Type 0) → (Rises old new → repo) → (fault : SecondFault) → NoSecond (StatesSecond stanza list now) fault old new clock new_clock
+      → HaltCause (SecondCause known a b clock.least (StatesSecond stanza b now) used) (Either repo (Rises clock.faults new_clock.faults)) (of_second fault)
+  second_halt list settles old new clock new_clock repo rose (seconds.ClockBehind latest second) h = (h.0, h.1, states_as stanza now latest b list (same_backups a b list settles) h.2)
+  second_halt list settles old new clock new_clock repo rose seconds.Clock h = h
+  second_halt list settles old new clock new_clock repo rose seconds.Disk h = rose h
+  second_halt list settles old new clock new_clock repo rose seconds.NoMemory h = tt
 
   -- no second is given by which it is named
-  pub second_stops : (old new : ℕ) (clock new_clock : ClockState) (repo : Type 0) → (Rises old new → repo) → (fault : SecondFault) → NoSecond fault old new clock new_clock → (h : Halt OfflineFault) → h ≡ of_backup (of_second fault)
+  pub second_stops : (list : BackupInfo) → Validates a b list → (old new : ℕ) (clock new_clock : ClockState) (repo : Type 0) → (Rises old new → repo) → (fault : SecondFault) → NoSecond (StatesSecond stanza list now) fault old new clock new_clock → (h : Halt OfflineFault) → h ≡ of_backup (of_second fault)
       → HaltCause (PrepareCause stanza kind known a b now clock.least used) (Either repo (Rises clock.faults new_clock.faults)) h
-  second_stops old new clock new_clock repo rose fault cause h is =
+  second_stops list settles old new clock new_clock repo rose fault cause h is =
       let either = Either repo (Rises clock.faults new_clock.faults) in
       subst (HaltCause (PrepareCause stanza kind known a b now clock.least used) either) (sym is)
-      (of_backup_as (SecondCause known a b clock.least used) (PrepareCause stanza kind known a b now clock.least used) either either (λ e h. h) (λ object h. h) (of_second fault)
-      (second_halt old new clock new_clock repo rose fault cause))
+      (of_backup_as (SecondCause known a b clock.least (StatesSecond stanza b now) used) (PrepareCause stanza kind known a b now clock.least used) either either (λ e h. h) (λ object h. h) (of_second fault)
+      (second_halt list settles old new clock new_clock repo rose fault cause))

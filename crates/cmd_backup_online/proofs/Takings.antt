@@ -1,5 +1,5 @@
 -- What is reported about a running server's backup that was made.
-use Rattle.std.proofs.Common.{◌≡◌, ⊎_elim, inl, inr, Bool, true, false, ℕ, List, Option, Some, None, Result, Ok, refl, sym, ◌∙◌, ap, subst}
+use Rattle.std.proofs.Common.{◌≡◌, ⊎_elim, inl, inr, Bool, true, false, ℕ, List, map, Option, Some, None, Result, Ok, refl, sym, ◌∙◌, ap, subst}
 use Rattle.std.specs.Prelude.{IfOk, IfSome, IsSome, OnOk}
 use Rattle.base_devices.specs.Content.{Name, Content}
 use Rattle.base_devices.specs.Links.{LinkState}
@@ -55,9 +55,10 @@ use Rattle.cmd_backup_online.specs.declared.fault.OnlineBackupFault.{OnlineBacku
 use Rattle.cmd_backup_online.specs.Doing.{Received}
 use Rattle.cmd_backup_online.specs.Drafting.{IsDraftFrom}
 use Rattle.cmd_backup_online.specs.Finishing.{of_end}
-use Rattle.cmd_backup_online.specs.Taken.{HasOnlineEntries, BacksUpOnline}
+use Rattle.cmd_backup_online.specs.Taken.{HasOnlineEntries, IsKeptUnlessAbsent, BacksUpOnline}
 use Rattle.cmd_backup_online.specs.Modelled.{ShowsOnline}
 use Rattle.cmd_backup_online.proofs.Bases.{begins_of}
+use Rattle.cmd_backup_online.proofs.Completes.{all_kept, kept_by_used, same_paths}
 use Rattle.cmd_backup_online.proofs.Doings.{beside_by_used, based_there, with_account, waits_of, turns_taken}
 
 -- a pair has the manifest's text, where its main member does
@@ -101,6 +102,12 @@ module _ (stanza : Text) (known : Control) (o : OfflineOrder) (a b : View) (now_
             (subst (λ (ts : List Taken). IsEntryBy first o.settings.delta (old_in d) ts x) drafted.later.takes.files
             (entries_of first o.settings.delta (went_with d makes.ends) (taken_in d) (taken_in d) d.plan.choices.items (λ f i. i) files x of)))))
             (in_put (λ (y : FileEntry). y.path) (label_entry online.label_file makes.stop) x (files_with d makes.ends) (subst (λ (es : List FileEntry). In x es) files_are at));
+        all = λ f at. subst (λ (es : List FileEntry). IsKeptUnlessAbsent used es f) (sym files_are)
+            (kept_by_used used now comes (label_entry online.label_file makes.stop) (files_with d makes.ends) f
+            (all_kept d drafted.is_draft (Some online) now true w e makes f (subst (λ (ts : List Taken). In f ts) (sym drafted.later.takes.files) at)));
+        folders = ap (λ (m : Manifest). m.folders) makes.manifest_is ∙ drafted.later.takes.folders_are;
+        paths = ap (map (λ (y : FileEntry). y.path)) files_are ∙ same_paths d drafted.is_draft (Some online) free now true w e makes;
+        states = refl;
       }
 
   -- what it is at Ok

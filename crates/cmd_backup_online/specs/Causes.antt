@@ -12,7 +12,7 @@ use Rattle.backup_plan.specs.declared.fault.PlanFault.{PlanFault}
 use Rattle.backup_plan.specs.declared.fault.PlanFault.TheVariants as plans
 use Rattle.backup_plan.specs.Filter.{kept, files_of, IsRefused, Takes}
 use Rattle.backup_make.specs.declared.draft.Draft.{Draft}
-use Rattle.backup_make.specs.Draft.{stanza_of, taken_in, folders_in, list_in}
+use Rattle.backup_make.specs.Draft.{IsDraft, stanza_of, taken_in, folders_in, list_in}
 use Rattle.backup_make.specs.Faults.{WhereDone}
 use Rattle.backup_make.specs.Online.{Online}
 use Rattle.cmd_backup_common.specs.declared.parts.fault.BackupFault.{BackupFault}
@@ -48,6 +48,7 @@ Refuses b fault = Shows b (λ seen. IsRefused (kept true seen) fault)
 
 -- a draft of a backup of this kind of a running server's folder, besides those of the stanza
 pub record IsRunningDraft (b : Before) (kind : BackupKind) (d : Draft) : Type 0 where
+  pub is : IsDraft d
   pub stanza_is : stanza_of d ≡ b.stanza
   pub prior : d.prior ≡ base_label kind (list_in d)
   pub takes : Shows b (λ seen. Takes true seen (taken_in d) (folders_in d))

@@ -28,7 +28,6 @@ use Rattle.cmd_backup_offline.specs.declared.order.OfflineOrder.{OfflineOrder}
 use Rattle.cmd_backup_offline.specs.Basis.{basis_files}
 use Rattle.cmd_backup_online.specs.declared.backup_finish.NeededLog.{NeededLog}
 use Rattle.cmd_backup_online.specs.declared.fault.OnlineBackupFault.{OnlineBackupFault}
-use Rattle.cmd_backup_online.specs.declared.order.NextBackup.{NextBackup}
 use Rattle.cmd_backup_online.specs.declared.order.OnlineTask.{OnlineTask}
 use Rattle.cmd_backup_online.specs.declared.order.ServerTask.{ServerTask}
 use Rattle.cmd_backup_online.specs.Causes.{OnlineCause}
@@ -74,11 +73,11 @@ UndraftedHalts b seen of pool = HaltCause
     (UndraftedCause (map seen_of seen) (links_in of pool) pool.lost.items (basis_files b)) (λ _. ⊥)
 
 -- the folder isn't read
-abbrev pub GatherHalts : {L S D T C : Type 0} → BackupBasis → NextBackup → (L → LinkState) → Pool L S
-    → (D → DiskState) → D → D → (T → DataFolderState) → T → T → (C → ClockState) → C → C → Halt BackupFault → Type 0
-GatherHalts b next of pool state before after folder tree new_tree clock first last = HaltCause
-    (GatherCause b.stanza.now b.order (folder tree).nodes (backup_info_of next.list) (basis_files b)
-    (links_in of pool) pool.lost.items)
+abbrev pub GatherHalts : {L S D T C : Type 0} → ServerTask → (L → LinkState) → Pool L S → (D → DiskState) → D → D
+    → (T → DataFolderState) → T → T → (C → ClockState) → C → C → Halt BackupFault → Type 0
+GatherHalts task of pool state before after folder tree new_tree clock first last = HaltCause
+    (GatherCause task.basis.stanza.now task.basis.order (folder tree).nodes (backup_info_of task.next.list)
+    (basis_files task.basis) (links_in of pool) pool.lost.items)
     (rose_in (record none {
       repo = DiskFailed (state before) (state after);
       tree = FolderFailed (folder tree) (folder new_tree);

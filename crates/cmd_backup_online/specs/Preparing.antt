@@ -10,6 +10,7 @@ use Rattle.repo_stanza.specs.Judging.{Validates}
 use Rattle.cmd_backup_common.specs.declared.parts.fault.BackupFault.{BackupFault}
 use Rattle.cmd_backup_common.specs.declared.parts.fault.BackupFault.TheVariants.{HistoryDiffers, StanzaMismatch, TooMany, WorkersLost, ClockBehind}
 use Rattle.cmd_backup_common.specs.Beginning.{FitCause, RoomCause, LostCause}
+use Rattle.cmd_backup_common.specs.Seconds.{StatesSecond}
 use Rattle.cmd_backup_offline.specs.declared.fault.OfflineFault.{OfflineFault}
 use Rattle.cmd_backup_offline.specs.declared.fault.OfflineFault.TheVariants.{Take, PriorDamaged}
 use Rattle.cmd_backup_offline.specs.Basing.{base_label, BaseCause}
@@ -22,14 +23,15 @@ ReadyCause known a b used (TooMany limit) = RoomCause b (TooMany limit)
 ReadyCause known a b used (WorkersLost lost) = LostCause used (WorkersLost lost)
 ReadyCause known a b used other = ⊥
 
--- or the clock is too far behind
-abbrev pub SecondCause : Control → ArchiveInfo → BackupInfo → ℕ → List LinkState → BackupFault → Type 0
-SecondCause known a b least used (ClockBehind latest now) = (now + 10 < latest) × (least ≤ now)
-SecondCause known a b least used other = ReadyCause known a b used other
+-- or the clock is too far behind a second of which this holds
+abbrev pub SecondCause : Control → ArchiveInfo → BackupInfo → ℕ → (ℕ → Type 0) → List LinkState → BackupFault → Type 0
+SecondCause known a b least Stated used (ClockBehind latest now) = (now + 10 < latest) × (least ≤ now) × Stated latest
+SecondCause known a b least Stated used other = ReadyCause known a b used other
 
 -- or the manifest isn't read of the listed backup that one of this kind is based on
 abbrev pub PrepareCause : Text → BackupKind → Control → ArchiveInfo → BackupInfo → Option Content → ℕ → List LinkState
     → OfflineFault → Type 0
-PrepareCause stanza kind known a b now least used (Take fault) = SecondCause known a b least used fault
+PrepareCause stanza kind known a b now least used (Take fault) =
+    SecondCause known a b least (StatesSecond stanza b now) used fault
 PrepareCause stanza kind known a b now least used (PriorDamaged text main copy) =
     (list : BackupInfo) × Validates a b list × BaseCause stanza now (base_label kind list) (PriorDamaged text main copy)

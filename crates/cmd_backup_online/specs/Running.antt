@@ -64,27 +64,22 @@ IsRunningBy b next seen d =
     IsOfflineOf true b.stanza.now b.order (map seen_of seen) (backup_info_of next.list) (basis_files b) next.second d
 
 -- all that the pool's links read of the folder lies in the folder of its label, and isn't listed
-abbrev pub GathersOn : {L S T D : Type 0} → BackupBasis → NextBackup → (L → LinkState) → Pool L S
-    → (T → DataFolderState) → T → (D → DiskState) → D → D → Gathered → Type 0
-GathersOn b next of pool folder tree state before after =
-    IsGathered b.stanza.now b.order (folder tree).nodes (backup_info_of next.list) (basis_files b) (links_in of pool)
-    pool.lost.items (state before).view (state after).view
+abbrev pub GathersOn : {L S T D : Type 0} → ServerTask → (L → LinkState) → Pool L S → (T → DataFolderState) → T
+    → (D → DiskState) → D → D → Gathered → Type 0
+GathersOn task of pool folder tree state before after =
+    IsGathered task.basis.stanza.now task.basis.order (folder tree).nodes (backup_info_of task.next.list)
+    (basis_files task.basis) (links_in of pool) pool.lost.items (state before).view (state after).view
 
 -- no more than some of it does
-abbrev pub GivesUpOn : {T D : Type 0} → BackupBasis → NextBackup → (T → DataFolderState) → T → (D → DiskState) → D → D
-    → Type 0
-GivesUpOn b next folder tree state before after =
-    GivesUp b.stanza.now b.order (folder tree).nodes (backup_info_of next.list) (basis_files b)
-    (state before).view (state after).view
+abbrev pub GivesUpOn : {T D : Type 0} → ServerTask → (T → DataFolderState) → T → (D → DiskState) → D → D → Type 0
+GivesUpOn task folder tree state before after =
+    GivesUp task.basis.stanza.now task.basis.order (folder tree).nodes (backup_info_of task.next.list)
+    (basis_files task.basis) (state before).view (state after).view
 
--- the same for what is read while a server is in its backup
+-- the same for what was read before the server stopped its backup
 abbrev pub TalkGathers : {L S T D : Type 0} → ServerTask → (L → LinkState) → Pool L S → (T → DataFolderState) → T
     → (D → DiskState) → D → D → Gathered × rust_online.Online → Type 0
-TalkGathers task of pool folder tree state before after p =
-    GathersOn task.basis task.next of pool folder tree state before after p.0
-
-abbrev pub TalkGivesUp : {T D : Type 0} → ServerTask → (T → DataFolderState) → T → (D → DiskState) → D → D → Type 0
-TalkGivesUp task folder tree state before after = GivesUpOn task.basis task.next folder tree state before after
+TalkGathers task of pool folder tree state before after p = GathersOn task of pool folder tree state before after p.0
 
 -- ---- the server
 

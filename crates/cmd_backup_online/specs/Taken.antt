@@ -1,6 +1,6 @@
 -- What a backup of any kind of a running server is (pgBackRest user guide, "Backup"; command reference, "Backup").
-use Rattle.std.specs.Prelude.{◌≡◌, ◌⊎◌, ℕ, true, List, Option, Some, None, IfSome, IsSome}
-use Rattle.std.specs.FinMap.{get}
+use Rattle.std.specs.Prelude.{◌≡◌, ◌⊎◌, ℕ, true, List, map, Option, Some, None, IfSome, IsSome}
+use Rattle.std.specs.FinMap.{get, keys}
 use Rattle.base_devices.specs.Content.{Content}
 use Rattle.base_devices.specs.Links.{LinkState}
 use Rattle.base_devices.specs.DataFolder.{Nodes, IsTreeListing}
@@ -13,8 +13,11 @@ use Rattle.base_model.specs.Repository.{Backup, Stanza, IsSound, IsSoundStanza, 
 use Rattle.base_model.specs.Steps.{Turn, MakeBackup, after, all_of, steps_of}
 use Rattle.base_model.specs.Text.{Text, In}
 use Rattle.base_model.specs.Values.{BackupInfo, FileEntry, Manifest}
-use Rattle.backup_plan.specs.Filter.{ListedNode, kept, files_of}
-use Rattle.backup_record.specs.Making.{labels_of}
+use Rattle.worker_pool.specs.Digests.{IsAbsentBy}
+use Rattle.backup_plan.specs.Filter.{ListedNode, kept, files_of, folders_of}
+use Rattle.backup_plan.specs.Layout.{item_for}
+use Rattle.backup_plan.specs.Listed.{Taken}
+use Rattle.backup_record.specs.Making.{labels_of, backup_with}
 use Rattle.backup_make.specs.Online.{Online, label_path, label_entry}
 use Rattle.repo_stanza.specs.declared.control.Control.{Control}
 use Rattle.repo_stanza.specs.Pairs.{AgreeAt}
@@ -44,8 +47,15 @@ pub record AddsOnline (stanza : Text) (turns : List Turn) (b : Backup) (o : Onli
       → after (Some s) (all_of (steps_of (MakeBackup turns b None) (Some s))) ≡ Some t
       → Archives (id_of cluster) o.part t
 
+-- one of these entries is the listed file's, or one of these links reported that the file is absent
+abbrev pub IsKeptUnlessAbsent : List LinkState → List FileEntry → Taken → Type 0
+IsKeptUnlessAbsent links entries f = ((e : FileEntry) × In e entries × (e.path ≡ f.path))
+    ⊎ IsAbsentBy links (item_for f)
+
 -- The disk has the backup's manifest. An entry is that of the label file, or of a listed file: of these, those of files
--- that are the prior backup's refer to others, and no others do.
+-- that are the prior backup's refer to others, and no others do. It is of the whole folder: each file and each folder
+-- of the listing that a backup takes is in it, except for files that were absent when they were to be read. The backup
+-- has the same files.
 pub record HasOnlineEntries (stanza : Text) (o : OfflineOrder) (seen : List ListedNode) (list : BackupInfo)
     (links : List LinkState) (online : Online) (old new : Option Content) (b : Backup) : Type 0 where
   pub base : Option Manifest
@@ -55,6 +65,12 @@ pub record HasOnlineEntries (stanza : Text) (o : OfflineOrder) (seen : List List
   pub each : (e : FileEntry) → In e manifest.files
       → (e ≡ label_entry online.label_file b.entry.stop)
       ⊎ IsEntryBy links o.settings.delta (old_files base) (files_of (kept true seen)) e
+  pub all : (f : Taken) → In f (files_of (kept true seen)) → IsKeptUnlessAbsent links manifest.files f
+  pub folders : manifest.folders ≡ folders_of (kept true seen)
+  pub paths : map (λ (e : FileEntry). e.path) manifest.files ≡ keys b.files
+  -- what is listed of the backup, besides the backups that it refers to, is what the manifest states, as its part of the
+  -- log, or follows from that, as its sizes
+  pub states : b ≡ backup_with manifest b.entry.references b.files
 
 -- Ok of a running server's backup, with its lines: it is based on the backup of the list that its kind asks for, and is
 -- a full one without one. It is made of what the links read, of what that backup has, and of what the server reported.

@@ -7,9 +7,13 @@
 //! (`wait`), and the backup is listed (`conclude`).
 //!
 //! A file that is as that manifest states it isn't read again. So that its time shows each change, files are read
-//! in a later second than the folder is listed (`list_folder`): what the server writes from then on has a later time.
+//! in a later second than the folder is listed (`pass_listing`): what the server writes from then on has a later time.
 //! With delta the digest decides, for which the workers are asked first, while the server is in its backup
 //! (`draft_running`): what the server changes after it is in the log that the backup needs.
+//!
+//! By types the folder is listed, digested and read while the server is in its backup, and in this order. What does so
+//! borrows the backup that the server has started (`Begun`), which its stop consumes. No draft is made but of a listing
+//! whose second is over (`PastListing`), and nothing reads for that draft but `fetch_running`.
 //!
 //! What is proved, by the contract of the function that is named:
 //!
@@ -27,6 +31,9 @@
 //!   exactly where the prior's manifest has its file with the listed size and, without delta, the listed time. With
 //!   delta it does where a link reported the digest that this manifest has. So the control file is always stored. Each
 //!   such entry has the listed time. What the backup refers to is listed, and is its prior or one before that.
+//! - At Ok each file of the listing that a backup takes has an entry in that manifest, or a link reported that the file
+//!   is absent. The manifest's folders are those of the listing that a backup takes. What is listed of the backup,
+//!   besides the backups that it refers to, is what the manifest states, or follows from it, as its sizes.
 //! - At Ok the server was sent one talk, whose last message is the end. Where a talk began and the backup is refused,
 //!   the last that was sent is the end, unless the connection failed or memory ran out.
 //! - It waits for this many steps at most, keeps to its stanza, only reads the data folder, and the least second that
@@ -42,6 +49,7 @@ mod online_backup;
 mod online_checks;
 mod online_read;
 mod order;
+mod past_listing;
 mod running_draft;
 mod server_session;
 mod texts;

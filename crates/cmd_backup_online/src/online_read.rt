@@ -1,8 +1,7 @@
 // Reads the data folder while the server is in its backup.
-ghost use Rattle.std.specs.Prelude.{◌≡◌, ◌≤◌, ◌<◌, ◌^◌, vec_len, IfOk, IfErr, OnErr};
+ghost use Rattle.std.specs.Prelude.{◌≤◌, ◌<◌, ◌^◌, vec_len, IfOk, IfErr, OnErr};
 ghost use Rattle.base_devices.specs.States.{CallsProperly, OnlyReadsFolder};
 ghost use Rattle.base_model.specs.InfoFiles.{IsBackupInfo};
-ghost use Rattle.base_model.specs.Repository.{id_of};
 ghost use Rattle.base_model.specs.Values.{backup_info_of};
 ghost use Rattle.worker_pool.specs.Pools.{links_in};
 ghost use Rattle.worker_pool.specs.Run.{AreReady};
@@ -13,14 +12,14 @@ ghost use Rattle.cmd_backup_online.specs.Halting.{GatherHalts};
 ghost use Rattle.cmd_backup_online.specs.Running.{GathersOn, GivesUpOn};
 
 use crate::listing::list_folder;
-use crate::order::NextBackup;
-use crate::running_draft::draft_running;
-use backup_make::{Fetched, fetch};
+use crate::order::ServerTask;
+use crate::running_draft::{draft_running, fetch_running, named};
+use backup_make::Fetched;
 use base_devices::{Clock, DataFolder, Disk, Link, Scheduler};
-use base_model::{ArchiveId, Cluster, Label};
+use base_model::{ArchiveId, Label};
 use cmd_backup_common::{BackupFault, count_of, of_make};
-use cmd_backup_offline::BackupBasis;
 use cmd_types::Halt;
+use server_talk::Begun;
 use std::alloc::Global;
 use worker_pool::Pool;
 
@@ -35,47 +34,38 @@ pub(crate) struct Gathered<'a> {
     pub(crate) lines: String,
 }
 
-// The id under which a cluster's log is archived.
-fn archive_id(cluster: &Cluster) -> ArchiveId
-    ensures { result ≡ id_of cluster.now }
-{
-    ArchiveId {
-        version: cluster.version,
-        number: cluster.id,
-    }
-}
-
-/// Lists the data folder, and has what the next backup takes of it stored in the folder of its label.
+/// Lists the data folder, and has what the next backup takes of it stored in the folder of its label. As long as it has
+/// the backup that the server has started, nobody can stop that.
 pub(crate) fn gather<'a, D: Disk, T: DataFolder, C: Clock, L: Link, U: Scheduler>(
     alloc: Global,
     repo: &mut D,
     tree: &mut T,
     clock: &mut C,
     pool: &mut Pool<L, U>,
-    basis: &BackupBasis<'a>,
-    next: NextBackup,
+    server: &Begun,
+    task: ServerTask<'a>,
 ) -> Result<Gathered<'a>, Halt<BackupFault>>
-    requires list { IsBackupInfo (backup_info_of next.list) }
-    requires next { IsNext next.second (backup_info_of next.list) }
-    requires old { MayBeBasis basis.now next.list }
+    requires list { IsBackupInfo (backup_info_of task.next.list) }
+    requires next { IsNext task.next.second (backup_info_of task.next.list) }
+    requires old { MayBeBasis task.basis task.next.list }
     requires few { vec_len pool.old.links < 2 ^ 32 }
     requires ready { AreReady (links_in L.link_state pool.old) }
-    ensures gathered { IfOk result (GathersOn basis.now next L.link_state pool.old T.state tree.old
+    ensures gathered { IfOk result (GathersOn task.entry L.link_state pool.old T.state tree.old
         D.state repo.old repo.new) }
-    ensures unlisted { OnErr result (GivesUpOn basis.now next T.state tree.old D.state repo.old repo.new) }
-    ensures beside { StaysBeside basis.now.stanza.now (D.state repo.old).view (D.state repo.new).view }
+    ensures unlisted { OnErr result (GivesUpOn task.entry T.state tree.old D.state repo.old repo.new) }
+    ensures beside { StaysBeside task.entry.basis.stanza.now (D.state repo.old).view (D.state repo.new).view }
     ensures frame { CallsProperly (D.state repo.old) (D.state repo.new) }
     ensures looks { OnlyReadsFolder (T.state tree.old) (T.state tree.new) }
     ensures least { (C.state clock.old).least ≤ (C.state clock.new).least }
     ensures later { (C.state clock.old).faults ≤ (C.state clock.new).faults }
-    ensures cause { IfErr result (GatherHalts basis.now next L.link_state pool.old D.state repo.old repo.new
+    ensures cause { IfErr result (GatherHalts task.entry L.link_state pool.old D.state repo.old repo.new
         T.state tree.old tree.new C.state clock.old clock.new) }
 {
-    let seen = list_folder(alloc, tree, clock)?;
-    let (draft, lines) = draft_running(alloc, pool, basis, &seen, next)?;
-    let label = draft.label;
-    let id = archive_id(&draft.cluster);
-    match fetch(alloc, repo, pool, draft) {
+    let basis = task.basis;
+    let seen = list_folder(alloc, tree, clock, server)?;
+    let (draft, lines) = draft_running(alloc, pool, server, &basis, &seen, task.next)?;
+    let (label, id) = named(&draft);
+    match fetch_running(alloc, repo, pool, server, draft) {
         Ok(fetched) => Ok(Gathered {
             fetched,
             label,

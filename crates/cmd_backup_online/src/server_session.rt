@@ -13,7 +13,7 @@ ghost use Rattle.cmd_types.specs.declared.stages.halt.Halt.TheVariants.{NoMemory
 ghost use Rattle.cmd_backup_offline.specs.Basis.{MayBeBasis};
 ghost use Rattle.cmd_backup_online.specs.Faults.{of_backup};
 ghost use Rattle.cmd_backup_online.specs.Halting.{StopHalts, TalkHalts};
-ghost use Rattle.cmd_backup_online.specs.Running.{LeavesTalk, ReportsBoth, SendsStop, SendsTalk, StopsBetween, TalkGathers, TalkGivesUp};
+ghost use Rattle.cmd_backup_online.specs.Running.{GivesUpOn, LeavesTalk, ReportsBoth, SendsStop, SendsTalk, StopsBetween, TalkGathers};
 
 use crate::fault::{OnlineBackupFault, of_backup, of_talk};
 use crate::online_read::{Gathered, gather};
@@ -80,8 +80,9 @@ fn end_talk<V: ServerConnection>(
     }
 }
 
-/// Has the server start its backup, has the data folder read, and has the server stop its backup. A talk that began is
-/// ended in any case.
+/// Has the server start its backup, has the data folder read, and has the server stop its backup. What reads the folder
+/// borrows the backup that the server has started, and what stops it consumes that. Nothing can be read afterwards. A
+/// talk that began is ended in any case.
 pub(crate) fn talk<
     'a,
     D: Disk,
@@ -111,7 +112,7 @@ pub(crate) fn talk<
     ensures sent { OnOk result (SendsTalk task.entry.order (V.state server.old) (V.state server.new)) }
     ensures place { OnOk result ((V.state server.new).place ≡ task.entry.order.socket.now) }
     ensures ended { IfErr result (LeavesTalk (V.state server.old) (V.state server.new)) }
-    ensures unlisted { OnErr result (TalkGivesUp task.entry T.state tree.old D.state repo.old repo.new) }
+    ensures unlisted { OnErr result (GivesUpOn task.entry T.state tree.old D.state repo.old repo.new) }
     ensures beside { StaysBeside task.entry.basis.stanza.now (D.state repo.old).view (D.state repo.new).view }
     ensures frame { CallsProperly (D.state repo.old) (D.state repo.new) }
     ensures looks { OnlyReadsFolder (T.state tree.old) (T.state tree.new) }
@@ -121,25 +122,20 @@ pub(crate) fn talk<
     ensures cause { IfErr result (TalkHalts task.entry L.link_state pool.old D.state repo.old repo.new
         T.state tree.old tree.new V.state server.old server.new C.state clock.old clock.new) }
 {
-    let ServerTask {
-        order,
-        system,
-        basis,
-        next,
-    } = task;
+    let order = task.order;
     let begun = match start(
         alloc,
         server,
         order.socket,
         order.user,
         order.database,
-        system,
+        task.system,
         order.fast,
     ) {
         Ok(begun) => begun,
         Err(fault) => return Err(of_talk(fault)),
     };
-    let gathered = match gather(alloc, repo, tree, clock, pool, &basis, next) {
+    let gathered = match gather(alloc, repo, tree, clock, pool, &begun, task) {
         Ok(gathered) => gathered,
         Err(halt) => return Err(give_up(server, begun, halt)),
     };

@@ -1,22 +1,20 @@
 -- The list of expire, what it does where it is refused or the clock fails, and what it is in the log.
-use Rattle.std.proofs.Common.{◌≡◌, ℕ, zero, Bool, true, false, Option, Some, None, refl, arith}
+use Rattle.std.proofs.Common.{◌≡◌, inl, Bool, true, false, Option, Some, None, refl}
 use Rattle.std.specs.Prelude.{IfOk, IfSome, IsErrAnd, OnOk, Result, Ok, Err}
 use Rattle.base_devices.specs.Content.{Content}
 use Rattle.base_devices.specs.Moments.{View}
 use Rattle.base_devices.specs.States.{ClockState}
-use Rattle.base_disk.proofs.Changes.{only_none}
 use Rattle.base_model.specs.declared.clusters.ArchiveInfo as rust_archive_info
 use Rattle.base_model.specs.declared.clusters.BackupInfo as rust_backup_info
 use Rattle.base_model.specs.Steps.{Expire}
 use Rattle.base_model.specs.Text.{Text}
 use Rattle.base_model.specs.Values.{ArchiveInfo, BackupInfo, archive_info_of, backup_info_of}
 use Rattle.repo_stanza.specs.Judging.{Validates}
-use Rattle.archive_store.specs.Still.{rests_none}
-use Rattle.expire_rules.specs.declared.rules.FullRule.{FullRule}
-use Rattle.expire_rules.specs.declared.rules.FullRule.TheVariants.{Unset, Count, Days}
+use Rattle.archive_store.specs.Still.{rests_none, still_self}
 use Rattle.expire_rules.specs.declared.rules.Rules.{Rules}
-use Rattle.expire_make.specs.Expiry.{IsTouched, retention}
-use Rattle.expire_make.specs.Planning.{HasList}
+use Rattle.expire_make.specs.Expiry.{retention}
+use Rattle.expire_make.specs.Planning.{BackupPairLasts, HasList}
+use Rattle.expire_make.proofs.Touching.{touches_none}
 use Rattle.expire_make.proofs.Whole.{keeps_needed}
 use Rattle.cmd_types.specs.declared.stages.halt.Halt.{Halt}
 use Rattle.cmd_types.specs.declared.stages.halt.Halt.TheVariants.{Refused, Failed, NoMemory}
@@ -30,7 +28,8 @@ use Rattle.cmd_expire.specs.declared.fault.FollowUpFault.{FollowUpFault}
 use Rattle.cmd_expire.specs.declared.fault.ExpireCommandFault.{ExpireCommandFault}
 use Rattle.cmd_expire.specs.FollowUp.{Follows}
 use Rattle.cmd_expire.specs.Faults.{expire_early}
-use Rattle.cmd_expire.specs.Pruning.{IsMoment, ShowsMoment, IsExpiryBy, IsExpired, Prunes}
+use Rattle.cmd_expire.specs.Pruning.{ShowsMoment, IsExpiryBy, IsExpired, Prunes}
+use Rattle.cmd_expire.proofs.Moments.{some_moment}
 
 -- the values that were read validate to this list
 pub has_list : (stanza : Text) (now : Option Content) (archive : rust_archive_info.ArchiveInfo) (backup list : rust_backup_info.BackupInfo)
@@ -51,12 +50,6 @@ not_end (Err (Refused e)) h is at = back_not (expire_early e) at
 not_end (Err (Failed object)) h is at = back_not (fails_early object) at
 not_end (Err NoMemory) h is at = let e : stopped ≡ to_end = at in cc
 
--- a moment by which the rules may be read
-pub some_moment : (full : FullRule) (least : ℕ) → (moment : ℕ) × IsMoment full least moment
-some_moment Unset least = (zero, refl)
-some_moment (Count n) least = (zero, refl)
-some_moment (Days n) least = (least, omega arith)
-
 on_err : {T E : Type 0} (P : Type 0) (result : Result T E) (h : E) → IsErrAnd result (λ x. x ≡ h) → OnOk result P
 on_err P (Ok x) h is = absurd is
 on_err P (Err x) h is = tt
@@ -67,36 +60,41 @@ if_err P (Err x) h is = tt
 
 pub undone : (stanza : Text) (rules : Rules) (clock new_clock : ClockState) (a : View) (result : Result Outcome (Halt ExpireCommandFault)) (h : Halt ExpireCommandFault) → IsErrAnd result (λ x. x ≡ h) → Prunes stanza rules clock new_clock a a result
 undone stanza rules clock new_clock a result h is =
-    let m = some_moment rules.full clock.least in
+    let m = some_moment rules.full clock.least new_clock.least in
     let command = Expire (retention rules m.0) in
     record {
       moment = m.0;
       may_be = m.1;
+      shown = inl (still_self a);
       known = on_err (ShowsMoment rules.full clock new_clock m.0) result h is;
       does = rests_does Whole stanza command (reached_by expire_early result) a a (not_end result h is) (rests_none a) refl;
       pruned = if_err (λ o. OnFinished o (IsExpired stanza rules m.0 a.now a.now)) result h is;
       keeps = keeps_needed stanza rules m.0 a a (rests_part Whole stanza command a a (rests_none a) refl);
-      touches = λ s known now. only_none (IsTouched stanza rules m.0 s) a;
+      touches = touches_none stanza rules m.0 a;
+      lasts = on_err (BackupPairLasts stanza a a) result h is;
     }
 
 -- nor was any after a backup
 pub undone_after : (stanza : Text) (rules : Rules) (clock new_clock : ClockState) (a : View) (lines : Text) (result : Result (Unit {0}) FollowUpFault) (fault : FollowUpFault) → IsErrAnd result (λ x. x ≡ fault) → Follows stanza rules clock new_clock a a lines lines result
 undone_after stanza rules clock new_clock a lines (Ok x) fault is = absurd is
 undone_after stanza rules clock new_clock a lines (Err e) fault is =
-    let m = some_moment rules.full clock.least in
+    let m = some_moment rules.full clock.least new_clock.least in
     record {
       moment = m.0;
       may_be = m.1;
+      shown = inl (still_self a);
       known = tt;
       part = rests_part Whole stanza (Expire (retention rules m.0)) a a (rests_none a) refl;
       whole = tt;
       pruned = tt;
       stays = refl;
+      touches = touches_none stanza rules m.0 a;
+      lasts = tt;
     }
 
 -- ---- in the log
 
 -- it is an expiry by the rules
 pub in_log : (stanza : Text) (rules : Rules) (clock new_clock : ClockState) (a d : View) (result : Result Outcome (Halt ExpireCommandFault)) → Prunes stanza rules clock new_clock a d result
-    → On (one (IsExpiryBy rules clock.least)) (λ command. RepoEffect Whole stanza command (reached_by expire_early result) a d)
+    → On (one (IsExpiryBy rules clock.least new_clock.least)) (λ command. RepoEffect Whole stanza command (reached_by expire_early result) a d)
 in_log stanza rules clock new_clock a d result p = (Expire (retention rules p.moment), (p.moment, p.may_be, refl), p.does)

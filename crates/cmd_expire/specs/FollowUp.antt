@@ -1,5 +1,5 @@
 -- The expiry that follows a backup (option `expire-auto`), which is one command of the log with it.
-use Rattle.std.specs.Prelude.{◌≡◌, ◌≤◌, ◌++◌, ℕ, List, Option, Some, None, Result, IsSome, OnOk, OnErr, String, string_bytes}
+use Rattle.std.specs.Prelude.{◌≡◌, ◌≤◌, ◌⊎◌, ◌++◌, ℕ, List, Option, Some, None, Result, IsSome, OnOk, OnErr, String, string_bytes}
 use Rattle.std.specs.declared.alloc.Global.{Global}
 use Rattle.base_devices.specs.Content.{Content}
 use Rattle.base_devices.specs.Moments.{View}
@@ -9,29 +9,31 @@ use Rattle.base_model.specs.Repository.{Backup, Repository, IsSound}
 use Rattle.base_model.specs.Steps.{Turn, Command, MakeBackup, Expire, after, all_of, steps_of}
 use Rattle.base_model.specs.Text.{Text}
 use Rattle.repo_pair.specs.declared.fault.InfoFault.{InfoFault}
+use Rattle.archive_store.specs.Still.{IsStill}
 use Rattle.expire_rules.specs.declared.rules.FullRule.{FullRule}
 use Rattle.expire_rules.specs.declared.rules.FullRule.TheVariants.{Unset, Count, Days}
 use Rattle.expire_rules.specs.declared.rules.Rules.{Rules}
 use Rattle.expire_make.specs.declared.expiry_run.Expired.{Expired}
 use Rattle.expire_make.specs.declared.fault.ExpireFault.{ExpireFault}
 use Rattle.expire_make.specs.declared.fault.ExpireFault.TheVariants as expiries
-use Rattle.expire_make.specs.Expiry.{retention}
+use Rattle.expire_make.specs.Expiry.{Touches, retention}
+use Rattle.expire_make.specs.Planning.{BackupPairLasts}
 use Rattle.expire_make.specs.Fault.{ExpireCause}
 use Rattle.cmd_types.specs.declared.stages.plan.SyncScope.TheVariants.{Whole}
 use Rattle.cmd_types.specs.DisksEffect.{DoesPart, DoesWhole}
 use Rattle.cmd_expire.specs.declared.fault.FollowUpFault.{FollowUpFault}
 use Rattle.cmd_expire.specs.declared.fault.FollowUpFault.TheVariants.{PairLost, HistoryDiffers, Repo, Clock, NoMemory}
-use Rattle.cmd_expire.specs.Pruning.{IsMoment, ShowsMoment, IsExpired}
+use Rattle.cmd_expire.specs.Pruning.{IsMomentIn, ShowsMoment, IsExpired}
 use Rattle.cmd_expire.specs.Texts.{lines_of}
 
 -- ---- which command it is
 
 -- What the command is to one that makes a backup: that one, or the same with an expiry after it by these rules, at
--- some moment; least is the least second that the clock may show as the backup begins.
-abbrev pub IsFollowed : Option Rules → ℕ → Command → Command → Type 0
-IsFollowed None least made command = command ≡ made
-IsFollowed (Some rules) least made command = (turns : List Turn) × (b : Backup) × (moment : ℕ)
-    × IsMoment rules.full least moment
+-- some moment. The two numbers are the least seconds that the clock may show before both and afterwards.
+abbrev pub IsFollowed : Option Rules → ℕ → ℕ → Command → Command → Type 0
+IsFollowed None first last made command = command ≡ made
+IsFollowed (Some rules) first last made command = (turns : List Turn) × (b : Backup) × (moment : ℕ)
+    × IsMomentIn rules.full first last moment
     × (made ≡ MakeBackup turns b None) × (command ≡ MakeBackup turns b (Some (retention rules moment)))
 
 -- whatever sound repository the disk represents, it is sound after all of the command's steps
@@ -62,17 +64,20 @@ WasKnown Unset clock moment = moment ≡ 0
 WasKnown (Count n) clock moment = moment ≡ 0
 WasKnown (Days n) clock moment = (moment ≤ last_second) × (moment ≤ clock.least)
 
--- What the expiry after a backup does, at some moment; where it succeeded, at the one that the clock showed, and then
--- what was removed is reported after the lines.
+-- What the expiry after a backup does, at some moment: at the one that the clock showed, or nothing changes. Where it
+-- succeeded, what was removed is reported after the lines.
 pub record Follows (stanza : Text) (rules : Rules) (clock new_clock : ClockState) (repo new_repo : View)
     (lines new_lines : Text) (result : Result (Unit {0}) FollowUpFault) : Type 0 where
   pub moment : ℕ
-  pub may_be : IsMoment rules.full clock.least moment
+  pub may_be : IsMomentIn rules.full clock.least new_clock.least moment
+  pub shown : IsStill repo new_repo ⊎ ShowsMoment rules.full clock new_clock moment
   pub known : OnOk result (ShowsMoment rules.full clock new_clock moment)
   pub part : DoesPart Whole stanza (Expire (retention rules moment)) repo new_repo
   pub whole : OnOk result (DoesWhole Whole stanza (Expire (retention rules moment)) repo new_repo)
   pub pruned : OnOk result (AddsLines stanza rules moment repo.now new_repo.now lines new_lines)
   pub stays : OnErr result (new_lines ≡ lines)
+  pub touches : Touches stanza rules moment repo new_repo
+  pub lasts : OnOk result (BackupPairLasts stanza repo new_repo)
 
 -- ---- why it isn't done, or not whole
 

@@ -3,3 +3,4 @@ pub mod Texts
 pub mod Faults
 pub mod Pruning
 pub mod FollowUp
+pub mod Changing

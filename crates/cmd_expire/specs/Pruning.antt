@@ -1,9 +1,8 @@
 -- What expire does (pgBackRest command reference, "Expire Command").
-use Rattle.std.specs.Prelude.{◌≡◌, ◌≤◌, ℕ, Bool, true, false, List, Option, Some, Result, IfOk, IfSome, IsSome, OnOk, length}
+use Rattle.std.specs.Prelude.{◌≡◌, ◌≤◌, ◌⊎◌, ℕ, Bool, true, false, List, Option, Some, Result, IfOk, IfSome, IsSome, OnOk, length}
 use Rattle.base_devices.specs.Content.{Content}
 use Rattle.base_devices.specs.Moments.{View}
 use Rattle.base_devices.specs.States.{ClockState, DiskState, ShowsSecond}
-use Rattle.base_disk.specs.Store.{ChangesOnly}
 use Rattle.base_model.specs.declared.labels.Label.{Label}
 use Rattle.base_model.specs.declared.clusters.ArchiveInfo as rust_archive_info
 use Rattle.base_model.specs.declared.clusters.BackupInfo as rust_backup_info
@@ -22,7 +21,9 @@ use Rattle.expire_rules.specs.declared.rules.FullRule.{FullRule}
 use Rattle.expire_rules.specs.declared.rules.FullRule.TheVariants.{Unset, Count, Days}
 use Rattle.expire_rules.specs.declared.rules.Rules.{Rules}
 use Rattle.expire_rules.specs.Condemned.{condemned_labels}
-use Rattle.expire_make.specs.Expiry.{IsTouched, listed, retention, expired_of, HasNeeded}
+use Rattle.expire_make.specs.Emptying.{LeavesListed}
+use Rattle.expire_make.specs.Expiry.{Touches, listed, retention, expired_of, HasNeeded}
+use Rattle.expire_make.specs.Planning.{BackupPairLasts}
 use Rattle.expire_make.specs.Removed.{CountsGone}
 use Rattle.cmd_types.specs.declared.stages.halt.Halt.{Halt}
 use Rattle.cmd_types.specs.declared.stages.outcome.Outcome.{Outcome}
@@ -49,15 +50,22 @@ IsMoment Unset least moment = moment ≡ 0
 IsMoment (Count n) least moment = moment ≡ 0
 IsMoment (Days n) least moment = least ≤ moment
 
+-- By which moment they may be read between two states of the clock: by one of these, and, unless it is the least second
+-- that it might show before, by none after the least that it may show afterwards.
+abbrev pub IsMomentIn : FullRule → ℕ → ℕ → ℕ → Type 0
+IsMomentIn Unset first last moment = moment ≡ 0
+IsMomentIn (Count n) first last moment = moment ≡ 0
+IsMomentIn (Days n) first last moment = (first ≤ moment) × ((moment ≡ first) ⊎ (moment ≤ last))
+
 -- by which they are read: where they count days, by the second that the clock showed; else it is 0
 abbrev pub ShowsMoment : FullRule → ClockState → ClockState → ℕ → Type 0
 ShowsMoment Unset old new moment = moment ≡ 0
 ShowsMoment (Count n) old new moment = moment ≡ 0
 ShowsMoment (Days n) old new moment = ShowsSecond moment old new
 
--- an expiry by these rules; least is the least second that the clock may show
-abbrev pub IsExpiryBy : Rules → ℕ → Command → Type 0
-IsExpiryBy rules least command = (moment : ℕ) × IsMoment rules.full least moment
+-- an expiry by these rules; the two are the least seconds that the clock may show before and afterwards
+abbrev pub IsExpiryBy : Rules → ℕ → ℕ → Command → Type 0
+IsExpiryBy rules first last command = (moment : ℕ) × IsMomentIn rules.full first last moment
     × (command ≡ Expire (retention rules moment))
 
 -- ---- what it does
@@ -76,12 +84,15 @@ pub record IsExpired (stanza : Text) (rules : Rules) (moment : ℕ) (old new : O
       → NowRepresents stanza (expired_of (retention rules moment) s) new
   -- both members of the backup pair are alike
   pub alike : IsSome old → IfSome new (AgreeAt (backup_info stanza))
+  -- whatever else the repository holds: what is left of the list, of the folders of labels and of the archive
+  pub leaves : LeavesListed stanza rules moment old new
 
--- What expire does, at some moment; where it succeeded, at the one that the clock showed.
+-- What expire does, at some moment: at the one that the clock showed, or nothing changes.
 pub record Prunes (stanza : Text) (rules : Rules) (clock new_clock : ClockState) (repo new_repo : View)
     (result : Result Outcome (Halt ExpireCommandFault)) : Type 0 where
   pub moment : ℕ
-  pub may_be : IsMoment rules.full clock.least moment
+  pub may_be : IsMomentIn rules.full clock.least new_clock.least moment
+  pub shown : IsStill repo new_repo ⊎ ShowsMoment rules.full clock new_clock moment
   pub known : OnOk result (ShowsMoment rules.full clock new_clock moment)
   pub does : RepoEffect Whole stanza (Expire (retention rules moment)) (reached_by expire_early result) repo new_repo
   pub pruned : IfOk result (λ outcome. OnFinished outcome (IsExpired stanza rules moment repo.now new_repo.now))
@@ -90,8 +101,9 @@ pub record Prunes (stanza : Text) (rules : Rules) (clock new_clock : ClockState)
       → LeavesOnly (HasNeeded stanza (retention rules moment) s) repo new_repo
   -- nothing changes but the backup pair, folders of labels that aren't listed in the end, and files that aren't needed
   -- then
-  pub touches : (s : Stanza) → IsSome repo.now → NowRepresents stanza (Some s) repo.now
-      → ChangesOnly (IsTouched stanza rules moment s) repo new_repo
+  pub touches : Touches stanza rules moment repo new_repo
+  -- both members of the backup pair are alike in all that a crash leaves
+  pub lasts : OnOk result (BackupPairLasts stanza repo new_repo)
 
 -- ---- why it is refused
 

@@ -1,5 +1,5 @@
 // expire: removes what the rules expire.
-ghost use Rattle.std.specs.Prelude.{◌≡◌, ◌∷◌, [], ◌≤◌, false, length, IfOk, IfErr};
+ghost use Rattle.std.specs.Prelude.{◌≡◌, ◌∷◌, [], ◌≤◌, false, length, IfOk, IfErr, OnOk};
 ghost use Rattle.std.specs.List.{AllByRecursion};
 ghost use Rattle.base_devices.specs.States.{DiskFailed, CallsProperly};
 ghost use Rattle.base_disk.specs.Store.{ChangesOnly};
@@ -8,7 +8,7 @@ ghost use Rattle.base_model.specs.Values.{archive_info_of, backup_info_of};
 ghost use Rattle.base_crash_lists.specs.Beside.{StaysBeside};
 ghost use Rattle.expire_make.specs.Expiry.{KeepsNeeded, ChangesTouched};
 ghost use Rattle.expire_make.specs.Losing.{MayExpire};
-ghost use Rattle.expire_make.specs.Planning.{HoldsList, list_text};
+ghost use Rattle.expire_make.specs.Planning.{BackupPairLasts, HoldsList, list_text};
 ghost use Rattle.cmd_types.specs.declared.stages.halt.Halt.TheVariants.{NoMemory as WithoutMemory};
 ghost use Rattle.cmd_types.specs.declared.stages.object.Object.TheVariants.{Repo as TheRepo};
 ghost use Rattle.cmd_types.specs.Halts.{HaltCause, Never, Only};
@@ -89,6 +89,7 @@ fn expire_at<D: Disk>(
         (FinishesExpired stanza.now rules.now moment (D.state repo.old) (D.state repo.new)) }
     ensures keeps { KeepsNeeded stanza.now rules.now moment (D.state repo.old) (D.state repo.new) }
     ensures touches { ChangesTouched stanza.now rules.now moment (D.state repo.old) (D.state repo.new) }
+    ensures lasts { OnOk result (BackupPairLasts stanza.now (D.state repo.old).view (D.state repo.new).view) }
     ensures only { ChangesOnly (MayExpire stanza.now) (D.state repo.old).view (D.state repo.new).view }
     ensures beside { StaysBeside stanza.now (D.state repo.old).view (D.state repo.new).view }
     ensures frame { CallsProperly (D.state repo.old) (D.state repo.new) }
@@ -128,6 +129,7 @@ pub fn expire_stanza<D: Disk, C: Clock, K: Locks>(
     ensures frame { CallsProperly (D.state repo.old) (D.state repo.new) }
     ensures unread { counts_days rules.now.full ≡ false → clock.new ≡ clock.old }
     ensures later { (C.state clock.old).faults ≤ (C.state clock.new).faults }
+    ensures least { (C.state clock.old).least ≤ (C.state clock.new).least }
     ensures cause { IfErr result (ExpireCommandFails stanza.now (D.state repo.old) (D.state repo.new)
         (C.state clock.old) (C.state clock.new)) }
 {

@@ -6,7 +6,8 @@ ghost use Rattle.base_devices.specs.States.{ClockFailed, CallsProperly};
 ghost use Rattle.base_disk.specs.Store.{ChangesOnly};
 ghost use Rattle.base_model.specs.InfoFiles.{IsLabel};
 ghost use Rattle.base_crash_lists.specs.Beside.{StaysBeside};
-ghost use Rattle.expire_make.specs.Expiry.{ExpiresPart, ExpiresAll};
+ghost use Rattle.expire_make.specs.Expiry.{ExpiresPart, ExpiresAll, ChangesTouched};
+ghost use Rattle.expire_make.specs.Planning.{BackupPairLasts};
 ghost use Rattle.expire_make.specs.Losing.{MayExpire};
 ghost use Rattle.cmd_types.specs.Plans.{backup_lock};
 ghost use Rattle.cmd_expire.specs.declared.fault.FollowUpFault.TheVariants.{NoMemory as WithoutMemory};
@@ -27,6 +28,7 @@ fn moment_after<C: Clock>(clock: &mut C, rules: &Rules) -> Result<u64, FollowUpF
     ensures known { IfOk result (ShowsMoment rules.now.full (C.state clock.old) (C.state clock.new)) }
     ensures unread { counts_days rules.now.full ≡ false → clock.new ≡ clock.old }
     ensures later { (C.state clock.old).faults ≤ (C.state clock.new).faults }
+    ensures least { (C.state clock.old).least ≤ (C.state clock.new).least }
     ensures cause { IfErr result (ClockCause (Rises (C.state clock.old).faults (C.state clock.new).faults)) }
 {
     match moment_for(clock, rules) {
@@ -67,6 +69,8 @@ fn after_at<D: Disk>(
     ensures pruned { OnOk result
         (AddsExpiry stanza.now rules.now moment (D.state repo.old) (D.state repo.new) lines.old lines.new) }
     ensures stays { OnErr result (string_bytes lines.new ≡ string_bytes lines.old) }
+    ensures touches { ChangesTouched stanza.now rules.now moment (D.state repo.old) (D.state repo.new) }
+    ensures lasts { OnOk result (BackupPairLasts stanza.now (D.state repo.old).view (D.state repo.new).view) }
     ensures only { ChangesOnly (MayExpire stanza.now) (D.state repo.old).view (D.state repo.new).view }
     ensures beside { StaysBeside stanza.now (D.state repo.old).view (D.state repo.new).view }
     ensures frame { CallsProperly (D.state repo.old) (D.state repo.new) }
@@ -91,7 +95,8 @@ pub fn expire_after<D: Disk, C: Clock, K: Locks>(
     lines: &mut String,
 ) -> Result<(), FollowUpFault>
     requires locked { (K.state _locks.now).taken ≡ backup_lock stanza.now ∷ [] }
-    // In the log it is an expiry by these rules, at the moment that the clock showed.
+    // In the log it is an expiry by these rules, at the moment that the clock showed. Of the list that the backup left
+    // it touches no folder of a label that stays, and no file that is needed then.
     ensures follows { Follows stanza.now rules.now (C.state clock.old) (C.state clock.new) (D.state repo.old).view
         (D.state repo.new).view (string_bytes lines.old) (string_bytes lines.new) result }
     // Nothing changes but the backup pair, folders of labels, and files of the archive that aren't histories of
@@ -101,6 +106,7 @@ pub fn expire_after<D: Disk, C: Clock, K: Locks>(
     ensures frame { CallsProperly (D.state repo.old) (D.state repo.new) }
     ensures unread { counts_days rules.now.full ≡ false → clock.new ≡ clock.old }
     ensures later { (C.state clock.old).faults ≤ (C.state clock.new).faults }
+    ensures least { (C.state clock.old).least ≤ (C.state clock.new).least }
     ensures cause { IfErr result (FollowUpFails stanza.now (D.state repo.old) (D.state repo.new)
         (ClockFailed (C.state clock.old) (C.state clock.new))) }
 {

@@ -7,12 +7,13 @@
 //!
 //! - `expire_stanza`, while the backup lock is held: in the log it is an `Expire` by the rules at one moment. A part of
 //!   it is done after every answer and at each moment, all of it at Ok, and nothing where it is refused.
-//! - At Ok that moment is the second that the clock showed where the rules count days, and else 0. Where they don't,
-//!   the clock isn't used.
+//! - At Ok, and wherever anything changes, that moment is the second that the clock showed where the rules count days,
+//!   and else 0. Where they don't, the clock isn't used.
 //! - At Ok the lines state the labels that the rules condemn, in the list's order, and how many files of the archive
-//!   were removed. Both members of the backup pair are alike.
+//!   were removed. Both members of the backup pair are alike, on the disk and in all that a crash leaves.
 //! - At each moment each backup that stays, and each file that it needs, have the bytes that they had. Nothing changes
-//!   but the backup pair, folders of labels, and files of the archive that aren't timeline histories.
+//!   but the backup pair, folders of labels, and files of the archive that aren't timeline histories. Whatever else
+//!   lies in the repository, no folder of a label that stays in the list changes, and no file that is needed then.
 //! - Each refusal has its cause in what was there before, and each object that failed counted it.
 //! - `rules_of`: the rules are those of the options.
 //! - `expire_after`, after a backup and under its lock, does the same, and reports what was removed after the backup's

@@ -16,6 +16,7 @@ pub(crate) fn moment_for<C: Clock>(
     ensures known { IfOk result (ShowsMoment rules.now.full (C.state clock.old) (C.state clock.new)) }
     ensures unread { counts_days rules.now.full ≡ false → clock.new ≡ clock.old }
     ensures later { (C.state clock.old).faults ≤ (C.state clock.new).faults }
+    ensures least { (C.state clock.old).least ≤ (C.state clock.new).least }
     ensures cause { IfErr result (ClockHalts (C.state clock.old) (C.state clock.new)) }
 {
     match rules.full {

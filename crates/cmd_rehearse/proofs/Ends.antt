@@ -27,6 +27,7 @@ use Rattle.cmd_rehearse.specs.Advancing.{Carries}
 use Rattle.cmd_rehearse.specs.Causes.{Fails}
 use Rattle.cmd_rehearse.specs.Faults.{of_step, rehearse_early}
 use Rattle.base_devices.specs.Links.{LinkState}
+use Rattle.base_devices.specs.States.{ClockState}
 use Rattle.cmd_backup_offline.specs.declared.order.OfflineOrder.{OfflineOrder}
 use Rattle.cmd_backup_offline.specs.Taken.{IsTaken}
 use Rattle.cmd_rehearse.specs.Backups.{IsTakenBy}
@@ -107,6 +108,6 @@ pub ends_over : {E : Type 0} (stanza : Text) (a m : Option Content) → m ≡ a 
 ends_over stanza a m same nodes given (Ok e) h = record { given = given; comes = subst (λ (o : Option Content). ComesTo stanza o e.kept e.restored e.found) same h }
 ends_over stanza a m same nodes given (Err e) h = tt
 
-pub taken_by : (stanza : Text) (o : OfflineOrder) (nodes : Option Nodes) (used : List LinkState) (before now : Option Content) (outcome : Outcome) → OnFinished outcome (IsTaken stanza sample o nodes used before now) → IsTakenBy stanza o.kind before now
-taken_by stanza o nodes used before now outcome h = let x = lines_of outcome (IsTaken stanza sample o nodes used before now) h in
-    record { order = o; kind_is = refl; nodes = nodes; used = used; lines = x.0; taken = x.1 }
+pub taken_by : (stanza : Text) (o : OfflineOrder) (nodes : Option Nodes) (used : List LinkState) (before now : Option Content) (clock new_clock : ClockState) (outcome : Outcome) → OnFinished outcome (IsTaken stanza sample o nodes used before now clock new_clock) → IsTakenBy stanza o.kind before now
+taken_by stanza o nodes used before now clock new_clock outcome h = let x = lines_of outcome (IsTaken stanza sample o nodes used before now clock new_clock) h in
+    record { order = o; kind_is = refl; nodes = nodes; used = used; clock = clock; new_clock = new_clock; lines = x.0; taken = x.1 }

@@ -4,6 +4,7 @@ use Rattle.std.specs.Prelude.{IsSome, Contains}
 use Rattle.std.proofs.lemmas.List.{map-append}
 use Rattle.base_devices.specs.Content.{Content}
 use Rattle.base_devices.specs.Links.{LinkState}
+use Rattle.base_devices.specs.States.{ClockState}
 use Rattle.base_devices.specs.Moments.{View, LeavesNoMore}
 use Rattle.base_model.specs.declared.labels.BackupKind.{BackupKind}
 use Rattle.base_model.specs.declared.labels.BackupKind.TheVariants.{Full, Diff, Incr}
@@ -84,10 +85,10 @@ module _ {E : Type 0} (kind : BackupKind) (links : List LinkState) (stanza : Tex
       let x = made_by kind links stanza n.now command is in
       (x.0, record { part = subst (λ (c : Command). DoesPart Whole stanza c n d) x.1 does.part; whole = tt; sound = tt })
 
-  pub taken_well : {U F : Type 0} (o : Outcome) (u : U) (known : Control) (order : OfflineOrder) (nodes : Option Nodes) (used : List LinkState) → OnFinished o (IsTaken stanza known order nodes used n.now d.now) → On (one (IsBackupBy kind links stanza n.now)) (λ command. RepoEffect Whole stanza command (reached_by early (Ok o)) n d) → (b : Backup) × Advances {E = F} stanza (backed_up b) (Ok u) n d
-  taken_well o u known order nodes used finished (command, is, does) =
+  pub taken_well : {U F : Type 0} (o : Outcome) (u : U) (known : Control) (order : OfflineOrder) (nodes : Option Nodes) (used : List LinkState) (clock new_clock : ClockState) → OnFinished o (IsTaken stanza known order nodes used n.now d.now clock new_clock) → On (one (IsBackupBy kind links stanza n.now)) (λ command. RepoEffect Whole stanza command (reached_by early (Ok o)) n d) → (b : Backup) × Advances {E = F} stanza (backed_up b) (Ok u) n d
+  taken_well o u known order nodes used clock new_clock finished (command, is, does) =
       let x = made_by kind links stanza n.now command is in
-      let P : Text → Type 0 = IsTaken stanza known order nodes used n.now d.now in
+      let P : Text → Type 0 = IsTaken stanza known order nodes used n.now d.now clock new_clock in
       let c = added o P ((c : Backup) × AddsBackup stanza c n.now d.now) (λ lines t. (t.made.backup, t.made.adds)) finished in
       let whole : DoesWhole Whole stanza (backed_up x.0) n d = subst (λ (c : Command). DoesWhole Whole stanza c n d) x.1 (finished_whole Whole stanza command early o P n d finished does) in (
         x.0,

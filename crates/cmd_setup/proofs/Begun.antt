@@ -29,6 +29,7 @@ use Rattle.cmd_types.specs.declared.stages.plan.SyncScope.TheVariants.{Whole, Lo
 use Rattle.cmd_types.specs.Plans.{HealsToLast}
 use Rattle.cmd_types.specs.DisksEffect.{Quiet, HealsPair, Begins, PairAlike}
 use Rattle.cmd_types.proofs.Lifted.{rests_quiet, healed_quiet, heals_steady}
+use Rattle.cmd_setup.specs.Calls.{StaysSynced}
 use Rattle.cmd_setup.specs.Settled.{SettlesFor}
 use Rattle.cmd_setup.proofs.Heals.{no_pair}
 use Rattle.cmd_setup.proofs.HealedPair.{alike_value}
@@ -83,6 +84,9 @@ module _ (stanza : Text) (a b : View) (rests : LeavesNoMore a b) (same : b.now �
 
   some_at : IsSome a.now → IsSome b.now
   some_at some = subst (λ (o : Option Content). IsSome o) (sym same) some
+
+  pub prepared_synced : (d : View) → StaysSynced stanza b d → StaysSynced stanza a d
+  prepared_synced d stays = λ synced some. stays (rests_synced stanza a b rests same synced) (some_at some)
 
   module _ (d : View) (settled : SyncsFolders (IsMember (archive_info stanza)) a b) (keeps : KeepsMembers (archive_info stanza) b d) where
     -- and so they are after what kept them so

@@ -1,5 +1,5 @@
 -- What the healing of the archive pair does.
-use Rattle.std.proofs.Common.{◌≡◌, ◌≢◌, ⊎_elim, inl, inr, [], ◌≤◌, length, Option, Some, None, refl, ap, ◌∙◌, sym, subst, true, false}
+use Rattle.std.proofs.Common.{◌≡◌, ◌≢◌, ⊎_elim, inl, inr, [], ◌≤◌, length, get_or, Bool, Option, Some, None, refl, ap, ◌∙◌, sym, subst, true, false}
 use Rattle.std.specs.Prelude.{IfSome, IsSome}
 use Rattle.base_devices.specs.Content.{Name, Content, put, at}
 use Rattle.base_devices.specs.Moments.{View, LeavesNoMore, is_unsynced}
@@ -19,9 +19,10 @@ use Rattle.base_model.specs.Log.{Pair}
 use Rattle.base_model.specs.Now.{NowRepresents, NowEffect}
 use Rattle.base_model.specs.Walks.{IsSynced, RepresentsStill, Walks}
 use Rattle.base_model.proofs.Created.{put_other}
-use Rattle.base_model.proofs.Walking.{crash_walks}
+use Rattle.base_model.proofs.Frame.{AgreesPast, past_alike, past_past}
+use Rattle.base_model.proofs.Walking.{crash_walks, rests_synced}
 use Rattle.repo_info.proofs.OneArchive.{one_archive_pair}
-use Rattle.base_model.proofs.Healed.{healed_represents, healed_past, healed_now}
+use Rattle.base_model.proofs.Healed.{healed_represents, healed_past, healed_now, put_past}
 use Rattle.base_disk.specs.Store.{ChangesOnly}
 use Rattle.repo_pair.specs.Member.{IsOfPair}
 use Rattle.base_crash_lists.specs.Beside.{StaysBeside}
@@ -30,6 +31,7 @@ use Rattle.cmd_types.specs.Current.{HasValue}
 use Rattle.cmd_types.specs.Plans.{HealsArchive}
 use Rattle.cmd_types.specs.DisksEffect.{HealsPair, PairAlike}
 use Rattle.cmd_types.proofs.Doing.{now_known}
+use Rattle.cmd_setup.specs.Calls.{StaysSynced}
 use Rattle.cmd_setup.proofs.HealedPair.{reads_still}
 
 abbrev text_of : ArchiveInfo → Text
@@ -112,6 +114,57 @@ module _ (stanza : Text) (old new : View) (part : PartAt (archive_info stanza) o
     beside = beside;
     walks = λ at. walks_from at.synced (now_known stanza old at.now) at.pair at.now.content at.now.now at.now.repository at.now.represents;
   }
+
+-- ---- what was synced
+
+-- what is written of the pair leaves the backups' names alone
+writes_past : (stanza text : Text) (f g : Content) → SomeOf (member_writes (archive_info stanza) text) f g → AgreesPast stanza f g
+writes_past stanza text f g w = ⊎_elim
+    (λ x. ⊎_elim (λ a. past_alike stanza f g a) (λ a. by (copy_of (archive_info stanza)) f refl a) x)
+    (λ x. ⊎_elim (λ a. by (archive_info stanza) f refl a)
+    (λ a. past_past stanza f main g (put_past stanza (archive_info stanza) text f refl) (by (copy_of (archive_info stanza)) main refl a)) x) w
+  where
+    main : Content
+    main = put (archive_info stanza) (Some text) f
+
+    by : (name : Text) (h : Content) → get_or name 0 0 ≡ 97 → Alike (put name (Some text) h) g → AgreesPast stanza h g
+    by name h begins a = past_past stanza h (put name (Some text) h) g (put_past stanza name text h begins) (past_alike stanza (put name (Some text) h) g a)
+
+true_apart : ◌≡◌ {A = Bool} true false → ⊥
+true_apart e = cc
+
+module _ (stanza : Text) (old new : View) (crash : CrashAt (archive_info stanza) old new) (idle : IdleAt (archive_info stanza) old new) (synced : IsSynced stanza old) (some : IsSome old.now) where
+  abbrev HasValueOf : ArchiveInfo → Type 0
+  HasValueOf v = IfSome old.now (λ f. PairIs IsArchiveText f (archive_info stanza) v)
+
+  -- where the pair has a value its writes are synced
+  valued_synced : (v : ArchiveInfo) → HasValueOf v → IsSynced stanza new
+  valued_synced v has = (crash_walks stanza (SomeOf (member_writes (archive_info stanza) (text_of v))) old new synced some
+      (crash v has (synced.fixed (archive_info stanza) (Pair (inl refl))) (synced.fixed (copy_of (archive_info stanza)) (Pair (inr (inl refl)))))
+      (writes_past stanza (text_of v)) (λ f g. Unit {0}) (λ f g leaves w. tt)).synced
+
+  -- where it has none there are no writes
+  idle_synced : ((v : ArchiveInfo) → HasValueOf v → ⊥) → IsSynced stanza new
+  idle_synced none =
+      let f = known_as old.now some in
+      let x = idle (λ v. known_at (λ f. PairIs IsArchiveText f (archive_info stanza) v → ⊥) old.now f.0 f.1
+      (λ has. none v (known_at (λ f. PairIs IsArchiveText f (archive_info stanza) v) old.now f.0 f.1 has))) some in
+      rests_synced stanza old new x.1 x.0 synced
+
+  -- so a name that is synced in both cases is
+  synced_at : (n : Text) → (IsSynced stanza new → is_unsynced new n ≡ false) → is_unsynced new n ≡ false
+  synced_at n from = go (is_unsynced new n) refl
+    where
+      go : (unsynced : Bool) → is_unsynced new n ≡ unsynced → is_unsynced new n ≡ false
+      go false is = is
+      go true is = from (idle_synced (λ v has. true_apart (sym is ∙ from (valued_synced v has))))
+
+  heal_synced : IsSynced stanza new
+  heal_synced = record { fixed = λ n h. synced_at n (λ s. s.fixed n h); places = λ f leaves n h. synced_at n (λ s. s.places f leaves n h) }
+
+pub named_synced : (stanza name : Text) → name ≡ archive_info stanza → (old new : View) → CrashAt name old new → IdleAt name old new → StaysSynced stanza old new
+named_synced stanza name is old new crash idle = λ synced some.
+    heal_synced stanza old new (subst (λ (n : Text). CrashAt n old new) is crash) (subst (λ (n : Text). IdleAt n old new) is idle) synced some
 
 -- ---- other names
 

@@ -2,7 +2,7 @@ mod Ends
 mod Found
 mod Prefixes
 mod Heals
-mod HealedPair
-mod Readings
+pub mod HealedPair
+pub mod Readings
 mod Idle
 mod Begun

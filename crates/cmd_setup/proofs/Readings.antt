@@ -1,18 +1,22 @@
 -- What holds where the plan reads the backup pair: it heals none.
-use Rattle.std.proofs.Common.{false, Option, Some, None, subst}
-use Rattle.std.specs.Prelude.{IfSome, IsTrue, IsSomeAnd}
+use Rattle.std.proofs.Common.{false, Option, Some, None, sym, subst}
+use Rattle.std.specs.Prelude.{IfSome, IsSome, IsTrue, IsSomeAnd}
 use Rattle.base_devices.specs.Content.{Content}
 use Rattle.base_devices.specs.Moments.{View}
+use Rattle.base_disk.proofs.Changes.{only_on, only_rests}
+use Rattle.base_model.specs.Names.{archive_info}
 use Rattle.base_model.specs.Text.{Text}
 use Rattle.base_model.specs.declared.clusters.ArchiveInfo.{ArchiveInfo}
 use Rattle.base_model.specs.InfoFiles.{IsArchiveInfo}
 use Rattle.base_model.specs.Values.{archive_info_of}
-use Rattle.archive_store.specs.Still.{IsStill}
+use Rattle.archive_store.specs.Still.{IsStill, still_on}
 use Rattle.cmd_types.specs.declared.stages.fault.StageFault.{StageFault}
 use Rattle.cmd_types.specs.declared.stages.plan.Pairs.{Pairs}
 use Rattle.cmd_types.specs.declared.stages.plan.Pairs.TheVariants.{Unread, ReadArchive, HealArchive, ReadBoth}
 use Rattle.cmd_types.specs.Current.{HasValue, HasArchive, BackupCause}
 use Rattle.cmd_types.specs.Plans.{OnReading}
+use Rattle.repo_pair.specs.Member.{IsOfPair}
+use Rattle.cmd_setup.specs.Calls.{ChangesPair, LeavesPair}
 use Rattle.cmd_setup.specs.Readies.{has_archive, has_backup}
 
 never : IsTrue false → ⊥
@@ -54,3 +58,32 @@ reading_as Unread P Q to h = to h
 reading_as ReadArchive P Q to h = to h
 reading_as HealArchive P Q to h = tt
 reading_as ReadBoth P Q to h = to h
+
+-- ---- what the stages leave
+
+-- only was read
+pub still_leaves : (pairs : Pairs) (stanza : Text) (a b : View) → IsStill a b → LeavesPair pairs stanza a b
+still_leaves Unread stanza a b still = still
+still_leaves ReadArchive stanza a b still = still
+still_leaves HealArchive stanza a b still = record {
+  known = λ some. subst (λ (o : Option Content). IsSome o) (sym still.now) some;
+  only = only_rests (IsOfPair (archive_info stanza)) a b still.time still.now;
+}
+still_leaves ReadBoth stanza a b still = still
+
+-- the pairs were read or healed after that
+pub found_leaves : (pairs : Pairs) (stanza : Text) (a b c : View) → IsStill a b → OnReading pairs (IsStill b c) → (IsSome b.now → IsSome c.now) → ChangesPair stanza b c → LeavesPair pairs stanza a c
+found_leaves Unread stanza a b c first still known only = still_on a b c first still
+found_leaves ReadArchive stanza a b c first still known only = still_on a b c first still
+found_leaves HealArchive stanza a b c first still known only = record {
+  known = λ some. known (subst (λ (o : Option Content). IsSome o) (sym first.now) some);
+  only = only_on (IsOfPair (archive_info stanza)) a b c (only_rests (IsOfPair (archive_info stanza)) a b first.time first.now) only;
+}
+found_leaves ReadBoth stanza a b c first still known only = still_on a b c first still
+
+-- where no pair is healed only was read
+pub leaves_reading : (pairs : Pairs) (stanza : Text) (a b : View) → LeavesPair pairs stanza a b → OnReading pairs (IsStill a b)
+leaves_reading Unread stanza a b h = h
+leaves_reading ReadArchive stanza a b h = h
+leaves_reading HealArchive stanza a b h = tt
+leaves_reading ReadBoth stanza a b h = h

@@ -9,7 +9,7 @@ ghost use Rattle.cmd_types.specs.Plans.{Heals, OnReading, AreHealed};
 ghost use Rattle.cmd_types.specs.DisksEffect.{HealsPair};
 ghost use Rattle.cmd_setup.specs.Readies.{has_archive, has_backup, FitsLimit, IfAsked, IsArchiveOf, IsBackupOf};
 ghost use Rattle.cmd_setup.specs.Stages.{IsArchiveFault, ArchivePairCause, NoArchive, NoBackup, RepoCause};
-ghost use Rattle.cmd_setup.specs.Calls.{KeepsArchivePair};
+ghost use Rattle.cmd_setup.specs.Calls.{ChangesPair, KeepsArchivePair, StaysSynced};
 
 use base_devices::Disk;
 use base_model::{ArchiveInfo, BackupInfo};
@@ -65,6 +65,8 @@ fn heal_pair_at<D: Disk>(
     ensures found { IfOk result (IsArchiveOf stanza.now (D.state repo.new).view.now) }
     ensures agrees { OnOk result (IfSome (D.state repo.new).view.now (AgreesAtPair stanza.now)) }
     ensures heals_pair { HealsPair stanza.now (D.state repo.old).view (D.state repo.new).view }
+    ensures synced { StaysSynced stanza.now (D.state repo.old).view (D.state repo.new).view }
+    ensures changes { ChangesPair stanza.now (D.state repo.old).view (D.state repo.new).view }
     ensures lasts { OnOk result (KeepsArchivePair stanza.now (D.state repo.old) (D.state repo.new)) }
     ensures only { OnOk result (Heals Healing stanza.now (D.state repo.old).view.now (D.state repo.new).view.now) }
     ensures frame { CallsProperly (D.state repo.old) (D.state repo.new) }
@@ -83,6 +85,8 @@ fn heal_archive<D: Disk>(
     ensures found { IfOk result (IsArchiveOf stanza.now (D.state repo.new).view.now) }
     ensures agrees { OnOk result (IfSome (D.state repo.new).view.now (AgreesAtPair stanza.now)) }
     ensures heals_pair { HealsPair stanza.now (D.state repo.old).view (D.state repo.new).view }
+    ensures synced { StaysSynced stanza.now (D.state repo.old).view (D.state repo.new).view }
+    ensures changes { ChangesPair stanza.now (D.state repo.old).view (D.state repo.new).view }
     ensures lasts { OnOk result (KeepsArchivePair stanza.now (D.state repo.old) (D.state repo.new)) }
     ensures only { OnOk result (Heals Healing stanza.now (D.state repo.old).view.now (D.state repo.new).view.now) }
     ensures frame { CallsProperly (D.state repo.old) (D.state repo.new) }
@@ -133,6 +137,8 @@ pub(crate) fn archive_by<D: Disk>(
     ensures healed { OnOk result (IfSome (D.state repo.new).view.now (AreHealed pairs stanza.now)) }
     ensures heals { OnOk result (Heals pairs stanza.now (D.state repo.old).view.now (D.state repo.new).view.now) }
     ensures heals_pair { HealsPair stanza.now (D.state repo.old).view (D.state repo.new).view }
+    ensures synced { StaysSynced stanza.now (D.state repo.old).view (D.state repo.new).view }
+    ensures changes { ChangesPair stanza.now (D.state repo.old).view (D.state repo.new).view }
     ensures lasts { OnOk result (KeepsArchivePair stanza.now (D.state repo.old) (D.state repo.new)) }
     ensures still { OnReading pairs (IsStill (D.state repo.old).view (D.state repo.new).view) }
     ensures frame { CallsProperly (D.state repo.old) (D.state repo.new) }

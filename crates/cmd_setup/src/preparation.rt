@@ -10,7 +10,7 @@ ghost use Rattle.cmd_types.specs.DisksEffect.{Quiet, HealsPair};
 ghost use Rattle.cmd_setup.specs.Readies.{IsReady};
 ghost use Rattle.cmd_setup.specs.Settled.{SettlesFor};
 ghost use Rattle.cmd_setup.specs.Stages.{RepoCause};
-ghost use Rattle.cmd_setup.specs.Calls.{KeepsArchivePair, SyncsArchivePair, BeginsBy, HealsBy, HealsForGood, NotReady};
+ghost use Rattle.cmd_setup.specs.Calls.{ChangesPair, KeepsArchivePair, LeavesPair, SyncsArchivePair, BeginsBy, HealsBy, HealsForGood, NotReady, StaysSynced};
 
 use crate::cluster::cluster_by;
 use crate::pairs::{archive_by, backup_by};
@@ -38,6 +38,9 @@ pub fn prepare<D: Disk, T: DataFolder, K: Locks>(
     ensures healed { OnOk result (IfSome (D.state repo.new).view.now (AreHealed plan.now.pairs stanza.now)) }
     // No crash removes it.
     ensures lasts { OnOk result (HealsForGood plan.now stanza.now (D.state repo.old) (D.state repo.new)) }
+    ensures synced { StaysSynced stanza.now (D.state repo.old).view (D.state repo.new).view }
+    // Where a pair is healed nothing else of the repository changes.
+    ensures leaves { LeavesPair plan.now.pairs stanza.now (D.state repo.old).view (D.state repo.new).view }
     ensures still { OnReading plan.now.pairs (IsStill (D.state repo.old).view (D.state repo.new).view) }
     ensures frame { CallsProperly (D.state repo.old) (D.state repo.new) }
     ensures looks { OnlyReadsFolder (T.state tree.old) (T.state tree.new) }
@@ -113,6 +116,8 @@ fn find<D: Disk, T: DataFolder>(
     ensures lasts { OnOk result (KeepsArchivePair stanza.now (D.state repo.old) (D.state repo.new)) }
     ensures heals { OnOk result (HealsBy plan.now stanza.now (D.state repo.old) (D.state repo.new)) }
     ensures healed { OnOk result (IfSome (D.state repo.new).view.now (AreHealed plan.now.pairs stanza.now)) }
+    ensures synced { StaysSynced stanza.now (D.state repo.old).view (D.state repo.new).view }
+    ensures changes { ChangesPair stanza.now (D.state repo.old).view (D.state repo.new).view }
     ensures still { OnReading plan.now.pairs (IsStill (D.state repo.old).view (D.state repo.new).view) }
     ensures frame { CallsProperly (D.state repo.old) (D.state repo.new) }
     ensures looks { OnlyReadsFolder (T.state tree.old) (T.state tree.new) }

@@ -1,5 +1,5 @@
 -- What the stages add to a command's own part: the same lemmas for every command.
-use Rattle.std.proofs.Common.{◌≡◌, ◌≤◌, ◌⊎◌, ⊎_elim, inl, inr, ℕ, List, [], Option, Result, Ok, Err, IfOk, IfErr, refl, sym, ◌∙◌, subst, ap, arith, Bool, true, false}
+use Rattle.std.proofs.Common.{◌≡◌, ◌≤◌, inl, inr, ℕ, List, [], Option, Result, Ok, Err, IfOk, IfErr, refl, sym, ◌∙◌, subst, ap, arith, Bool, true, false}
 use Rattle.std.specs.Prelude.{OnOk, IfSome, IsSome, IsErrAnd, IsTrue, option_map, Some, None}
 use Rattle.base_devices.specs.Cause.{Rises}
 use Rattle.base_devices.specs.Content.{Content, Name}
@@ -8,45 +8,46 @@ use Rattle.base_devices.specs.Links.{LinkState}
 use Rattle.base_devices.specs.States.{IsOpened, OpensOnly, ConnectionState, ClockState}
 use Rattle.archive_lookup.specs.Turns.{ProcessesState}
 use Rattle.base_devices.specs.DataFolder.{Nodes}
-use Rattle.archive_store.specs.Still.{IsStill, rests_none, still_self, still_on}
+use Rattle.archive_store.specs.Still.{IsStill, rests_none, still_self}
 use Rattle.base_model.specs.Text.{Text}
 use Rattle.base_model.specs.Steps.{Command}
 use Rattle.base_model.specs.Walks.{IsSynced}
-use Rattle.base_model.proofs.Each.{keeps_synced}
+use Rattle.base_model.proofs.Walking.{rests_synced}
 use Rattle.cmd_types.specs.declared.stages.plan.Pairs.{Pairs}
 use Rattle.cmd_types.specs.declared.stages.plan.Pairs.TheVariants.{Unread, ReadArchive, HealArchive, ReadBoth}
 use Rattle.cmd_types.specs.declared.stages.plan.Plan.{Plan}
 use Rattle.cmd_types.specs.declared.stages.object.Object.{Object}
-use Rattle.cmd_types.specs.declared.stages.object.Object.TheVariants.{Repo, Locks}
+use Rattle.cmd_types.specs.declared.stages.object.Object.TheVariants.{Locks}
 use Rattle.cmd_types.specs.declared.stages.fault.StageFault.{StageFault}
 use Rattle.cmd_types.specs.declared.stages.fault.StageFault.TheVariants.{Held}
 use Rattle.cmd_types.specs.declared.stages.halt.Halt.{Halt}
 use Rattle.cmd_types.specs.declared.stages.halt.Halt.TheVariants.{Refused, Failed as HaltFailed, NoMemory as HaltMemory}
 use Rattle.cmd_types.specs.declared.stages.outcome.Outcome.{Outcome}
 use Rattle.cmd_types.specs.Halts.{HaltCause, Never, Only}
-use Rattle.cmd_types.specs.Plans.{AreHeld, Heals, AreHealed, HealsToLast, OnReading, TakesLocks}
+use Rattle.cmd_types.specs.Plans.{AreHeld, Heals, AreHealed, HealsToLast, OnReading}
 use Rattle.cmd_types.specs.Reached.{back_if}
 use Rattle.cmd_types.specs.declared.stages.plan.SyncScope.{SyncScope}
 use Rattle.cmd_types.specs.declared.stages.plan.SyncScope.TheVariants.{Whole, Looked}
-use Rattle.cmd_types.specs.DisksEffect.{Reached, to_end, turned_back, stopped, OnNone, DisksEffect, Takes, Quiet, Begins, IsLookedAt, Manner, each, one, provided, On}
+use Rattle.cmd_types.specs.DisksEffect.{Reached, to_end, turned_back, stopped, OnNone, DisksEffect, Takes, Quiet, Begins, Manner, each, one, provided, On, PairAlike}
 use Rattle.cmd_types.specs.World.{LocksSeen, World, Failed, AreLater, AreRead}
 use Rattle.base_crash_lists.specs.Beside.{StaysBeside}
 use Rattle.base_crash_lists.proofs.Stays.{beside_on}
 use Rattle.cmd_types.proofs.Besides.{still_beside}
 use Rattle.cmd_types.proofs.Counts.{rises_from}
-use Rattle.cmd_types.proofs.Lifted.{on_as, still_quiet, rests_quiet, quiet_takes, looked_at, begun_takes, opened_takes}
-use Rattle.base_model.proofs.Logged.{rests_still}
-use Rattle.cmd_setup.specs.declared.ready.Ready.{Ready}
+use Rattle.cmd_types.proofs.Lifted.{on_as, still_quiet, rests_quiet, quiet_takes, begun_takes, opened_takes}
+use Rattle.cmd_setup.specs.Calls.{LeavesPair, StaysSynced}
 use Rattle.cmd_setup.specs.Readies.{IsReady}
 use Rattle.cmd_setup.specs.Stages.{FoundCause, StageCause}
-use Rattle.cmd_setup.specs.Taking.{HeldCause, MayTake}
+use Rattle.cmd_setup.specs.Taking.{HeldCause}
+use Rattle.cmd_setup.proofs.HealedPair.{alike_value}
+use Rattle.cmd_setup.proofs.Readings.{leaves_reading, still_leaves}
 use Rattle.cmd_trait.specs.declared.fault.Fault.{Fault}
 use Rattle.cmd_trait.specs.declared.fault.Fault.TheVariants.{Stage, Own, Failed as ObjectFailed, NoMemory}
 use Rattle.cmd_trait.specs.KnownWorld.{KnownWorld, known_world}
-use Rattle.cmd_trait.specs.Meaning.{Place, Meaning, IsLawful, HasOne, disks_of, places_plan, TurnsKnown, Unless}
+use Rattle.cmd_trait.specs.Meaning.{Place, Meaning, IsLawful, HasOne, disks_of, places_plan, Unless}
 use Rattle.cmd_trait.specs.Ends.{status, reached_of, ending_of, is_early}
 use Rattle.cmd_trait.specs.Faults.{of_stage, of_own, own_of}
-use Rattle.cmd_trait.specs.CallEffect.{PartEffect, OwnSteps, LastsAfter, StaysHealed, OnReady, OnLooked, Cause, HealsPairs, CallEffect, OwnCause, Spares, Closes, ArgumentsCause, Brackets, SamePlaces, OpensPlaces, ArePlacesOpened, OpensNamed, IsOpenedNamed, OpensIf, IsOpenedIf, TakesAll, OnlyLocked}
+use Rattle.cmd_trait.specs.CallEffect.{PartEffect, OwnSteps, OwnLasts, LastsAfter, StaysHealed, OnReady, OnLasting, Cause, HealsPairs, CallEffect, OwnCause, Spares, Closes, OpensNamed, IsOpenedNamed}
 use Rattle.cmd_trait.proofs.Ends.{all_later, only_rose}
 
 -- ---- of any command
@@ -80,9 +81,16 @@ pub unless_as : (uses : Bool) (P Q : Type 0) → (P → Q) → Unless uses P →
 unless_as true P Q to p = tt
 unless_as false P Q to p = to p
 
-pub looked_by : (how : SyncScope) (P Q R : Type 0) → (how ≡ Looked → P) → (Q → R) → (P → OnLooked how Q) → OnLooked how R
-looked_by Whole P Q R at to h = tt
-looked_by Looked P Q R at to h = to (h (at refl))
+pub lasting_as : (how : SyncScope) (pairs : Pairs) (P Q : Type 0) → (P → Q) → OnLasting how pairs P → OnLasting how pairs Q
+lasting_as Looked pairs P Q to h = to h
+lasting_as Whole Unread P Q to h = tt
+lasting_as Whole ReadArchive P Q to h = tt
+lasting_as Whole HealArchive P Q to h = to h
+lasting_as Whole ReadBoth P Q to h = tt
+
+-- while only is read no name becomes unsynced
+pub still_synced : (stanza : Text) (a b c : View) → IsStill a b → StaysSynced stanza b c → StaysSynced stanza a c
+still_synced stanza a b c still stays = λ synced some. stays (rests_synced stanza a b still.time still.now synced) (subst (λ (o : Option Content). IsSome o) (sym still.now) some)
 
 pub none_as : (reached : Reached) (P Q : Type 0) → (P → Q) → OnNone reached P → OnNone reached Q
 none_as to_end P Q to h = tt
@@ -132,10 +140,6 @@ locks_read b l refusals faults = record {
     locks_later : (b : World) (l : LocksSeen) → b.locks.faults ≤ l.faults → AreLater b (record b { locks = l })
     locks_later b l faults = all_later b (record b { locks = l }) (omega arith) (omega arith) (omega arith) (omega arith) (omega arith) (omega arith) faults (omega arith) (omega arith)
 
-nothing_taken : (ever_taken : Option (List (Text × Text))) → ever_taken ≡ option_map (λ (l : List (Text × Text)). l) ever_taken
-nothing_taken None = refl
-nothing_taken (Some l) = refl
-
 never : IsTrue false → ⊥
 never is = cc
 
@@ -157,9 +161,12 @@ names_open text None named old new is opens none = subst (λ (o : Option Text). 
 names_open text (Some x) named old new is opens none = subst (λ (o : Option Text). OpensNamed o old new) is opens
 
 -- what looks at nothing alone says nothing of crashes
-pub any_looked : (how : SyncScope) (P : Type 0) → P → OnLooked how P
-any_looked Whole P p = tt
-any_looked Looked P p = p
+pub any_lasting : (how : SyncScope) (pairs : Pairs) (P : Type 0) → P → OnLasting how pairs P
+any_lasting Looked pairs P p = p
+any_lasting Whole Unread P p = tt
+any_lasting Whole ReadArchive P p = tt
+any_lasting Whole HealArchive P p = p
+any_lasting Whole ReadBoth P p = tt
 
 none_healed : (o : Option Content) → IfSome o (λ _. Unit {0})
 none_healed None = tt
@@ -202,7 +209,7 @@ module _ {F : Type 0} (p : Place) (m : Meaning F) (laws : IsLawful m) where
   closes_from b c k repo same later (ObjectFailed object) h = tt
   closes_from b c k repo same later NoMemory h = tt
 
-  spares_on : (b c k : World) (r : Result Outcome (Fault F)) → StaysBeside p.stanza b.repo.view c.repo.view → IsStill b.spool.view c.spool.view → OnReading m.plan.pairs (IsStill b.repo.view c.repo.view) → known_world c ≡ record (known_world b) { repo = c.repo.view.now } → AreLater b c → Spares p m c k r → Spares p m b k r
+  spares_on : (b c k : World) (r : Result Outcome (Fault F)) → StaysBeside p.stanza b.repo.view c.repo.view → IsStill b.spool.view c.spool.view → LeavesPair m.plan.pairs p.stanza b.repo.view c.repo.view → known_world c ≡ record (known_world b) { repo = c.repo.view.now } → AreLater b c → Spares p m c k r → Spares p m b k r
   spares_on b c k r beside spool still same later s = record {
     beside = λ known. beside_on p.stanza b.repo.view c.repo.view k.repo.view beside (s.beside known);
     spool = λ known. beside_on p.stanza b.spool.view c.spool.view k.spool.view (still_beside p.stanza b.spool.view c.spool.view spool) (s.spool known);
@@ -217,17 +224,17 @@ module _ {F : Type 0} (p : Place) (m : Meaning F) (laws : IsLawful m) where
   }
     where
       now : OnReading m.plan.pairs (c.repo.view.now ≡ b.repo.view.now)
-      now = reading_as m.plan.pairs _ _ (λ (p : IsStill b.repo.view c.repo.view). p.now) still
+      now = reading_as m.plan.pairs _ _ (λ (p : IsStill b.repo.view c.repo.view). p.now) (leaves_reading m.plan.pairs p.stanza b.repo.view c.repo.view still)
 
   -- a stage ended it
-  spares_none : (b k : World) (fault : Fault F) → StaysBeside p.stanza b.repo.view k.repo.view → IsStill b.spool.view k.spool.view → OnReading m.plan.pairs (IsStill b.repo.view k.repo.view) → k.tree.nodes ≡ b.tree.nodes → k.server ≡ b.server → k.others ≡ b.others → k.links ≡ b.links → k.clock ≡ b.clock → Closes p m b k fault → Spares p m b k (Err fault)
+  spares_none : (b k : World) (fault : Fault F) → StaysBeside p.stanza b.repo.view k.repo.view → IsStill b.spool.view k.spool.view → LeavesPair m.plan.pairs p.stanza b.repo.view k.repo.view → k.tree.nodes ≡ b.tree.nodes → k.server ≡ b.server → k.others ≡ b.others → k.links ≡ b.links → k.clock ≡ b.clock → Closes p m b k fault → Spares p m b k (Err fault)
   spares_none b k fault beside spool still nodes server others links clock closes = record {
     beside = λ known. beside;
     spool = λ known. still_beside p.stanza b.spool.view k.spool.view spool;
     repository = laws.repo_none p b.clock.least b.repo.view k.repo.view still;
     folder = subst (λ (n : Option Nodes). m.folder_effect p (known_world b) n) (sym nodes) (laws.folder_none p (known_world b));
     others = subst (λ (o : ProcessesState). m.others_effect p b.others o) (sym others) (laws.others_none p b.others);
-    turned = all_none (reached_of m (ending_of (Err fault))) _ (laws.turned_none p (known_world b) (known_world k) (status m (ending_of (Err fault))) nodes (reading_as m.plan.pairs _ _ (λ (p : IsStill b.repo.view k.repo.view). p.now) still));
+    turned = all_none (reached_of m (ending_of (Err fault))) _ (laws.turned_none p (known_world b) (known_world k) (status m (ending_of (Err fault))) nodes (reading_as m.plan.pairs _ _ (λ (p : IsStill b.repo.view k.repo.view). p.now) (leaves_reading m.plan.pairs p.stanza b.repo.view k.repo.view still)));
     server = any_unless m.uses.server _ server;
     workers = any_unless m.uses.workers _ links;
     clock = any_unless m.uses.clock _ clock;
@@ -268,15 +275,16 @@ module _ {F : Type 0} (p : Place) (m : Meaning F) (laws : IsLawful m) where
     steps = as_begun (λ command. Takes Scope p.stanza command (reached_of m (ending_of r)) b.repo.view b.spool.view k.repo.view k.spool.view) (known_world c) (known_world b) (known_world k) (known_same b c read)
         (on_as (m.manner p (known_world c) (known_world k)) _ _ (λ command h. opened_takes p.stanza b.repo.view c.repo.view b.spool.view c.spool.view read.repo.time read.repo.now read.spool.time read.spool.now Scope command (reached_of m (ending_of r)) k.repo.view k.spool.view h) did.steps);
     promise = ok_as r _ _ (λ outcome h. subst (λ (o : KnownWorld). OnReady p m o (λ old. m.promise p old (known_world k) outcome)) (known_same b c read) h) did.promise;
-    lasts = ok_as r _ _ (λ outcome h q log some keeps. subst (λ (n : Option Nodes). OnLooked Scope (m.lasts p n k.repo.view k.tree.nodes outcome)) read.nodes
-        (h q log (subst (λ (o : Option Content). IsSome o) (sym read.repo.now) some) (rests_still p.stanza q log b.repo.view c.repo.view read.repo.time read.repo.now keeps))) did.lasts;
+    lasts = ok_as r _ _ (λ outcome h synced some. subst (λ (n : Option Nodes). OnLasting Scope m.plan.pairs (m.lasts p n k.repo.view k.tree.nodes outcome)) read.nodes
+        (h (rests_synced p.stanza b.repo.view c.repo.view read.repo.time read.repo.now synced) (subst (λ (o : Option Content). IsSome o) (sym read.repo.now) some))) did.lasts;
+    synced = unless_as m.unsyncs _ _ (still_synced p.stanza b.repo.view c.repo.view k.repo.view read.repo) did.synced;
     acknowledges = on_ok r _ _ (laws.acknowledges_on p b c k read) did.acknowledges;
     cause = err_as r _ _ (cause_from b c k read) did.cause;
     healed = on_ok r (HealsPairs p m c k) (HealsPairs p m b k) (λ h. record {
       agree = λ some. h.agree (subst (λ (o : Option Content). IsSome o) (sym read.repo.now) some);
-      lasts = λ q log some keeps. h.lasts q log (subst (λ (o : Option Content). IsSome o) (sym read.repo.now) some) (rests_still p.stanza q log b.repo.view c.repo.view read.repo.time read.repo.now keeps);
+      lasts = λ synced some. h.lasts (rests_synced p.stanza b.repo.view c.repo.view read.repo.time read.repo.now synced) (subst (λ (o : Option Content). IsSome o) (sym read.repo.now) some);
     }) did.healed;
-    spares = spares_on b c k r (still_beside p.stanza b.repo.view c.repo.view read.repo) read.spool (any_reading m.plan.pairs _ read.repo) (known_same b c read ∙ ap (λ (o : Option Content). as_known o b.spool.view.now b.tree.nodes b.server b.others b.clock b.links) (sym read.repo.now)) read.later did.spares;
+    spares = spares_on b c k r (still_beside p.stanza b.repo.view c.repo.view read.repo) read.spool (still_leaves m.plan.pairs p.stanza _ _ read.repo) (known_same b c read ∙ ap (λ (o : Option Content). as_known o b.spool.view.now b.tree.nodes b.server b.others b.clock b.links) (sym read.repo.now)) read.later did.spares;
     later = later_on b c k read.later did.later;
   }
 
@@ -296,12 +304,13 @@ module _ {F : Type 0} (p : Place) (m : Meaning F) (laws : IsLawful m) where
       go true e = let x : ◌≡◌ {A = Reached} turned_back to_end = e in cc
       go false e = let x : ◌≡◌ {A = Reached} stopped to_end = e in cc
 
-  did_nothing : (b k : World) (fault : Fault F) → Quiet p.stanza b.repo.view k.repo.view → LeavesNoMore b.spool.view k.spool.view → k.spool.view.now ≡ b.spool.view.now → k.others ≡ b.others → Spares p m b k (Err fault) → AreLater b k → Cause p m b k fault → CallEffect p m b k (Err fault)
-  did_nothing b k fault quiet rests same others spares later cause = record {
+  did_nothing : (b k : World) (fault : Fault F) → Quiet p.stanza b.repo.view k.repo.view → StaysSynced p.stanza b.repo.view k.repo.view → LeavesNoMore b.spool.view k.spool.view → k.spool.view.now ≡ b.spool.view.now → k.others ≡ b.others → Spares p m b k (Err fault) → AreLater b k → Cause p m b k fault → CallEffect p m b k (Err fault)
+  did_nothing b k fault quiet synced rests same others spares later cause = record {
     steps = any_on (m.manner p (known_world b) (known_world k)) _ (laws.some p (known_world b) (known_world k) others) (λ command. opened_takes p.stanza b.repo.view b.repo.view b.spool.view k.spool.view (rests_none b.repo.view) refl rests same Scope command (reached_of m (ending_of (Err fault))) k.repo.view k.spool.view
         (quiet_takes Scope p.stanza command (reached_of m (ending_of (Err fault))) b.repo.view k.repo.view k.spool.view (stage_reached fault) quiet));
     promise = tt;
     lasts = tt;
+    synced = any_unless m.unsyncs _ synced;
     acknowledges = tt;
     cause = cause;
     healed = tt;
@@ -313,20 +322,18 @@ module _ {F : Type 0} (p : Place) (m : Meaning F) (laws : IsLawful m) where
 
   -- what the stages under the locks add
   did_ran : m.staged ≡ true → (b c k : World) (r : Result Outcome (Fault F)) → c ≡ record b { repo = c.repo; tree = c.tree } → c.tree.nodes ≡ b.tree.nodes → b.repo.faults ≤ c.repo.faults → b.tree.faults ≤ c.tree.faults → Quiet p.stanza b.repo.view c.repo.view → Begins Scope p.stanza b.repo.view c.repo.view →
-      Heals m.plan.pairs p.stanza b.repo.view.now c.repo.view.now → IfSome c.repo.view.now (AreHealed m.plan.pairs p.stanza) → (IsSynced p.stanza b.repo.view → IsSome b.repo.view.now → HealsToLast m.plan.pairs p.stanza c.repo.view) → OnReading m.plan.pairs (IsStill b.repo.view c.repo.view) → PartEffect p m c k r → CallEffect p m b k r
-  did_ran staged b c k r others nodes repo_later tree_later quiet begun heals healed durable still ran = record {
+      Heals m.plan.pairs p.stanza b.repo.view.now c.repo.view.now → IfSome c.repo.view.now (AreHealed m.plan.pairs p.stanza) → (IsSynced p.stanza b.repo.view → IsSome b.repo.view.now → HealsToLast m.plan.pairs p.stanza c.repo.view) → StaysSynced p.stanza b.repo.view c.repo.view → LeavesPair m.plan.pairs p.stanza b.repo.view c.repo.view → PartEffect p m c k r → CallEffect p m b k r
+  did_ran staged b c k r others nodes repo_later tree_later quiet begun heals healed durable stays still ran = record {
     steps = laws.healed p (known_world b) (known_world k) c.repo.view.now heals _ (as_begun (λ command. Takes Scope p.stanza command (reached_of m (ending_of r)) b.repo.view b.spool.view k.repo.view k.spool.view) (known_world c) (record (known_world b) { repo = c.repo.view.now }) (known_world k) known_is
         (on_as (m.manner p (known_world c) (known_world k)) _ _ (λ command h. begun_takes Scope p.stanza b.repo.view c.repo.view quiet begun command (reached_of m (ending_of r)) b.spool.view k.repo.view k.spool.view (subst (λ (v : View). DisksEffect Scope p.stanza command (reached_of m (ending_of r)) c.repo.view v k.repo.view k.spool.view) (ap (λ (s : World). s.spool.view) others) (subst (λ (s : Bool). OwnSteps s Scope p.stanza command (reached_of m (ending_of r)) c.repo.view c.spool.view k.repo.view k.spool.view) staged h))) ran.steps));
     promise = ok_as r _ _ (λ outcome h. (c.repo.view.now, heals, subst (λ (o : KnownWorld). m.promise p o (known_world k) outcome) known_is h)) ran.promise;
-    lasts = ok_as r _ _ (λ outcome h q log some keeps. looked_by Scope (IsLookedAt p.stanza c.repo.view) _ _
-        (λ is. looked_at p.stanza b.repo.view c.repo.view quiet (subst (λ (how : SyncScope). Begins how p.stanza b.repo.view c.repo.view) is begun) q log some keeps)
-        (λ x. subst (λ (n : Option Nodes). m.lasts p n k.repo.view k.tree.nodes outcome) nodes x) h) ran.lasts;
+    lasts = lasting Scope m.plan.pairs refl refl begun durable ran.lasts;
+    synced = unless_as m.unsyncs _ _ (λ own synced some. own (stays synced some) (quiet.now.known some)) ran.synced;
     acknowledges = all_ok r _ (laws.through staged p (disks_of b) (disks_of k));
     cause = err_as r _ _ own ran.cause;
     healed = on_ok r (StaysHealed p m c k) (HealsPairs p m b k) (λ h. record {
       agree = λ some. h.agree (quiet.now.known some) healed;
-      lasts = λ q log some keeps. h.lasts (keeps_synced p.stanza q log c.repo.view (quiet.keeps q log some keeps)) (quiet.now.known some)
-          (durable (keeps_synced p.stanza q log b.repo.view keeps) some);
+      lasts = λ synced some. h.lasts (stays synced some) (quiet.now.known some) (durable synced some);
     }) ran.healed;
     spares = spares_on b c k r quiet.beside (same_still b.spool.view c.spool.view (ap (λ (s : World). s.spool.view) others)) still known_is later ran.spares;
     later = later_on b c k later ran.later;
@@ -344,6 +351,21 @@ module _ {F : Type 0} (p : Place) (m : Meaning F) (laws : IsLawful m) where
       later = all_later b c repo_later (omega (arith, ap (λ (s : World). s.spool.faults) others)) tree_later (omega (arith, ap (λ (s : World). s.server.faults) others)) (omega (arith, ap (λ (s : World). s.others.faults) others))
           (omega (arith, ap (λ (s : World). s.clock.faults) others)) (omega (arith, ap (λ (s : World). s.locks.faults) others)) (omega (arith, ap (λ (s : World). s.config.faults) others)) (omega (arith, ap (λ (s : World). s.out.faults) others))
 
+      -- what is looked at alone was synced, or the pair was healed, so all that a crash leaves has the archive pair
+      lasting_so : (how : SyncScope) (pairs : Pairs) → how ≡ Scope → pairs ≡ m.plan.pairs → (outcome : Outcome) → OnLasting how pairs (m.lasts p b.tree.nodes k.repo.view k.tree.nodes outcome) → OnLasting Scope m.plan.pairs (m.lasts p b.tree.nodes k.repo.view k.tree.nodes outcome)
+      lasting_so how pairs is same outcome h = subst (λ (q : Pairs). OnLasting Scope q (m.lasts p b.tree.nodes k.repo.view k.tree.nodes outcome)) same (subst (λ (x : SyncScope). OnLasting x pairs (m.lasts p b.tree.nodes k.repo.view k.tree.nodes outcome)) is h)
+
+      from_own : (outcome : Outcome) → OwnLasts p m c k outcome → IsSynced p.stanza b.repo.view → IsSome b.repo.view.now → PairAlike p.stanza c.repo.view → m.lasts p b.tree.nodes k.repo.view k.tree.nodes outcome
+      from_own outcome x synced some pair = subst (λ (n : Option Nodes). m.lasts p n k.repo.view k.tree.nodes outcome) nodes (x (stays synced some) (quiet.now.known some) pair)
+
+      lasting : (how : SyncScope) (pairs : Pairs) → how ≡ Scope → pairs ≡ m.plan.pairs → Begins how p.stanza b.repo.view c.repo.view → (IsSynced p.stanza b.repo.view → IsSome b.repo.view.now → HealsToLast pairs p.stanza c.repo.view) →
+          OnLasting how pairs (IfOk r (OwnLasts p m c k)) → IfOk r (LastsAfter p m b k)
+      lasting Looked pairs is same pair heals h = ok_as r _ _ (λ outcome x synced some. lasting_so Looked pairs is same outcome (from_own outcome x synced some (pair synced some))) h
+      lasting Whole HealArchive is same pair heals h = ok_as r _ _ (λ outcome x synced some. lasting_so Whole HealArchive is same outcome (from_own outcome x synced some (alike_value p.stanza c.repo.view (heals synced some)))) h
+      lasting Whole Unread is same pair heals h = each_ok r (LastsAfter p m b k) (λ outcome synced some. lasting_so Whole Unread is same outcome tt)
+      lasting Whole ReadArchive is same pair heals h = each_ok r (LastsAfter p m b k) (λ outcome synced some. lasting_so Whole ReadArchive is same outcome tt)
+      lasting Whole ReadBoth is same pair heals h = each_ok r (LastsAfter p m b k) (λ outcome synced some. lasting_so Whole ReadBoth is same outcome tt)
+
       own : (fault : Fault F) → OwnCause p m c k fault → Cause p m b k fault
       own (Stage fault) h = absurd h
       own (Own fault) h = inr (c.repo.view.now, heals, more_failed b c k later (record (known_world b) { repo = c.repo.view.now }) fault (subst (λ (o : KnownWorld). m.cause p o (known_world k) (Failed c k) fault) known_is h))
@@ -352,16 +374,17 @@ module _ {F : Type 0} (p : Place) (m : Meaning F) (laws : IsLawful m) where
 
   -- the same, by the code's plan
   pub worked : (plan : Plan) → plan ≡ m.plan → m.staged ≡ true → (b c k : World) (r : Result Outcome (Fault F)) → c ≡ record b { repo = c.repo; tree = c.tree } → c.tree.nodes ≡ b.tree.nodes → b.repo.faults ≤ c.repo.faults → b.tree.faults ≤ c.tree.faults → Quiet p.stanza b.repo.view c.repo.view → Begins plan.sync_scope p.stanza b.repo.view c.repo.view →
-      Heals plan.pairs p.stanza b.repo.view.now c.repo.view.now → IfSome c.repo.view.now (AreHealed plan.pairs p.stanza) → (IsSynced p.stanza b.repo.view → IsSome b.repo.view.now → HealsToLast plan.pairs p.stanza c.repo.view) → OnReading plan.pairs (IsStill b.repo.view c.repo.view) → PartEffect p m c k r → CallEffect p m b k r
-  worked plan is staged b c k r others nodes repo_later tree_later quiet begun heals healed durable still ran = did_ran staged b c k r others nodes repo_later tree_later quiet
+      Heals plan.pairs p.stanza b.repo.view.now c.repo.view.now → IfSome c.repo.view.now (AreHealed plan.pairs p.stanza) → (IsSynced p.stanza b.repo.view → IsSome b.repo.view.now → HealsToLast plan.pairs p.stanza c.repo.view) → StaysSynced p.stanza b.repo.view c.repo.view → LeavesPair plan.pairs p.stanza b.repo.view c.repo.view → PartEffect p m c k r → CallEffect p m b k r
+  worked plan is staged b c k r others nodes repo_later tree_later quiet begun heals healed durable stays still ran = did_ran staged b c k r others nodes repo_later tree_later quiet
       (subst (λ (x : Plan). Begins x.sync_scope p.stanza b.repo.view c.repo.view) is begun) (subst (λ (x : Plan). Heals x.pairs p.stanza b.repo.view.now c.repo.view.now) is heals) (subst (λ (x : Plan). IfSome c.repo.view.now (AreHealed x.pairs p.stanza)) is healed)
       (λ synced some. subst (λ (x : Plan). HealsToLast x.pairs p.stanza c.repo.view) is (durable synced some))
-      (subst (λ (x : Plan). OnReading x.pairs (IsStill b.repo.view c.repo.view)) is still) ran
+      stays
+      (subst (λ (x : Plan). LeavesPair x.pairs p.stanza b.repo.view c.repo.view) is still) ran
 
   -- the same, of how the command's own part ended
   pub worked_own : (plan : Plan) → plan ≡ m.plan → m.staged ≡ true → (b c k : World) (r : Result Outcome (Halt F)) (ended : Result Outcome (Fault F)) → ended ≡ own_of r → c ≡ record b { repo = c.repo; tree = c.tree } → c.tree.nodes ≡ b.tree.nodes → b.repo.faults ≤ c.repo.faults → b.tree.faults ≤ c.tree.faults → Quiet p.stanza b.repo.view c.repo.view → Begins plan.sync_scope p.stanza b.repo.view c.repo.view →
-      Heals plan.pairs p.stanza b.repo.view.now c.repo.view.now → IfSome c.repo.view.now (AreHealed plan.pairs p.stanza) → (IsSynced p.stanza b.repo.view → IsSome b.repo.view.now → HealsToLast plan.pairs p.stanza c.repo.view) → OnReading plan.pairs (IsStill b.repo.view c.repo.view) → PartEffect p m c k (own_of r) → CallEffect p m b k ended
-  worked_own plan is staged b c k r ended lifted others nodes repo_later tree_later quiet begun heals healed durable still ran = subst (λ (e : Result Outcome (Fault F)). CallEffect p m b k e) (sym lifted) (worked plan is staged b c k (own_of r) others nodes repo_later tree_later quiet begun heals healed durable still ran)
+      Heals plan.pairs p.stanza b.repo.view.now c.repo.view.now → IfSome c.repo.view.now (AreHealed plan.pairs p.stanza) → (IsSynced p.stanza b.repo.view → IsSome b.repo.view.now → HealsToLast plan.pairs p.stanza c.repo.view) → StaysSynced p.stanza b.repo.view c.repo.view → LeavesPair plan.pairs p.stanza b.repo.view c.repo.view → PartEffect p m c k (own_of r) → CallEffect p m b k ended
+  worked_own plan is staged b c k r ended lifted others nodes repo_later tree_later quiet begun heals healed durable stays still ran = subst (λ (e : Result Outcome (Fault F)). CallEffect p m b k e) (sym lifted) (worked plan is staged b c k (own_of r) others nodes repo_later tree_later quiet begun heals healed durable stays still ran)
 
   -- ---- its places were opened alone
 
@@ -375,12 +398,13 @@ module _ {F : Type 0} (p : Place) (m : Meaning F) (laws : IsLawful m) where
   did_alone off b k r ran = record {
     steps = on_as (m.manner p (known_world b) (known_world k)) _ _ (λ command h. subst (λ (s : Bool). OwnSteps s Scope p.stanza command (reached_of m (ending_of r)) b.repo.view b.spool.view k.repo.view k.spool.view) off h) ran.steps;
     promise = ok_as r _ _ (λ outcome h. (b.repo.view.now, heals, h)) ran.promise;
-    lasts = each_ok r (LastsAfter p m b k) (λ outcome q log some keeps. any_looked Scope _ (laws.lasts_alone off p b.tree.nodes k.repo.view k.tree.nodes outcome));
+    lasts = each_ok r (LastsAfter p m b k) (λ outcome synced some. any_lasting Scope m.plan.pairs _ (laws.lasts_alone off p b.tree.nodes k.repo.view k.tree.nodes outcome));
+    synced = ran.synced;
     acknowledges = ran.acknowledges;
     cause = err_as r _ _ (λ fault h. alone_cause b k fault heals h) ran.cause;
     healed = all_ok r (HealsPairs p m b k) (record {
       agree = λ some. subst (λ (x : Plan). IfSome k.repo.view.now (AreHealed x.pairs p.stanza)) (sym plan) (none_healed k.repo.view.now);
-      lasts = λ q log some keeps. subst (λ (x : Plan). HealsToLast x.pairs p.stanza k.repo.view) (sym plan) tt;
+      lasts = λ synced some. subst (λ (x : Plan). HealsToLast x.pairs p.stanza k.repo.view) (sym plan) tt;
     });
     spares = ran.spares;
     later = ran.later;
@@ -413,10 +437,10 @@ module _ {F : Type 0} (p : Place) (m : Meaning F) (laws : IsLawful m) where
   did_err b k fault (Ok x) is h = absurd is
   did_err b k fault (Err f) is h = subst (λ (e : Fault F). CallEffect p m b k (Err e)) (sym is) h
 
-  halted_at : (b k : World) (r : Result Outcome (Fault F)) (halt : Halt StageFault) → IsErrAnd r (λ f. f ≡ of_stage halt) → Quiet p.stanza b.repo.view k.repo.view → LeavesNoMore b.spool.view k.spool.view → k.spool.view.now ≡ b.spool.view.now →
-      OnReading m.plan.pairs (IsStill b.repo.view k.repo.view) → k.tree.nodes ≡ b.tree.nodes → k.server ≡ b.server → k.others ≡ b.others → k.links ≡ b.links → k.clock ≡ b.clock → AreLater b k →
+  halted_at : (b k : World) (r : Result Outcome (Fault F)) (halt : Halt StageFault) → IsErrAnd r (λ f. f ≡ of_stage halt) → Quiet p.stanza b.repo.view k.repo.view → StaysSynced p.stanza b.repo.view k.repo.view → LeavesNoMore b.spool.view k.spool.view → k.spool.view.now ≡ b.spool.view.now →
+      LeavesPair m.plan.pairs p.stanza b.repo.view k.repo.view → k.tree.nodes ≡ b.tree.nodes → k.server ≡ b.server → k.others ≡ b.others → k.links ≡ b.links → k.clock ≡ b.clock → AreLater b k →
       (why : StageFault → Type 0) (failed : Object → Type 0) → ((fault : StageFault) → why fault → StageCause m.plan p.stanza b k fault) → ((object : Object) → failed object → Failed b k object) → HaltCause why failed halt → CallEffect p m b k r
-  halted_at b k r halt is quiet rests same still nodes server others links clock later why failed from rose cause = did_err b k (of_stage halt) r is (did_nothing b k (of_stage halt) quiet rests same others
+  halted_at b k r halt is quiet synced rests same still nodes server others links clock later why failed from rose cause = did_err b k (of_stage halt) r is (did_nothing b k (of_stage halt) quiet synced rests same others
       (spares_none b k (of_stage halt) quiet.beside (record { now = same; time = rests }) still nodes server others links clock (halt_closes b k halt)) later (halt_cause b k why failed from rose halt cause))
 
   found_at : (plan : Plan) → plan ≡ m.plan → (b k : World) (fault : StageFault) → FoundCause plan p.stanza b.repo.view.now b.tree.nodes fault → StageCause m.plan p.stanza b k fault
@@ -427,8 +451,8 @@ module _ {F : Type 0} (p : Place) (m : Meaning F) (laws : IsLawful m) where
 
   -- the whole of nothing, for this fault
   refused_at : (b : World) (fault : Fault F) → Closes p m b b fault → Cause p m b b fault → CallEffect p m b b (Err fault)
-  refused_at b fault closes cause = did_nothing b b fault (still_quiet p.stanza b.repo.view) (rests_none b.spool.view) refl refl
-      (spares_none b b fault (still_beside p.stanza b.repo.view b.repo.view (still_self b.repo.view)) (still_self b.spool.view) (any_reading m.plan.pairs _ (still_self b.repo.view)) refl refl refl refl refl closes) (λ object. omega arith) cause
+  refused_at b fault closes cause = did_nothing b b fault (still_quiet p.stanza b.repo.view) (λ synced some. synced) (rests_none b.spool.view) refl refl
+      (spares_none b b fault (still_beside p.stanza b.repo.view b.repo.view (still_self b.repo.view)) (still_self b.spool.view) (still_leaves m.plan.pairs p.stanza _ _ (still_self b.repo.view)) refl refl refl refl refl closes) (λ object. omega arith) cause
 
   pub starved : (b : World) (r : Result Outcome (Fault F)) → IsErrAnd r (λ f. f ≡ NoMemory) → CallEffect p m b b r
   starved b r is = did_err b b NoMemory r is (refused_at b NoMemory tt tt)
@@ -450,56 +474,18 @@ module _ {F : Type 0} (p : Place) (m : Meaning F) (laws : IsLawful m) where
   -- locks that were taken change nothing that is held
   pub not_taken : (plan : Plan) → plan ≡ m.plan → (b : World) (l : LocksSeen) (r : Result Outcome (Fault F)) (halt : Halt StageFault) → IsErrAnd r (λ f. f ≡ of_stage halt) → b.locks.refusals ≤ l.refusals → b.locks.faults ≤ l.faults →
       HaltCause (HeldCause plan p.stanza (Rises b.locks.refusals l.refusals)) (Only Locks (Rises b.locks.faults l.faults)) halt → CallEffect p m b (record b { locks = l }) r
-  not_taken plan is b l r halt err refusals faults cause = halted_at b (record b { locks = l }) r halt err (still_quiet p.stanza b.repo.view) (rests_none b.spool.view) refl
-      (any_reading m.plan.pairs _ (still_self b.repo.view)) refl refl refl refl refl (locks_read b l refusals faults).later
+  not_taken plan is b l r halt err refusals faults cause = halted_at b (record b { locks = l }) r halt err (still_quiet p.stanza b.repo.view) (λ synced some. synced) (rests_none b.spool.view) refl
+      (still_leaves m.plan.pairs p.stanza _ _ (still_self b.repo.view)) refl refl refl refl refl (locks_read b l refusals faults).later
       (HeldCause plan p.stanza (Rises b.locks.refusals l.refusals)) (Only Locks (Rises b.locks.faults l.faults)) (held_at plan is b (record b { locks = l }))
       (only_rose b (record b { locks = l }) Locks (Rises b.locks.faults l.faults) (λ h. h)) cause
 
-  pub unprepared : (plan : Plan) → plan ≡ m.plan → (b k : World) (r : Result Outcome (Fault F)) (halt : Halt StageFault) → IsErrAnd r (λ f. f ≡ of_stage halt) → Quiet p.stanza b.repo.view k.repo.view → LeavesNoMore b.spool.view k.spool.view → k.spool.view.now ≡ b.spool.view.now →
-      OnReading plan.pairs (IsStill b.repo.view k.repo.view) → k.tree.nodes ≡ b.tree.nodes → k.server ≡ b.server → k.others ≡ b.others → k.links ≡ b.links → k.clock ≡ b.clock → AreLater b k → (failed : Object → Type 0) → ((object : Object) → failed object → Failed b k object) →
+  pub unprepared : (plan : Plan) → plan ≡ m.plan → (b k : World) (r : Result Outcome (Fault F)) (halt : Halt StageFault) → IsErrAnd r (λ f. f ≡ of_stage halt) → Quiet p.stanza b.repo.view k.repo.view → StaysSynced p.stanza b.repo.view k.repo.view → LeavesNoMore b.spool.view k.spool.view → k.spool.view.now ≡ b.spool.view.now →
+      LeavesPair plan.pairs p.stanza b.repo.view k.repo.view → k.tree.nodes ≡ b.tree.nodes → k.server ≡ b.server → k.others ≡ b.others → k.links ≡ b.links → k.clock ≡ b.clock → AreLater b k → (failed : Object → Type 0) → ((object : Object) → failed object → Failed b k object) →
       HaltCause (FoundCause plan p.stanza b.repo.view.now b.tree.nodes) failed halt → CallEffect p m b k r
-  unprepared plan is b k r halt err quiet rests same still nodes server others links clock later failed rose cause =
-      halted_at b k r halt err quiet rests same (subst (λ (x : Plan). OnReading x.pairs (IsStill b.repo.view k.repo.view)) is still) nodes server others links clock later (FoundCause plan p.stanza b.repo.view.now b.tree.nodes) failed (found_at plan is b k) rose cause
+  unprepared plan is b k r halt err quiet synced rests same still nodes server others links clock later failed rose cause =
+      halted_at b k r halt err quiet synced rests same (subst (λ (x : Plan). LeavesPair x.pairs p.stanza b.repo.view k.repo.view) is still) nodes server others links clock later (FoundCause plan p.stanza b.repo.view.now b.tree.nodes) failed (found_at plan is b k) rose cause
 
   -- a place can't be opened
   pub unopened : (b k : World) (r : Result Outcome (Fault F)) (halt : Halt StageFault) → IsErrAnd r (λ f. f ≡ of_stage halt) → AreRead b k → HaltCause Never (Failed b k) halt → CallEffect p m b k r
-  unopened b k r halt err read cause = halted_at b k r halt err (rests_quiet p.stanza b.repo.view k.repo.view read.repo.time read.repo.now) read.spool.time read.spool.now
-      (any_reading m.plan.pairs _ read.repo) read.nodes read.server read.others read.links read.clock read.later Never (Failed b k) (λ fault h. absurd h) (λ object h. h) cause
-
-  -- ---- places and locks
-
-  -- places are opened, and then locks are taken
-  pub brackets_on : (b c k : World) (r : Result Outcome (Fault F)) → IsStill b.repo.view c.repo.view → c.locks.ever_taken ≡ b.locks.ever_taken → OpensPlaces p m b c → ArePlacesOpened p m b c → SamePlaces c k → OnOk r (TakesAll p m c k) → OnlyLocked p m c k → Brackets p m b k r
-  brackets_on b c k r still none places opened same ever_taken only =
-      let plan = m.plan in record {
-        places = record {
-          spool = subst (λ (ts : List Text). OpensNamed m.spool b.spool.opened ts) (sym same.spool) places.spool;
-          folder = subst (λ (ts : List Text). OpensIf plan.folder p.data_folder b.tree.opened ts) (sym same.tree) places.folder;
-          repository = subst (λ (ts : List Text). OpensOnly p.repository b.repo.opened ts) (sym same.repo) places.repository;
-        };
-        opened = all_ok r (ArePlacesOpened p m b k) (record {
-          spool = subst (λ (ts : List Text). IsOpenedNamed m.spool b.spool.opened ts) (sym same.spool) opened.spool;
-          folder = subst (λ (ts : List Text). IsOpenedIf plan.folder p.data_folder b.tree.opened ts) (sym same.tree) opened.folder;
-          repository = subst (λ (ts : List Text). IsOpened p.repository b.repo.opened ts) (sym same.repo) opened.repository;
-        });
-        ever_taken = subst (λ (t : Option (List (Text × Text))). OnOk r (TakesLocks plan p.lock_folder p.stanza t k.locks.ever_taken)) none ever_taken;
-        locked = ⊎_elim (λ x. inl x) (λ x. inr (x.0, still_on b.repo.view c.repo.view k.repo.view still x.1))
-            (subst (λ (t : Option (List (Text × Text))). TakesLocks plan p.lock_folder p.stanza t k.locks.ever_taken ⊎ (MayTake plan p.lock_folder p.stanza t k.locks.ever_taken × IsStill c.repo.view k.repo.view)) none only);
-      }
-
-  -- it takes no lock
-  takes_none : m.staged ≡ false → (c k : World) → k.locks.ever_taken ≡ c.locks.ever_taken → TakesAll p m c k
-  takes_none off c k same = subst (λ (x : Plan). TakesLocks x p.lock_folder p.stanza c.locks.ever_taken k.locks.ever_taken) (sym (laws.opens_only off)) (same ∙ nothing_taken c.locks.ever_taken)
-
-  -- places are opened, and no lock is taken
-  pub alone_brackets : m.staged ≡ false → (b c k : World) (r : Result Outcome (Fault F)) → IsStill b.repo.view c.repo.view → c.locks.ever_taken ≡ b.locks.ever_taken → OpensPlaces p m b c → ArePlacesOpened p m b c → SamePlaces c k → k.locks.ever_taken ≡ c.locks.ever_taken → Brackets p m b k r
-  alone_brackets off b c k r still none places opened same ever_taken = brackets_on b c k r still none places opened same (all_ok r (TakesAll p m c k) (takes_none off c k ever_taken)) (inl (takes_none off c k ever_taken))
-
-  -- locks that are released were taken
-  pub brackets_released : (b k : World) (l : LocksSeen) (r : Result Outcome (Fault F)) → l.ever_taken ≡ k.locks.ever_taken → Brackets p m b k r → Brackets p m b (record k { locks = l }) r
-  brackets_released b k l r same h = record {
-    places = record { spool = h.places.spool; folder = h.places.folder; repository = h.places.repository };
-    opened = on_ok r (ArePlacesOpened p m b k) (ArePlacesOpened p m b (record k { locks = l })) (λ x. record { spool = x.spool; folder = x.folder; repository = x.repository }) h.opened;
-    ever_taken = subst (λ (t : Option (List (Text × Text))). OnOk r (TakesLocks m.plan p.lock_folder p.stanza b.locks.ever_taken t)) (sym same) h.ever_taken;
-    locked = subst (λ (t : Option (List (Text × Text))). TakesLocks m.plan p.lock_folder p.stanza b.locks.ever_taken t ⊎ (MayTake m.plan p.lock_folder p.stanza b.locks.ever_taken t × IsStill b.repo.view k.repo.view)) (sym same) h.locked;
-  }
+  unopened b k r halt err read cause = halted_at b k r halt err (rests_quiet p.stanza b.repo.view k.repo.view read.repo.time read.repo.now) (λ synced some. rests_synced p.stanza b.repo.view k.repo.view read.repo.time read.repo.now synced) read.spool.time read.spool.now
+      (still_leaves m.plan.pairs p.stanza _ _ read.repo) read.nodes read.server read.others read.links read.clock read.later Never (Failed b k) (λ fault h. absurd h) (λ object h. h) cause

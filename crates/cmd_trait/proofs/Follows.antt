@@ -78,6 +78,7 @@ module _ {F : Type 0} (p : Place) (m : Meaning F) (laws : IsLawful m) (u : List 
     beside = c.did.spares.beside;
     spool = c.did.spares.spool;
     repository = c.did.spares.repository;
+    synced = c.did.synced;
     folder = c.did.spares.folder;
     others = c.did.spares.others;
     server = c.did.spares.server;

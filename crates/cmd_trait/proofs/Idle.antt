@@ -3,12 +3,14 @@ use Rattle.std.proofs.Common.{◌≡◌, ℕ, inl, inr, Option, refl, sym, ap, s
 use Rattle.base_devices.specs.DataFolder.{Nodes}
 use Rattle.base_devices.specs.States.{DataFolderState}
 use Rattle.base_model.specs.Text.{Text}
+use Rattle.base_model.proofs.Walking.{rests_synced}
 use Rattle.archive_lookup.specs.Turns.{ProcessesState}
 use Rattle.archive_store.specs.Still.{IsStill, rests_none}
 use Rattle.cmd_types.specs.DisksEffect.{Reached, to_end, turned_back, Takes, On}
 use Rattle.cmd_types.specs.World.{LocksSeen, World}
 use Rattle.cmd_types.proofs.Besides.{still_beside}
 use Rattle.cmd_types.proofs.Lifted.{on_as, rests_quiet, quiet_takes, opened_takes}
+use Rattle.cmd_setup.proofs.Readings.{still_leaves}
 use Rattle.cmd_trait.specs.KnownWorld.{known_world}
 use Rattle.cmd_trait.specs.Meaning.{Place, Meaning, IsLawful}
 use Rattle.cmd_trait.specs.CallEffect.{IsIdle, OpensPlaces, OpensNamed, OpensIf, OnlyLocked}
@@ -41,7 +43,8 @@ module _ {F : Type 0} (p : Place) (m : Meaning F) (laws : IsLawful m) (b k : Wor
   idle_rest = record {
     beside = λ known. still_beside p.stanza b.repo.view k.repo.view idle.repo;
     spool = λ known. still_beside p.stanza b.spool.view k.spool.view idle.spool;
-    repository = laws.repo_none p b.clock.least b.repo.view k.repo.view (any_reading m.plan.pairs _ idle.repo);
+    repository = laws.repo_none p b.clock.least b.repo.view k.repo.view (still_leaves m.plan.pairs p.stanza _ _ idle.repo);
+    synced = any_unless m.unsyncs _ (λ synced some. rests_synced p.stanza b.repo.view k.repo.view idle.repo.time idle.repo.now synced);
     folder = subst (λ (n : Option Nodes). m.folder_effect p (known_world b) n) (sym nodes) (laws.folder_none p (known_world b));
     others = subst (λ (o : ProcessesState). m.others_effect p b.others o) (sym idle.others) (laws.others_none p b.others);
     server = any_unless m.uses.server _ idle.server;

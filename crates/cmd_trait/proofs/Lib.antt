@@ -2,6 +2,7 @@ pub mod Ends
 mod Written
 mod Prefixes
 pub mod CallEffects
+mod Bracketing
 pub mod Carried
 pub mod PartEffects
 pub mod Statuses

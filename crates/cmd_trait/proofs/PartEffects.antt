@@ -5,10 +5,13 @@ use Rattle.base_devices.specs.Content.{Content}
 use Rattle.base_devices.specs.Moments.{View}
 use Rattle.base_devices.specs.DataFolder.{Nodes}
 use Rattle.base_model.specs.Text.{Text}
+use Rattle.base_model.proofs.Walking.{rests_synced}
 use Rattle.base_model.specs.Steps.{Command, Reading}
 use Rattle.archive_lookup.specs.Turns.{ProcessesState}
 use Rattle.archive_store.specs.Still.{IsStill, still_self}
 use Rattle.base_crash_lists.specs.Beside.{StaysBeside}
+use Rattle.cmd_setup.specs.Calls.{StaysSynced}
+use Rattle.cmd_setup.proofs.Readings.{still_leaves}
 use Rattle.cmd_types.specs.declared.stages.object.Object.{Object}
 use Rattle.cmd_types.specs.declared.stages.outcome.Outcome.{Outcome}
 use Rattle.cmd_types.specs.declared.stages.halt.Halt.{Halt}
@@ -18,20 +21,20 @@ use Rattle.cmd_types.specs.declared.stages.plan.SyncScope.TheVariants.{Whole}
 use Rattle.cmd_types.specs.Halts.{HaltCause}
 use Rattle.cmd_types.specs.Plans.{OnReading}
 use Rattle.cmd_types.specs.Reached.{reached_by}
-use Rattle.cmd_types.specs.DisksEffect.{Reached, DisksEffect, On, OnNone, IsLookedAt}
+use Rattle.cmd_types.specs.DisksEffect.{Reached, DisksEffect, On, OnNone}
 use Rattle.cmd_types.specs.World.{World, Failed, AreLater}
 use Rattle.cmd_types.proofs.Besides.{still_beside}
 use Rattle.cmd_types.proofs.Doing.{reading_does}
 use Rattle.cmd_types.proofs.Lifted.{does_runs, reading_spool}
 use Rattle.cmd_trait.specs.declared.fault.Fault.{Fault}
 use Rattle.cmd_trait.specs.KnownWorld.{KnownWorld, known_world}
-use Rattle.cmd_trait.specs.Meaning.{Place, Meaning, IsLawful, disks_of}
+use Rattle.cmd_trait.specs.Meaning.{Place, Meaning, IsLawful, Unless, disks_of}
 use Rattle.cmd_trait.specs.Readers.{reader_meaning, reader_lawful}
 use Rattle.cmd_trait.specs.Ends.{status, reached_of, ending_of}
 use Rattle.cmd_trait.specs.Faults.{of_own, own_of}
-use Rattle.cmd_trait.specs.CallEffect.{PartEffect, OwnSteps, OwnCause, OnLooked, StaysHealed, Spares, Closes, SamePlaces}
+use Rattle.cmd_trait.specs.CallEffect.{PartEffect, OwnSteps, OwnLasts, OwnCause, OnLasting, StaysHealed, Spares, Closes, SamePlaces}
 use Rattle.cmd_trait.proofs.Ends.{reached_same, own_ok, own_on, own_err}
-use Rattle.cmd_trait.proofs.CallEffects.{any_reading, any_unless, all_none}
+use Rattle.cmd_trait.proofs.CallEffects.{any_reading, any_unless, all_none, lasting_as}
 
 pub both_ok : {E : Type 0} (r : Result Outcome E) (P Q : Outcome → Type 0) → IfOk r P → IfOk r Q → IfOk r (λ o. P o × Q o)
 both_ok (Ok o) P Q p q = (p, q)
@@ -69,12 +72,13 @@ module _ {F : Type 0} (p : Place) (m : Meaning F) (b k : World) (failed : Object
 
   -- what a command's own part did, whichever it is
   pub ran_of : m.staged ≡ true → m.acknowledges p (disks_of b) (disks_of k) → (r : Result Outcome (Halt F)) → On (m.manner p (known_world b) (known_world k)) (λ command. DisksEffect m.plan.sync_scope p.stanza command (reached_by m.early r) b.repo.view b.spool.view k.repo.view k.spool.view) → IfOk r (m.promise p (known_world b) (known_world k)) →
-      IfOk r (λ o. IsLookedAt p.stanza b.repo.view → OnLooked m.plan.sync_scope (m.lasts p b.tree.nodes k.repo.view k.tree.nodes o)) → IfErr r (HaltCause why failed) → OnOk r (StaysHealed p m b k) → Spares p m b k (own_of r) → SamePlaces b k → AreLater b k → PartEffect p m b k (own_of r)
-  ran_of staged acknowledges r steps promise lasts cause healed spares places later = record {
+      OnLasting m.plan.sync_scope m.plan.pairs (IfOk r (OwnLasts p m b k)) → Unless m.unsyncs (StaysSynced p.stanza b.repo.view k.repo.view) → IfErr r (HaltCause why failed) → OnOk r (StaysHealed p m b k) → Spares p m b k (own_of r) → SamePlaces b k → AreLater b k → PartEffect p m b k (own_of r)
+  ran_of staged acknowledges r steps promise lasts synced cause healed spares places later = record {
     steps = subst (λ (s : Bool). On (m.manner p (known_world b) (known_world k)) (λ command. OwnSteps s m.plan.sync_scope p.stanza command (reached_of m (ending_of (own_of r))) b.repo.view b.spool.view k.repo.view k.spool.view)) (sym staged)
         (subst (λ (reached : Reached). On (m.manner p (known_world b) (known_world k)) (λ command. DisksEffect m.plan.sync_scope p.stanza command reached b.repo.view b.spool.view k.repo.view k.spool.view)) (sym (reached_same m r)) steps);
     promise = own_ok (m.promise p (known_world b) (known_world k)) r promise;
-    lasts = own_ok (λ o. IsLookedAt p.stanza b.repo.view → OnLooked m.plan.sync_scope (m.lasts p b.tree.nodes k.repo.view k.tree.nodes o)) r lasts;
+    lasts = lasting_as m.plan.sync_scope m.plan.pairs _ _ (λ h. own_ok (OwnLasts p m b k) r h) lasts;
+    synced = synced;
     acknowledges = own_on _ r (all_on r _ acknowledges);
     cause = own_err (HaltCause why failed) (OwnCause p m b k) own r cause;
     healed = own_on _ r healed;
@@ -90,7 +94,7 @@ module _ {F : Type 0} (p : Place) (m : Meaning F) (laws : IsLawful m) (b k : Wor
   still_spares r closed = record {
     beside = λ known. still_beside p.stanza b.repo.view k.repo.view still;
     spool = λ known. spool_kept p.stanza b k (ap (λ (s : World). s.spool.view) rest);
-    repository = laws.repo_none p b.clock.least b.repo.view k.repo.view (any_reading m.plan.pairs _ still);
+    repository = laws.repo_none p b.clock.least b.repo.view k.repo.view (still_leaves m.plan.pairs p.stanza _ _ still);
     folder = subst (λ (n : Option Nodes). m.folder_effect p (known_world b) n) (sym (ap (λ (s : World). s.tree.nodes) rest)) (laws.folder_none p (known_world b));
     others = subst (λ (o : ProcessesState). m.others_effect p b.others o) (sym (ap (λ (s : World). s.others) rest)) (laws.others_none p b.others);
     turned = all_none (reached_of m (ending_of r)) _ (laws.turned_none p (known_world b) (known_world k) (status m (ending_of r)) (ap (λ (s : World). s.tree.nodes) rest) (any_reading m.plan.pairs _ still.now));
@@ -115,7 +119,8 @@ module _ {F : Type 0} (promise : Place → KnownWorld → Outcome → Type 0) (c
   reader_ran r failed rose known why places later = ran_of p means b k failed rose (cause p (known_world b)) (λ e h. h) refl tt r
       (λ command is. reading_runs Whole p.stanza command (reached_by (λ e. true) r) b k is still (ap (λ (s : World). s.spool.view) rest))
       known
-      (any_ok r (λ o. IsLookedAt p.stanza b.repo.view → Unit {0}) (λ o looked. tt))
+      tt
+      (λ synced some. rests_synced p.stanza b.repo.view k.repo.view still.time still.now synced)
       why
       (all_on r (StaysHealed p means b k) (record { agree = λ some h. any_some k.repo.view.now; lasts = λ synced some h. tt }))
       (still_spares p means (reader_lawful promise cause status message over apart no_server) b k rest still (own_of r) (own_err (λ h. Unit {0}) (Closes p means b k) closes_none r (any_err r (λ h. Unit {0}) (λ h. tt))))

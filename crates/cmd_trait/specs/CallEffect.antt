@@ -5,8 +5,6 @@ use Rattle.base_devices.specs.Moments.{View}
 use Rattle.base_devices.specs.States.{IsOpened, OpensOnly}
 use Rattle.base_devices.specs.DataFolder.{Nodes}
 use Rattle.base_model.specs.Text.{Text}
-use Rattle.base_model.specs.Log.{Done, KeepsRepository}
-use Rattle.base_model.specs.Repository.{Repository}
 use Rattle.base_model.specs.Steps.{Command}
 use Rattle.base_model.specs.Walks.{IsSynced}
 use Rattle.archive_store.specs.Still.{IsStill}
@@ -14,11 +12,14 @@ use Rattle.base_crash_lists.specs.Beside.{StaysBeside}
 use Rattle.cmd_types.specs.declared.stages.object.Object.{Object}
 use Rattle.cmd_types.specs.declared.stages.object.Object.TheVariants.{Output}
 use Rattle.cmd_types.specs.declared.stages.outcome.Outcome.{Outcome}
+use Rattle.cmd_types.specs.declared.stages.plan.Pairs.{Pairs}
+use Rattle.cmd_types.specs.declared.stages.plan.Pairs.TheVariants.{HealArchive}
 use Rattle.cmd_types.specs.declared.stages.plan.SyncScope.{SyncScope}
 use Rattle.cmd_types.specs.declared.stages.plan.SyncScope.TheVariants.{Whole, Looked}
 use Rattle.cmd_types.specs.Plans.{Heals, AreHealed, HealsToLast, TakesLocks}
-use Rattle.cmd_types.specs.DisksEffect.{Reached, DisksEffect, Takes, On, OnNone, IsLookedAt}
+use Rattle.cmd_types.specs.DisksEffect.{Reached, DisksEffect, Takes, On, OnNone, PairAlike}
 use Rattle.cmd_types.specs.World.{World, Failed, AreLater}
+use Rattle.cmd_setup.specs.Calls.{StaysSynced}
 use Rattle.cmd_setup.specs.Stages.{StageCause}
 use Rattle.cmd_setup.specs.Taking.{MayTake}
 use Rattle.cmd_trait.specs.declared.fault.Fault.{Fault}
@@ -88,10 +89,17 @@ pub record StaysHealed {F : Type 0} (p : Place) (m : Meaning F) (before after : 
       → HealsToLast m.plan.pairs p.stanza before.repo.view
       → HealsToLast m.plan.pairs p.stanza after.repo.view
 
--- this holds where what is looked at alone was synced
-abbrev pub OnLooked : SyncScope → Type 0 → Type 0
-OnLooked Whole P = Unit {0}
-OnLooked Looked P = P
+-- this holds where what is looked at alone was synced, or where the archive pair was healed
+abbrev pub OnLasting : SyncScope → Pairs → Type 0 → Type 0
+OnLasting Looked pairs P = P
+OnLasting Whole HealArchive P = P
+OnLasting Whole other P = Unit {0}
+
+-- the answer holds of all that a crash leaves, where no name that is looked at was unsynced, and all that a crash left
+-- had the archive pair that the disk had
+abbrev pub OwnLasts : {F : Type 0} → Place → Meaning F → World → World → Outcome → Type 0
+OwnLasts p m before after outcome = IsSynced p.stanza before.repo.view → IsSome before.repo.view.now
+    → PairAlike p.stanza before.repo.view → m.lasts p before.tree.nodes after.repo.view after.tree.nodes outcome
 
 -- what its own part does to the disks: after all stages, or from any disk where only its places were opened
 abbrev pub OwnSteps : Bool → SyncScope → Text → Command → Reached → View → View → View → View → Type 0
@@ -106,8 +114,8 @@ pub record PartEffect {F : Type 0} (p : Place) (m : Meaning F) (before after : W
       (λ command. OwnSteps m.staged m.plan.sync_scope p.stanza command (reached_of m (ending_of result))
       before.repo.view before.spool.view after.repo.view after.spool.view)
   pub promise : IfOk result (m.promise p (known_world before) (known_world after))
-  pub lasts : IfOk result (λ outcome. IsLookedAt p.stanza before.repo.view
-      → OnLooked m.plan.sync_scope (m.lasts p before.tree.nodes after.repo.view after.tree.nodes outcome))
+  pub lasts : OnLasting m.plan.sync_scope m.plan.pairs (IfOk result (OwnLasts p m before after))
+  pub synced : Unless m.unsyncs (StaysSynced p.stanza before.repo.view after.repo.view)
   pub acknowledges : OnOk result (m.acknowledges p (disks_of before) (disks_of after))
   pub cause : IfErr result (OwnCause p m before after)
   pub healed : OnOk result (StaysHealed p m before after)
@@ -170,17 +178,17 @@ OnlyLocked p m before after = TakesAll p m before after
     ⊎ (MayTake m.plan p.lock_folder p.stanza before.locks.ever_taken after.locks.ever_taken
     × IsStill before.repo.view after.repo.view)
 
--- where a log is kept, the answer holds of all that a crash leaves
+-- where no name that is looked at was unsynced, the answer holds of all that a crash leaves
 abbrev pub LastsAfter : {F : Type 0} → Place → Meaning F → World → World → Outcome → Type 0
-LastsAfter p m before after outcome = (q : Repository) (log : List Done) → IsSome before.repo.view.now
-    → KeepsRepository p.stanza q log before.repo.view
-    → OnLooked m.plan.sync_scope (m.lasts p before.tree.nodes after.repo.view after.tree.nodes outcome)
+LastsAfter p m before after outcome = IsSynced p.stanza before.repo.view → IsSome before.repo.view.now
+    → OnLasting m.plan.sync_scope m.plan.pairs (m.lasts p before.tree.nodes after.repo.view after.tree.nodes outcome)
 
--- the pairs that the command heals agree, and where a log is kept no crash removes a member of them
+-- the pairs that the command heals agree, and where no name that is looked at was unsynced no crash removes a member of
+-- them
 pub record HealsPairs {F : Type 0} (p : Place) (m : Meaning F) (before after : World) : Type 0 where
   pub agree : IsSome before.repo.view.now → IfSome after.repo.view.now (AreHealed m.plan.pairs p.stanza)
-  pub lasts : (q : Repository) (log : List Done) → IsSome before.repo.view.now
-      → KeepsRepository p.stanza q log before.repo.view → HealsToLast m.plan.pairs p.stanza after.repo.view
+  pub lasts : IsSynced p.stanza before.repo.view → IsSome before.repo.view.now
+      → HealsToLast m.plan.pairs p.stanza after.repo.view
 
 pub record CallEffect {F : Type 0} (p : Place) (m : Meaning F) (before after : World)
     (result : Result Outcome (Fault F)) : Type 0 where
@@ -190,6 +198,7 @@ pub record CallEffect {F : Type 0} (p : Place) (m : Meaning F) (before after : W
   pub promise : IfOk result
       (λ outcome. OnReady p m (known_world before) (λ old. m.promise p old (known_world after) outcome))
   pub lasts : IfOk result (LastsAfter p m before after)
+  pub synced : Unless m.unsyncs (StaysSynced p.stanza before.repo.view after.repo.view)
   pub acknowledges : OnOk result (m.acknowledges p (disks_of before) (disks_of after))
   pub cause : IfErr result (Cause p m before after)
   pub healed : OnOk result (HealsPairs p m before after)

@@ -2,6 +2,7 @@
 use Rattle.std.specs.Prelude.{◌≡◌, ◌≢◌, ◌≤◌, ◌⊎◌, ◌++◌, ℕ, true, false, List, Result, Ok, option_map}
 use Rattle.base_model.specs.Text.{Text}
 use Rattle.base_crash_lists.specs.Beside.{StaysBeside}
+use Rattle.cmd_setup.specs.Calls.{StaysSynced}
 use Rattle.cmd_types.specs.declared.stages.outcome.Outcome.{Outcome}
 use Rattle.cmd_types.specs.DisksEffect.{On, OnWhole, Leads, Passes, PassesReceipts, EndsAtOne, turns_of}
 use Rattle.cmd_types.specs.World.{World}
@@ -66,11 +67,12 @@ pub record TurnsBack {F : Type 0} (p : Place) (m : Meaning F) (before after : Wo
   pub turned : m.turned p (known_world before) (known_world after) result
 
 -- After every answer the command has kept to its stanza, where what others did meanwhile is known, and to what it may
--- change; and what it doesn't use is unchanged.
+-- change. No name that is looked at became unsynced, unless the command may do that. What it doesn't use is unchanged.
 pub record LeavesRest {F : Type 0} (p : Place) (m : Meaning F) (before after : World) : Type 0 where
   pub beside : TurnsKnown p m (known_world after) → StaysBeside p.stanza before.repo.view after.repo.view
   pub spool : TurnsKnown p m (known_world after) → StaysBeside p.stanza before.spool.view after.spool.view
   pub repository : m.repo_effect p before.clock.least before.repo.view after.repo.view
+  pub synced : Unless m.unsyncs (StaysSynced p.stanza before.repo.view after.repo.view)
   pub folder : m.folder_effect p (known_world before) after.tree.nodes
   pub others : m.others_effect p before.others after.others
   pub server : Unless m.uses.server (after.server ≡ before.server)

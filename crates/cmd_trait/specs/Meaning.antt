@@ -6,7 +6,6 @@ use Rattle.base_devices.specs.Moments.{View}
 use Rattle.base_devices.specs.DataFolder.{Nodes}
 use Rattle.base_model.specs.Text.{Text}
 use Rattle.base_model.specs.Steps.{Command}
-use Rattle.archive_store.specs.Still.{IsStill}
 use Rattle.archive_lookup.specs.Turns.{ProcessesState}
 use Rattle.server_talk.specs.Sends.{Ended}
 use Rattle.cmd_types.specs.declared.stages.object.Object.{Object}
@@ -18,6 +17,7 @@ use Rattle.cmd_types.specs.declared.stages.plan.SyncScope.TheVariants.{Looked}
 use Rattle.cmd_types.specs.Plans.{Heals, OnReading}
 use Rattle.cmd_types.specs.DisksEffect.{Manner, each, one, provided, On}
 use Rattle.cmd_types.specs.World.{World, AreRead}
+use Rattle.cmd_setup.specs.Calls.{LeavesPair}
 use Rattle.cmd_trait.specs.KnownWorld.{KnownWorld}
 
 -- what it uses, except for the repository and the data folder: steps of other processes, the spool (also where others are
@@ -56,6 +56,8 @@ pub record Meaning (F : Type 0) : Type 1 where
   pub staged : Bool
   pub spool : Option Text
   pub uses : Uses
+  -- whether it may leave names unsynced that were synced, for all that is known of a repository that may be damaged
+  pub unsyncs : Bool
   -- which command of the repository's log it is, from what the objects hold before and after it
   pub manner : Place → KnownWorld → KnownWorld → Manner
   -- Ok: what it promises; what of all that a crash leaves, where it syncs what it looks at alone; and what it
@@ -157,8 +159,8 @@ pub record IsLawful {F : Type 0} (m : Meaning F) : Type 1 where
   pub arguments_closes : (p : Place) → (old : KnownWorld) (failed : Object → Type 0) (fault : F) → m.arguments_cause p fault
       → m.closes p old old failed fault
   -- stages that come before it change nothing that it leaves
-  pub repo_none : (p : Place) → (least : ℕ) (b k : View) → OnReading m.plan.pairs (IsStill b k) → m.repo_effect p least b k
-  pub repo_on : (p : Place) → (least : ℕ) (b c k : View) → OnReading m.plan.pairs (IsStill b c) → m.repo_effect p least c k
+  pub repo_none : (p : Place) → (least : ℕ) (b k : View) → LeavesPair m.plan.pairs p.stanza b k → m.repo_effect p least b k
+  pub repo_on : (p : Place) → (least : ℕ) (b c k : View) → LeavesPair m.plan.pairs p.stanza b c → m.repo_effect p least c k
       → m.repo_effect p least b k
   pub folder_none : (p : Place) → (old : KnownWorld) → m.folder_effect p old old.nodes
   pub folder_on : (p : Place) → (old : KnownWorld) (repo : Option Content) (nodes : Option Nodes)

@@ -32,6 +32,7 @@ reader_meaning promise cause status message = record {
   staged = true;
   spool = None;
   uses = nothing;
+  unsyncs = false;
   manner = λ p old new. each (λ command. command ≡ Reading);
   promise = λ p old new outcome. promise p old outcome;
   lasts = λ p nodes repo now_nodes outcome. Unit {0};

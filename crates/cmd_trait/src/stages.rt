@@ -62,7 +62,8 @@ impl<
             self.old self.new }
         ensures opened { AtOk ⟦<Self as Modelled>⟧.known ArePlacesOpened places.now (X.meaning command.now)
             self.old self.new result }
-        ensures cause { IfErr result (HaltCause Never (OnKnown ⟦<Self as Modelled>⟧.known Failed self.old self.new)) }
+        ensures cause { IfErr result
+            (HaltCause Never (OnKnown ⟦<Self as Modelled>⟧.known Failed self.old self.new)) }
         ensures rest { OnlyPlaces self.old self.new }
         ensures spool { (X.meaning command.now).spool ≡ None → self.new.spool ≡ self.old.spool }
         ensures tree { plan.now.folder ≡ false → self.new.tree ≡ self.old.tree }
@@ -90,8 +91,8 @@ impl<
         requires staged { (X.meaning command.now).staged ≡ true }
         requires names { AreNames names.now plan.now places.now.stanza.now }
         requires order { X.is_order command.now (place_of places.now) order }
-        ensures did { OnCall ⟦<Self as Modelled>⟧.known CallEffect places.now (X.meaning command.now) self.old self.new
-            result }
+        ensures did { OnCall ⟦<Self as Modelled>⟧.known CallEffect places.now (X.meaning command.now)
+            self.old self.new result }
         ensures places { Between ⟦<Self as Modelled>⟧.known SamePlaces self.old self.new }
         ensures held { HoldsAtMost plan.now places.now.stanza.now (K.state self.new.locks).taken }
         ensures ever_taken { AtOk ⟦<Self as Modelled>⟧.known TakesAll places.now (X.meaning command.now)
@@ -155,8 +156,8 @@ impl<
         requires order { X.is_order command.now (place_of places.now) order }
         requires ready { IsReadyFor (X.meaning command.now) places.now (D.state self.old.repo) (T.state self.old.tree)
             ready }
-        ensures did { OnCall ⟦<Self as Modelled>⟧.known CallEffect places.now (X.meaning command.now) self.old self.new
-            result }
+        ensures did { OnCall ⟦<Self as Modelled>⟧.known CallEffect places.now (X.meaning command.now)
+            self.old self.new result }
         ensures places { Between ⟦<Self as Modelled>⟧.known SamePlaces self.old self.new }
         ensures tree { (X.meaning command.now).plan.folder ≡ false → self.new.tree ≡ self.old.tree }
         ensures quiet { (X.meaning command.now).uses.server ≡ false → self.new.server ≡ self.old.server }
@@ -167,8 +168,8 @@ impl<
         own_end(command.run(alloc, self, places, order, ready))
     }
 
-    // All stages after the arguments: the places are opened, and the command's own part comes under its locks, which are
-    // then released; or it comes at once.
+    // All stages after the arguments: the places are opened, and the command's own part comes under its locks, which
+    // are then released; or it comes at once.
     fn staged<'a, X: Command<'a>>(
         &mut self,
         alloc: Global,
@@ -181,10 +182,10 @@ impl<
         requires free { (K.state self.old.locks).taken ≡ [] }
         requires plan { plan.now ≡ (X.meaning command.now).plan }
         requires order { X.is_order command.now (place_of places.now) order }
-        ensures did { OnCall ⟦<Self as Modelled>⟧.known CallEffect places.now (X.meaning command.now) self.old self.new
-            result }
-        ensures brackets { OnCall ⟦<Self as Modelled>⟧.known Brackets places.now (X.meaning command.now) self.old self.new
-            result }
+        ensures did { OnCall ⟦<Self as Modelled>⟧.known CallEffect places.now (X.meaning command.now)
+            self.old self.new result }
+        ensures brackets { OnCall ⟦<Self as Modelled>⟧.known Brackets places.now (X.meaning command.now)
+            self.old self.new result }
         ensures released { (K.state self.new.locks).taken ≡ [] }
         ensures tree { plan.now.folder ≡ false → self.new.tree ≡ self.old.tree }
         ensures quiet { (X.meaning command.now).uses.server ≡ false → self.new.server ≡ self.old.server }
@@ -216,8 +217,8 @@ impl<
         requires workers { AreWorkers (links_in L.link_state self.old.pool) }
         requires free { (K.state self.old.locks).taken ≡ [] }
         // It does what the command means.
-        ensures carries { OnUnknown ⟦<Self as Modelled>⟧.known Carries places.now (X.meaning command.now) unknown.now
-            self.old self.new result }
+        ensures carries { OnUnknown ⟦<Self as Modelled>⟧.known Carries places.now (X.meaning command.now)
+            unknown.now self.old self.new result }
         ensures released { (K.state self.new.locks).taken ≡ [] }
         // What the command doesn't use is unchanged.
         ensures tree { (X.meaning command.now).plan.folder ≡ false → self.new.tree ≡ self.old.tree }

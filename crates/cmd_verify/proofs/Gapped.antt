@@ -15,7 +15,7 @@ use Rattle.base_model.proofs.Pushed.{in_left, in_either}
 use Rattle.repo_names.specs.Next.{IsOfLog}
 use Rattle.repo_names.proofs.Follows.{same_place}
 use Rattle.cmd_verify.specs.declared.findings.finding.Finding.{Finding}
-use Rattle.cmd_verify.specs.What.{What, Shows, MemberAbsent, MemberBad, MembersDiffer, Absent, Short, Digest, Second, Gap, Reference, Unlike}
+use Rattle.cmd_verify.specs.What.{What, Shows, MemberAbsent, MemberBad, MembersDiffer, Absent, Short, Digest, Second, Gap, Reference, Unlike, Contradicts}
 use Rattle.cmd_verify.specs.Adding.{Adds}
 use Rattle.cmd_verify.specs.Gaps.{IsNear, IsWhole, HasWhole, IsGap, GapsBelow, Gaps}
 use Rattle.cmd_verify.proofs.Adding.{in_right, Either, adds_one, adds_none, adds_as, adds_on}
@@ -32,6 +32,7 @@ module _ (at : Text) (stored : List Segment) where
   only s n (Second t) d = absurd d
   only s n (Reference l) d = absurd d
   only s n Unlike d = absurd d
+  only s n (Contradicts t) d = absurd d
 
   pub gap_known : (s : Segment) (a b : List Finding) (x : Finding) → ¬ In s stored → Shows x at (Gap s) → b ≡ a ++ x ∷ [] → Adds (IsGap at stored s) a b
   gap_known s a b x none shows grown = subst (λ (c : List Finding). Adds (IsGap at stored s) a c) (sym grown)
@@ -52,6 +53,7 @@ module _ (at : Text) (stored : List Segment) where
     below k n (Second t) d = absurd d
     below k n (Reference l) d = absurd d
     below k n Unlike d = absurd d
+    below k n (Contradicts t) d = absurd d
 
     whole : (n : Text) (w : What) → Gaps at stored size span n w → (s : Segment) × (w ≡ Gap s) × (n ≡ at) × IsWithinSpan size span s × ¬ In s stored
     whole n (Gap s) d = (s, refl, d.0, d.1, d.2)
@@ -64,6 +66,7 @@ module _ (at : Text) (stored : List Segment) where
     whole n (Second t) d = absurd d
     whole n (Reference l) d = absurd d
     whole n Unlike d = absurd d
+    whole n (Contradicts t) d = absurd d
 
     pub below_none : (a : List Finding) → Adds (GapsBelow at stored size span (position size span.start)) a a
     below_none a = adds_none (GapsBelow at stored size span (position size span.start)) a (λ n w d. let g = below (position size span.start) n w d in let lt = g.4 in let le = g.3.2 in omega (arith, lt, le))

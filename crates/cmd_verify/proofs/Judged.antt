@@ -6,7 +6,7 @@ use Rattle.base_model.specs.Text.{Text}
 use Rattle.base_text.specs.declared.sum.Sum.{Sum}
 use Rattle.cmd_verify.specs.declared.findings.place_sum.Lies.TheVariants.{Nothing, Few, All}
 use Rattle.cmd_verify.specs.declared.findings.finding.Mark.{Mark}
-use Rattle.cmd_verify.specs.What.{What, MemberAbsent, MemberBad, MembersDiffer, Absent, Short, Digest, Second, Gap, Reference, Unlike, kind_of, line_of}
+use Rattle.cmd_verify.specs.What.{What, MemberAbsent, MemberBad, MembersDiffer, Absent, Short, Digest, Second, Gap, Reference, Unlike, Contradicts, kind_of, line_of}
 use Rattle.cmd_verify.specs.Findings.{BytesDeviate}
 use Rattle.cmd_verify.specs.Lies.{LiesSo, ShowsJustOne}
 
@@ -26,6 +26,7 @@ module _ (at size : ℕ) (sum : Text) (m : Mark) where
       only (Gap s) d = absurd d
       only (Reference l) d = absurd d
       only Unlike d = absurd d
+      only (Contradicts t) d = absurd d
 
   pub shows_short : (v : Value) (found : ℕ) → LiesSo v at size (Few found) → m.kind ≡ kind_of (Short size found) → string_bytes m.line ≡ line_of (Short size found) → ShowsJustOne (BytesDeviate v at size sum) (Some m)
   shows_short None found lies kind line = absurd lies
@@ -42,6 +43,7 @@ module _ (at size : ℕ) (sum : Text) (m : Mark) where
       only (Gap s) d = absurd d
       only (Reference l) d = absurd d
       only Unlike d = absurd d
+      only (Contradicts t) d = absurd d
 
   pub shows_digest : (v : Value) (found : Sum) → LiesSo v at size (All found) → found.0 ≢ sum → m.kind ≡ kind_of (Digest sum found.0) → string_bytes m.line ≡ line_of (Digest sum found.0) → ShowsJustOne (BytesDeviate v at size sum) (Some m)
   shows_digest None found lies other kind line = absurd lies
@@ -58,6 +60,7 @@ module _ (at size : ℕ) (sum : Text) (m : Mark) where
       only (Gap s) d = absurd d
       only (Reference l) d = absurd d
       only Unlike d = absurd d
+      only (Contradicts t) d = absurd d
 
 pub shows_none : (at size : ℕ) (sum : Text) (v : Value) (found : Sum) → LiesSo v at size (All found) → found.0 ≡ sum → ShowsJustOne (BytesDeviate v at size sum) None
 shows_none at size sum None found lies same = absurd lies
@@ -74,3 +77,4 @@ shows_none at size sum (Some whole) found lies same = by
     by (Gap s) d = d
     by (Reference l) d = d
     by Unlike d = d
+    by (Contradicts t) d = d

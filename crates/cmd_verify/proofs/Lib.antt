@@ -12,6 +12,8 @@ pub mod Referring
 pub mod Gapped
 pub mod Spanned
 pub mod Summed
+pub mod Contradicted
+pub mod Consistent
 pub mod Listed
 pub mod Neighbours
 pub mod Once

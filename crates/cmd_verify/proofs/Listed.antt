@@ -13,7 +13,7 @@ use Rattle.base_model.specs.ManifestText.{IsManifestText}
 use Rattle.base_model.specs.Pair.{PairIs}
 use Rattle.base_model.proofs.Pushed.{in_either}
 use Rattle.cmd_verify.specs.declared.findings.finding.Finding.{Finding}
-use Rattle.cmd_verify.specs.What.{What, Shows, MemberAbsent, MemberBad, MembersDiffer, Absent, Short, Digest, Second, Gap, Reference, Unlike}
+use Rattle.cmd_verify.specs.What.{What, Shows, MemberAbsent, MemberBad, MembersDiffer, Absent, Short, Digest, Second, Gap, Reference, Unlike, Contradicts}
 use Rattle.cmd_verify.specs.Adding.{Adds, AddsMost, Never}
 use Rattle.cmd_verify.specs.Sharing.{OwnDeviates, IsElsewhere}
 use Rattle.cmd_verify.proofs.Most.{most_of, most_as, most_on}
@@ -84,6 +84,7 @@ module _ (at : Text) (history : List Cluster) (e : Entry) (m : Manifest) where
   only n (Second s) d = absurd d
   only n (Gap s) d = absurd d
   only n (Reference l) d = absurd d
+  only n (Contradicts t) d = absurd d
 
   pub unlike_known : (a b : List Finding) (x : Finding) → ¬ IsOfEntry history e m → Shows x at Unlike → b ≡ a ++ x ∷ [] → Adds (IsUnlikeAt at history e m) a b
   unlike_known a b x other shows grown = subst (λ (c : List Finding). Adds (IsUnlikeAt at history e m) a c) (sym grown)
@@ -107,6 +108,7 @@ module _ (stanza : Text) (f : Content) (history : List Cluster) (e : Entry) wher
   of_unlike n (Second s) d = absurd d
   of_unlike n (Gap s) d = absurd d
   of_unlike n (Reference l) d = absurd d
+  of_unlike n (Contradicts t) d = absurd d
 
   unread : ((m : Manifest) → ¬ PairIs IsManifestText f (manifest_name stanza e.label) m) → (a : List Finding) → Adds (EntryIsUnlike stanza f history e) a a
   unread none a = adds_none (EntryIsUnlike stanza f history e) a (λ n w d. let k = (of_unlike n w d).2 in none k.0 k.1)

@@ -10,7 +10,7 @@ use Rattle.base_model.specs.Names.{copy_of}
 use Rattle.cmd_verify.specs.declared.findings.finding.Finding.{Finding}
 use Rattle.cmd_verify.specs.declared.findings.pairs.Member.{Member}
 use Rattle.cmd_verify.specs.declared.findings.pairs.Member.TheVariants as member
-use Rattle.cmd_verify.specs.What.{What, MemberAbsent, MemberBad, MembersDiffer, Absent, Short, Digest, Second, Gap, Reference, Unlike, kind_of, line_of}
+use Rattle.cmd_verify.specs.What.{What, MemberAbsent, MemberBad, MembersDiffer, Absent, Short, Digest, Second, Gap, Reference, Unlike, Contradicts, kind_of, line_of}
 use Rattle.cmd_verify.specs.Adding.{Adds}
 use Rattle.cmd_verify.specs.Findings.{IsText, MemberDeviates, BothDeviate, PairDeviates, OfMain, OfCopy, OfBoth}
 use Rattle.cmd_verify.specs.Members.{MemberSo}
@@ -47,6 +47,7 @@ module _ {X V : Type 0} (IsTextOf : V → Text → Type 0) (value : X → V) whe
         only none n (Gap s) d = absurd d
         only none n (Reference l) d = absurd d
         only none n Unlike d = absurd d
+        only none n (Contradicts t) d = absurd d
 
     pub bad_adds : m ≡ member.Bad → (x : Finding) → string_bytes x.name ≡ at → x.kind ≡ kind_of MemberBad → string_bytes x.line ≡ line_of MemberBad → Adds (MemberDeviates IsTextOf f at) a (a ++ x ∷ [])
     bad_adds is x named kind line =
@@ -65,6 +66,7 @@ module _ {X V : Type 0} (IsTextOf : V → Text → Type 0) (value : X → V) whe
         only b is n (Gap s) d = absurd d
         only b is n (Reference l) d = absurd d
         only b is n Unlike d = absurd d
+        only b is n (Contradicts t) d = absurd d
 
     pub good_adds : (bytes : Vec ℕ Global) (x : X) → m ≡ member.Good bytes x → Adds (MemberDeviates IsTextOf f at) a a
     good_adds bytes x is = adds_none (MemberDeviates IsTextOf f at) a none
@@ -83,6 +85,7 @@ module _ {X V : Type 0} (IsTextOf : V → Text → Type 0) (value : X → V) whe
         none n (Gap s) d = d
         none n (Reference l) d = d
         none n Unlike d = d
+        none n (Contradicts t) d = d
 
     -- a member that isn't good is no text of the kind
     pub no_text : ((bytes : Vec ℕ Global) (x : X) → m ≡ member.Good bytes x → ⊥) → IsSomeAnd (f at) (IsText IsTextOf) → ⊥
@@ -110,6 +113,7 @@ module _ {X V : Type 0} (IsTextOf : V → Text → Type 0) (value : X → V) whe
     texts n (Gap s) d = absurd d
     texts n (Reference l) d = absurd d
     texts n Unlike d = absurd d
+    texts n (Contradicts t) d = absurd d
 
     some_text : (at : Text) (b : Text) → f at ≡ Some b → IsText IsTextOf b → IsSomeAnd (f at) (IsText IsTextOf)
     some_text at b is t = subst (λ (v : Value). IsSomeAnd v (IsText IsTextOf)) (sym is) t

@@ -28,7 +28,7 @@ use Rattle.archive_lookup.proofs.OnePath.{below_cut, file_cut, folder_lacks, id_
 use Rattle.archive_lookup.proofs.Orders.{before_on, in_of, not_itself}
 use Rattle.archive_lookup.proofs.Picked.{each_after}
 use Rattle.cmd_verify.specs.declared.findings.finding.Finding.{Finding}
-use Rattle.cmd_verify.specs.What.{What, Shows, MemberAbsent, MemberBad, MembersDiffer, Absent, Short, Digest, Second, Gap, Reference, Unlike}
+use Rattle.cmd_verify.specs.What.{What, Shows, MemberAbsent, MemberBad, MembersDiffer, Absent, Short, Digest, Second, Gap, Reference, Unlike, Contradicts}
 use Rattle.cmd_verify.specs.Adding.{Adds}
 use Rattle.cmd_verify.specs.Archived.{FollowsAlike, SecondDeviates, SecondsBelow}
 use Rattle.cmd_verify.specs.Findings.{IsSecond, IsStoredName, segment_of}
@@ -168,6 +168,7 @@ alike_of before file n (Digest t k) d = absurd d
 alike_of before file n (Gap t) d = absurd d
 alike_of before file n (Reference l) d = absurd d
 alike_of before file n Unlike d = absurd d
+alike_of before file n (Contradicts t) d = absurd d
 
 second_of : (stanza : Text) (f : Content) (n : Text) (w : What) → SecondDeviates stanza f n w → (s : Segment) × (w ≡ Second s) × IsSecond stanza f n s
 second_of stanza f n (Second s) d = (s, refl, d)
@@ -180,6 +181,7 @@ second_of stanza f n (Digest t k) d = absurd d
 second_of stanza f n (Gap t) d = absurd d
 second_of stanza f n (Reference l) d = absurd d
 second_of stanza f n Unlike d = absurd d
+second_of stanza f n (Contradicts t) d = absurd d
 
 module _ (stanza : Text) (f : Content) (files : List Stored) (are : AreStored stanza f files) where
   at_of : (k : ℕ) (x : Stored) → RepresentsAt files k x → IsStoredFile stanza f x

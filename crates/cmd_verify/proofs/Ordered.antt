@@ -13,7 +13,7 @@ use Rattle.base_model.specs.Text.{Text, In, text_cmp}
 use Rattle.archive_lookup.proofs.Orders.{in_of, contains_of}
 use Rattle.cmd_verify.specs.declared.findings.finding.Finding.{Finding}
 use Rattle.cmd_verify.specs.declared.findings.finding.FindingKind.{FindingKind}
-use Rattle.cmd_verify.specs.declared.findings.finding.FindingKind.TheVariants.{MemberAbsent, MemberBad, MembersDiffer, Absent, Short, Digest, Second, Gap, Reference, Unlike}
+use Rattle.cmd_verify.specs.declared.findings.finding.FindingKind.TheVariants.{MemberAbsent, MemberBad, MembersDiffer, Absent, Short, Digest, Second, Gap, Reference, Unlike, Contradiction}
 use Rattle.cmd_verify.specs.Exact.{finding_cmp, rank, AreAlike}
 use Rattle.cmd_verify.specs.contracts.findings.finding.FindingOrd.TheImpl as order
 use Rattle.cmd_verify.specs.contracts.findings.finding.FindingOrd.TheImpl.Laws as laws
@@ -33,6 +33,7 @@ kind_is MemberAbsent Second = refl
 kind_is MemberAbsent Gap = refl
 kind_is MemberAbsent Reference = refl
 kind_is MemberAbsent Unlike = refl
+kind_is MemberAbsent Contradiction = refl
 kind_is MemberBad MemberAbsent = refl
 kind_is MemberBad MemberBad = refl
 kind_is MemberBad MembersDiffer = refl
@@ -43,6 +44,7 @@ kind_is MemberBad Second = refl
 kind_is MemberBad Gap = refl
 kind_is MemberBad Reference = refl
 kind_is MemberBad Unlike = refl
+kind_is MemberBad Contradiction = refl
 kind_is MembersDiffer MemberAbsent = refl
 kind_is MembersDiffer MemberBad = refl
 kind_is MembersDiffer MembersDiffer = refl
@@ -53,6 +55,7 @@ kind_is MembersDiffer Second = refl
 kind_is MembersDiffer Gap = refl
 kind_is MembersDiffer Reference = refl
 kind_is MembersDiffer Unlike = refl
+kind_is MembersDiffer Contradiction = refl
 kind_is Absent MemberAbsent = refl
 kind_is Absent MemberBad = refl
 kind_is Absent MembersDiffer = refl
@@ -63,6 +66,7 @@ kind_is Absent Second = refl
 kind_is Absent Gap = refl
 kind_is Absent Reference = refl
 kind_is Absent Unlike = refl
+kind_is Absent Contradiction = refl
 kind_is Short MemberAbsent = refl
 kind_is Short MemberBad = refl
 kind_is Short MembersDiffer = refl
@@ -73,6 +77,7 @@ kind_is Short Second = refl
 kind_is Short Gap = refl
 kind_is Short Reference = refl
 kind_is Short Unlike = refl
+kind_is Short Contradiction = refl
 kind_is Digest MemberAbsent = refl
 kind_is Digest MemberBad = refl
 kind_is Digest MembersDiffer = refl
@@ -83,6 +88,7 @@ kind_is Digest Second = refl
 kind_is Digest Gap = refl
 kind_is Digest Reference = refl
 kind_is Digest Unlike = refl
+kind_is Digest Contradiction = refl
 kind_is Second MemberAbsent = refl
 kind_is Second MemberBad = refl
 kind_is Second MembersDiffer = refl
@@ -93,6 +99,7 @@ kind_is Second Second = refl
 kind_is Second Gap = refl
 kind_is Second Reference = refl
 kind_is Second Unlike = refl
+kind_is Second Contradiction = refl
 kind_is Gap MemberAbsent = refl
 kind_is Gap MemberBad = refl
 kind_is Gap MembersDiffer = refl
@@ -103,6 +110,7 @@ kind_is Gap Second = refl
 kind_is Gap Gap = refl
 kind_is Gap Reference = refl
 kind_is Gap Unlike = refl
+kind_is Gap Contradiction = refl
 kind_is Reference MemberAbsent = refl
 kind_is Reference MemberBad = refl
 kind_is Reference MembersDiffer = refl
@@ -113,6 +121,7 @@ kind_is Reference Second = refl
 kind_is Reference Gap = refl
 kind_is Reference Reference = refl
 kind_is Reference Unlike = refl
+kind_is Reference Contradiction = refl
 kind_is Unlike MemberAbsent = refl
 kind_is Unlike MemberBad = refl
 kind_is Unlike MembersDiffer = refl
@@ -123,6 +132,18 @@ kind_is Unlike Second = refl
 kind_is Unlike Gap = refl
 kind_is Unlike Reference = refl
 kind_is Unlike Unlike = refl
+kind_is Unlike Contradiction = refl
+kind_is Contradiction MemberAbsent = refl
+kind_is Contradiction MemberBad = refl
+kind_is Contradiction MembersDiffer = refl
+kind_is Contradiction Absent = refl
+kind_is Contradiction Short = refl
+kind_is Contradiction Digest = refl
+kind_is Contradiction Second = refl
+kind_is Contradiction Gap = refl
+kind_is Contradiction Reference = refl
+kind_is Contradiction Unlike = refl
+kind_is Contradiction Contradiction = refl
 
 finding_is : (x y : Finding) → order.ghosts.cmp x y ≡ finding_cmp x y
 finding_is x y = ap (λ o. ordering_then (text_cmp (string_bytes x.name) (string_bytes y.name)) (ordering_then o (text_cmp (string_bytes x.line) (string_bytes y.line)))) (kind_is x.kind y.kind)
@@ -153,7 +174,8 @@ from (suc (suc (suc (suc (suc zero))))) = Digest
 from (suc (suc (suc (suc (suc (suc zero)))))) = Second
 from (suc (suc (suc (suc (suc (suc (suc zero))))))) = Gap
 from (suc (suc (suc (suc (suc (suc (suc (suc zero)))))))) = Reference
-from (suc (suc (suc (suc (suc (suc (suc (suc (suc n))))))))) = Unlike
+from (suc (suc (suc (suc (suc (suc (suc (suc (suc zero))))))))) = Unlike
+from (suc (suc (suc (suc (suc (suc (suc (suc (suc (suc n)))))))))) = Contradiction
 
 from_rank : (k : FindingKind) → from (rank k) ≡ k
 unfolding from
@@ -167,6 +189,7 @@ from_rank Second = refl
 from_rank Gap = refl
 from_rank Reference = refl
 from_rank Unlike = refl
+from_rank Contradiction = refl
 
 same_text : (a b : Text) → text_cmp a b ≡ Equal → a ≡ b
 same_text a b e = (bytes_eq-Decides a b).0 (sym (is_eq-slice_cmp a b) ∙ ap is_eq e)

@@ -6,7 +6,7 @@ use Rattle.base_model.specs.Text.{Text, In}
 use Rattle.base_model.specs.Values.{FileEntry}
 use Rattle.base_model.proofs.Pushed.{in_left, in_either}
 use Rattle.cmd_verify.specs.declared.findings.finding.Finding.{Finding}
-use Rattle.cmd_verify.specs.What.{What, Shows, MemberAbsent, MemberBad, MembersDiffer, Absent, Short, Digest, Second, Gap, Reference, Unlike}
+use Rattle.cmd_verify.specs.What.{What, Shows, MemberAbsent, MemberBad, MembersDiffer, Absent, Short, Digest, Second, Gap, Reference, Unlike, Contradicts}
 use Rattle.cmd_verify.specs.Adding.{Adds, OfSome}
 use Rattle.cmd_verify.specs.References.{RefersTo, IsUnlisted, AreUnlisted}
 use Rattle.cmd_verify.proofs.Adding.{in_right, adds_one, adds_none, adds_as, adds_next}
@@ -54,6 +54,7 @@ only at listed l n (Digest t k) d = absurd d
 only at listed l n (Second s) d = absurd d
 only at listed l n (Gap s) d = absurd d
 only at listed l n Unlike d = absurd d
+only at listed l n (Contradicts t) d = absurd d
 
 pub label_known : (at : Text) (listed : List Label) (l : Label) (a b : List Finding) (x : Finding) → ¬ In l listed → Shows x at (Reference l) → b ≡ a ++ x ∷ [] → Adds (IsUnlisted at listed l) a b
 label_known at listed l a b x none shows grown = subst (λ (c : List Finding). Adds (IsUnlisted at listed l) a c) (sym grown)
@@ -89,3 +90,4 @@ references_known at files labels listed are a b p = adds_as (OfSome (IsUnlisted 
     back n (Second s) d = absurd d
     back n (Gap s) d = absurd d
     back n Unlike d = absurd d
+    back n (Contradicts t) d = absurd d

@@ -30,8 +30,9 @@ use Rattle.archive_lookup.specs.OnlyReads.{file_prefix, sum_digits}
 use Rattle.archive_lookup.proofs.OnePath.{one_path}
 use Rattle.archive_lookup.proofs.Looked.{with_prefix}
 use Rattle.archive_lookup.proofs.Orders.{in_map, from_map, not_itself}
-use Rattle.cmd_verify.specs.What.{What, MemberAbsent, MemberBad, MembersDiffer, Absent, Short, Digest, Second, Gap, Reference, Unlike}
-use Rattle.cmd_verify.specs.Findings.{IsText, MemberDeviates, BothDeviate, PairDeviates, OfMain, OfCopy, OfBoth, segment_of, IsStoredName, FileDeviates, part, BytesDeviate, EntryDeviates, SpanDeviates, ReferenceDeviates, ManifestDeviates, OfEntry, OfSpan, OfReference, BackupDeviates, OfMembers, OfManifest, IsFinding, OfArchivePair, OfBackupPair, OfFile, OfBackup, OfListed, EntryIsUnlike}
+use Rattle.cmd_verify.specs.What.{What, MemberAbsent, MemberBad, MembersDiffer, Absent, Short, Digest, Second, Gap, Reference, Unlike, Contradicts}
+use Rattle.cmd_verify.specs.Contradictions.{IsContradiction}
+use Rattle.cmd_verify.specs.Findings.{IsText, MemberDeviates, BothDeviate, PairDeviates, OfMain, OfCopy, OfBoth, segment_of, IsStoredName, FileDeviates, part, BytesDeviate, EntryDeviates, SpanDeviates, ReferenceDeviates, ManifestDeviates, OfEntry, OfSpan, OfReference, BackupDeviates, OfMembers, OfManifest, IsFinding, OfArchivePair, OfBackupPair, OfFile, OfBackup, OfListed, OfContradiction, EntryIsUnlike}
 use Rattle.base_model.proofs.Pushed.{in_left}
 use Rattle.cmd_verify.specs.Clean.{AgreeAt, MembersAgree}
 use Rattle.cmd_verify.proofs.Values.{IsOfOne}
@@ -63,6 +64,7 @@ module _ {V : Type 0} (IsTextOf : V → Text → Type 0) (f : Content) (main : T
   clean_member at v bytes is text name (Gap s) d = d
   clean_member at v bytes is text name (Reference l) d = d
   clean_member at v bytes is text name Unlike d = d
+  clean_member at v bytes is text name (Contradicts t) d = d
 
   clean_both : (bytes : Text) → f main ≡ Some bytes → f (copy_of main) ≡ Some bytes → (name : Text) (what : What) → ¬ BothDeviate IsTextOf f main name what
   clean_both bytes is same name MembersDiffer d =
@@ -78,6 +80,7 @@ module _ {V : Type 0} (IsTextOf : V → Text → Type 0) (f : Content) (main : T
   clean_both bytes is same name (Gap s) d = d
   clean_both bytes is same name (Reference l) d = d
   clean_both bytes is same name Unlike d = d
+  clean_both bytes is same name (Contradicts t) d = d
 
   pub clean_pair : (v : V) → PairIs IsTextOf f main v → AgreeAt f main → (name : Text) (what : What) → ¬ PairDeviates IsTextOf f main name what
   clean_pair v p agree name what (OfMain d) = let b = both v p agree in clean_member main v b.0 b.1 b.3 name what d
@@ -143,6 +146,7 @@ module _ (stanza : Text) (f : Content) (s : Stanza) (h : HasStanza stanza f s) w
   clean_file apart name (Gap k) d = d
   clean_file apart name (Reference l) d = d
   clean_file apart name Unlike d = d
+  clean_file apart name (Contradicts t) d = d
 
 -- ---- a backup
 
@@ -172,9 +176,10 @@ clean_bytes v at whole bytes sum size is lies long digest what d = by what (subs
     by (Gap k) d = d
     by (Reference l) d = d
     by Unlike d = d
+    by (Contradicts t) d = d
 
 module _ (stanza : Text) (f : Content) (s : Stanza) (h : HasStanza stanza f s) (sound : IsSoundStanza s) (agree : MembersAgree stanza f s)
-    (one_backup : IsOfOne IsBackupText) (one_manifest : IsOfOne IsManifestText) where
+    (one_backup : IsOfOne IsBackupText) (one_manifest : IsOfOne IsManifestText) (consistent : (name : Text) (what : What) → ¬ IsContradiction stanza f name what) where
   abbrev value : BackupInfo
   value = backup_value s h.pending
 
@@ -228,6 +233,7 @@ module _ (stanza : Text) (f : Content) (s : Stanza) (h : HasStanza stanza f s) (
     clean_span m is name (Second k) d = d
     clean_span m is name (Reference l) d = d
     clean_span m is name Unlike d = d
+    clean_span m is name (Contradicts t) d = d
 
     clean_reference : (m : Manifest) → IsManifestOf stanza f s b m → (name : Text) (what : What) → ¬ ReferenceDeviates stanza f own m name what
     clean_reference m is name (Reference l) d =
@@ -242,6 +248,7 @@ module _ (stanza : Text) (f : Content) (s : Stanza) (h : HasStanza stanza f s) (
     clean_reference m is name (Second k) d = d
     clean_reference m is name (Gap k) d = d
     clean_reference m is name Unlike d = d
+    clean_reference m is name (Contradicts t) d = d
 
     clean_entry : (m : Manifest) → IsManifestOf stanza f s b m → (e : FileEntry) → In e m.files → (name : Text) (what : What) → ¬ EntryDeviates stanza f own e name what
     clean_entry m is e among name what d =
@@ -291,9 +298,11 @@ module _ (stanza : Text) (f : Content) (s : Stanza) (h : HasStanza stanza f s) (
   clean_listed p b at name (Second k) d = d
   clean_listed p b at name (Gap k) d = d
   clean_listed p b at name (Reference l) d = d
+  clean_listed p b at name (Contradicts t) d = d
 
   -- nothing deviates
   pub clean : (name : Text) (what : What) → ¬ IsFinding stanza f name what
+  clean name what (OfContradiction d) = consistent name what d
   clean name what (OfArchivePair d) = clean_pair IsArchiveText f (archive_info stanza) (archive_value s) h.archive_pair agree.archive name what d
   clean name what (OfBackupPair d) = clean_pair IsBackupText f (backup_info stanza) value h.backup_pair agree.backup name what d
   clean name what (OfFile d) = clean_file stanza f s h sound.apart name what d

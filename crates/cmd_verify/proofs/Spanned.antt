@@ -21,7 +21,7 @@ use Rattle.archive_lookup.specs.declared.stored.files.Stored.{Stored}
 use Rattle.archive_lookup.specs.Stored.{archive_path, AreStored}
 use Rattle.archive_lookup.proofs.OnePath.{one_path}
 use Rattle.cmd_verify.specs.declared.findings.finding.Finding.{Finding}
-use Rattle.cmd_verify.specs.What.{What, MemberAbsent, MemberBad, MembersDiffer, Absent, Short, Digest, Second, Gap, Reference, Unlike}
+use Rattle.cmd_verify.specs.What.{What, MemberAbsent, MemberBad, MembersDiffer, Absent, Short, Digest, Second, Gap, Reference, Unlike, Contradicts}
 use Rattle.cmd_verify.specs.Findings.{IsStored, SpanDeviates}
 use Rattle.cmd_verify.specs.Adding.{Adds}
 use Rattle.cmd_verify.specs.Gaps.{IsNear, HasWhole, Gaps}
@@ -83,6 +83,7 @@ module _ (stanza : Text) (f : Content) (own : Label) (m : Manifest) (files : Lis
       by n (Second t) d = d
       by n (Reference l) d = d
       by n Unlike d = d
+      by n (Contradicts t) d = d
 
   pub spans_known : (w : WalPart) → IsWalPart w → m.wal ≡ Some w → (at : Text) → at ≡ label_folder stanza own → (stored : List Segment) → ((s : Segment) → In s stored ↔ HasWhole id w.span files s)
       → (a b : List Finding) → Adds (Gaps at stored w.size.0 w.span) a b → Adds (SpanDeviates stanza f own m) a b
@@ -99,6 +100,7 @@ module _ (stanza : Text) (f : Content) (own : Label) (m : Manifest) (files : Lis
       to n (Second t) d = d
       to n (Reference l) d = d
       to n Unlike d = d
+      to n (Contradicts t) d = d
 
       back : (n : Text) (u : What) → SpanDeviates stanza f own m n u → Gaps at stored w.size.0 w.span n u
       back n (Gap s) d = (d.0 ∙ sym at_is, some_at (λ w. IsWithinSpan w.size.0 w.span s) m.wal w some d.1, λ k. d.2 (stored_of w.span s ((model s).0 k)))
@@ -111,3 +113,4 @@ module _ (stanza : Text) (f : Content) (own : Label) (m : Manifest) (files : Lis
       back n (Second t) d = d
       back n (Reference l) d = d
       back n Unlike d = d
+      back n (Contradicts t) d = d

@@ -19,7 +19,7 @@ use Rattle.cmd_verify.specs.declared.findings.finding.Finding.{Finding}
 use Rattle.cmd_verify.specs.declared.findings.finding.Mark.{Mark}
 use Rattle.cmd_verify.specs.declared.findings.place_sum.Lies.{Lies}
 use Rattle.cmd_verify.specs.declared.findings.place_sum.Lies.TheVariants.{All}
-use Rattle.cmd_verify.specs.What.{What, MemberAbsent, MemberBad, MembersDiffer, Absent, Short, Digest, Second, Gap, Reference, Unlike}
+use Rattle.cmd_verify.specs.What.{What, MemberAbsent, MemberBad, MembersDiffer, Absent, Short, Digest, Second, Gap, Reference, Unlike, Contradicts}
 use Rattle.cmd_verify.specs.Adding.{Adds, OfSome}
 use Rattle.cmd_verify.specs.Archived.{HasOther, SecondDeviates}
 use Rattle.cmd_verify.specs.Findings.{BytesDeviate, part, segment_of, FileDeviates}
@@ -139,6 +139,7 @@ module _ (stanza : Text) (f : Content) (files : List Stored) (are : AreStored st
   one_to n file st is s some b here long (Gap k) d = absurd d
   one_to n file st is s some b here long (Reference l) d = absurd d
   one_to n file st is s some b here long Unlike d = absurd d
+  one_to n file st is s some b here long (Contradicts t) d = absurd d
 
   second_to : (n : Text) (w : What) → SecondDeviates stanza f n w → FileDeviates stanza f n w
   second_to n (Second s) d = d
@@ -151,6 +152,7 @@ module _ (stanza : Text) (f : Content) (files : List Stored) (are : AreStored st
   second_to n (Gap s) d = absurd d
   second_to n (Reference l) d = absurd d
   second_to n Unlike d = absurd d
+  second_to n (Contradicts t) d = absurd d
 
   to : (n : Text) (w : What) → Parts n w → FileDeviates stanza f n w
   to n w (inr d) = second_to n w d
@@ -195,6 +197,7 @@ module _ (stanza : Text) (f : Content) (files : List Stored) (are : AreStored st
   back n (Gap s) d = absurd d
   back n (Reference l) d = absurd d
   back n Unlike d = absurd d
+  back n (Contradicts t) d = absurd d
 
   pub files_add : (a b c : List Finding) → Adds (OfSome (HasOther f) files) a b → Adds (SecondDeviates stanza f) b c → Adds (FileDeviates stanza f) a c
   files_add a b c p q = adds_as Parts (FileDeviates stanza f) a c to back (adds_on (OfSome (HasOther f) files) (SecondDeviates stanza f) a b c p q)

@@ -4,6 +4,8 @@ use Rattle.std.specs.Prelude.{IfSome}
 use Rattle.std.specs.List.Sorted.{IsStrictlySortedBy}
 use Rattle.base_devices.specs.Content.{Content}
 use Rattle.base_model.specs.declared.clusters.Cluster.{Cluster}
+use Rattle.base_model.specs.declared.clusters.ArchiveInfo.{ArchiveInfo as RustArchive}
+use Rattle.base_model.specs.declared.clusters.BackupInfo.{BackupInfo as RustBackup}
 use Rattle.base_model.specs.declared.labels.Label.{Label}
 use Rattle.base_model.specs.declared.files.Manifest.{Manifest as RustManifest}
 use Rattle.base_model.specs.declared.files.FileEntry.{FileEntry as RustEntry}
@@ -12,15 +14,15 @@ use Rattle.archive_lookup.specs.Stored.{AreStored}
 use Rattle.cmd_verify.specs.Members.{ValueSo}
 use Rattle.base_model.specs.Text.{Text, In}
 use Rattle.base_model.specs.Names.{archive_info, backup_info, manifest_name}
-use Rattle.base_model.specs.Values.{BackupInfo, Entry, Manifest, file_entry_of, manifest_of}
+use Rattle.base_model.specs.Values.{BackupInfo, Entry, Manifest, file_entry_of, manifest_of, archive_info_of, backup_info_of}
 use Rattle.base_model.specs.InfoFiles.{IsArchiveText, IsBackupText, IsLabel, IsBackupInfo, AreListed}
 use Rattle.base_model.specs.ManifestText.{IsManifestText, IsManifest}
 use Rattle.base_model.specs.Pair.{PairIs}
 use Rattle.base_model.specs.Log.{Lists}
 use Rattle.archive_lookup.proofs.Orders.{in_map, from_map}
 use Rattle.cmd_verify.specs.declared.findings.finding.Finding.{Finding}
-use Rattle.cmd_verify.specs.What.{What, MemberAbsent, MemberBad, MembersDiffer, Absent, Short, Digest, Second, Gap, Reference, Unlike, Shows}
-use Rattle.cmd_verify.specs.Findings.{PairDeviates, FileDeviates, EntryDeviates, SpanDeviates, ReferenceDeviates, ManifestDeviates, OfEntry, OfSpan, OfReference, BackupDeviates, OfMembers, OfManifest, IsFinding, OfArchivePair, OfBackupPair, OfFile, OfBackup, OfListed, EntryIsUnlike, ListedDeviates}
+use Rattle.cmd_verify.specs.What.{What, MemberAbsent, MemberBad, MembersDiffer, Absent, Short, Digest, Second, Gap, Reference, Unlike, Contradicts, Shows}
+use Rattle.cmd_verify.specs.Findings.{PairDeviates, FileDeviates, EntryDeviates, SpanDeviates, ReferenceDeviates, ManifestDeviates, OfEntry, OfSpan, OfReference, BackupDeviates, OfMembers, OfManifest, IsFinding, OfArchivePair, OfBackupPair, OfFile, OfBackup, OfListed, OfContradiction, EntryIsUnlike, ListedDeviates}
 use Rattle.cmd_verify.specs.References.{AreUnlisted, RefersTo}
 use Rattle.cmd_verify.specs.Adding.{Adds, AddsMost, OfSome, Never}
 use Rattle.cmd_verify.specs.Clean.{MembersAgree}
@@ -30,6 +32,10 @@ use Rattle.cmd_verify.specs.Sharing.{OwnEntryDeviates, OwnDeviates, IsElsewhere}
 use Rattle.cmd_verify.proofs.Adding.{Either, adds_on, adds_as}
 use Rattle.cmd_verify.proofs.Most.{most_of, most_as, most_on, most_all}
 use Rattle.cmd_verify.proofs.Sound.{one_value, clean}
+use Rattle.cmd_verify.proofs.Consistent.{consistent}
+use Rattle.cmd_verify.specs.declared.findings.whole_check.PairsRead.{PairsRead}
+use Rattle.cmd_verify.specs.Contradictions.{IsContradiction, OfHistories, OfArchived, OfContradicting, HistoriesContradict, FileContradicts, EntryContradicts}
+use Rattle.cmd_verify.specs.PairsRead.{HavePairsRead}
 use Rattle.cmd_verify.proofs.Values.{if_at}
 use Rattle.base_model.specs.Repository.{Stanza, IsSoundStanza}
 use Rattle.base_model.specs.Represents.{HasStanza}
@@ -64,6 +70,7 @@ module _ (stanza : Text) (f : Content) (labels : List Label) (listed : (l : Labe
   to_reference name (Second s) h = h
   to_reference name (Gap s) h = h
   to_reference name Unlike h = h
+  to_reference name (Contradicts t) h = h
 
   from_reference : (name : Text) (what : What) → ReferenceDeviates stanza f own m name what → AreUnlisted (manifest_name stanza own) m.files labels name what
   from_reference name (Reference l) h = (h.0, h.1, λ k. h.2 ((listed l).0 k))
@@ -76,6 +83,7 @@ module _ (stanza : Text) (f : Content) (labels : List Label) (listed : (l : Labe
   from_reference name (Second s) h = h
   from_reference name (Gap s) h = h
   from_reference name Unlike h = h
+  from_reference name (Contradicts t) h = h
 
   pub references_add : (a b : List Finding) → Adds (AreUnlisted (manifest_name stanza own) m.files labels) a b → Adds (ReferenceDeviates stanza f own m) a b
   references_add a b p = adds_as (AreUnlisted (manifest_name stanza own) m.files labels) (ReferenceDeviates stanza f own m) a b to_reference from_reference p
@@ -186,13 +194,14 @@ labels_known stanza o p same v one pair labels is = subst (λ (q : Option Conten
 
 module _ (stanza : Text) (f : Content) (v : BackupInfo) (one : IsOfOne IsBackupText) (pair : PairIs IsBackupText f (backup_info stanza) v) where
   abbrev All : Text → What → Type 0
-  All = Either (PairsDeviate stanza f) (Either (FileDeviates stanza f) (OfSome (ListedDeviates stanza f v.history) v.backups))
+  All = Either (PairsDeviate stanza f) (Either (FileDeviates stanza f) (Either (IsContradiction stanza f) (OfSome (ListedDeviates stanza f v.history) v.backups)))
 
   all_to : (name : Text) (what : What) → All name what → IsFinding stanza f name what
   all_to name what (inl (inl h)) = OfArchivePair h
   all_to name what (inl (inr h)) = OfBackupPair h
   all_to name what (inr (inl h)) = OfFile h
-  all_to name what (inr (inr h)) = ⊎_elim (λ d. OfBackup h.0.label (lists stanza f v one pair h.0.label h.0 h.1 refl) d) (λ d. OfListed v pair h.0 h.1 d) h.2
+  all_to name what (inr (inr (inl h))) = OfContradiction h
+  all_to name what (inr (inr (inr h))) = ⊎_elim (λ d. OfBackup h.0.label (lists stanza f v one pair h.0.label h.0 h.1 refl) d) (λ d. OfListed v pair h.0 h.1 d) h.2
 
   all_back : (name : Text) (what : What) → IsFinding stanza f name what → All name what
   all_back name what (OfArchivePair h) = inl (inl h)
@@ -200,13 +209,15 @@ module _ (stanza : Text) (f : Content) (v : BackupInfo) (one : IsOfOne IsBackupT
   all_back name what (OfFile h) = inr (inl h)
   all_back name what (OfBackup own k h) =
       let e = is_listed stanza f v one pair own k in
-      inr (inr (e.0, e.1, inl (subst (λ (l : Label). BackupDeviates stanza f l name what) (sym e.2) h)))
+      inr (inr (inr (e.0, e.1, inl (subst (λ (l : Label). BackupDeviates stanza f l name what) (sym e.2) h))))
   all_back name what (OfListed w p e at d) =
       let same : w ≡ v = one_value IsBackupText f (backup_info stanza) one w v p pair in
-      inr (inr (e, subst (λ (x : BackupInfo). In e x.backups) same at, inr (subst (λ (x : BackupInfo). EntryIsUnlike stanza f x.history e name what) same d)))
+      inr (inr (inr (e, subst (λ (x : BackupInfo). In e x.backups) same at, inr (subst (λ (x : BackupInfo). EntryIsUnlike stanza f x.history e name what) same d))))
+  all_back name what (OfContradiction h) = inr (inr (inl h))
 
-  pub all_add : (a b c d : List Finding) → Adds (PairsDeviate stanza f) a b → Adds (FileDeviates stanza f) b c → Adds (OfSome (ListedDeviates stanza f v.history) v.backups) c d → Adds (IsFinding stanza f) a d
-  all_add a b c d p q r = adds_as All (IsFinding stanza f) a d all_to all_back (adds_on (PairsDeviate stanza f) _ a b d p (adds_on (FileDeviates stanza f) (OfSome (ListedDeviates stanza f v.history) v.backups) b c d q r))
+  pub all_add : (a b c k d : List Finding) → Adds (PairsDeviate stanza f) a b → Adds (FileDeviates stanza f) b c → Adds (IsContradiction stanza f) c k → Adds (OfSome (ListedDeviates stanza f v.history) v.backups) k d → Adds (IsFinding stanza f) a d
+  all_add a b c k d p q x r = adds_as All (IsFinding stanza f) a d all_to all_back
+      (adds_on (PairsDeviate stanza f) _ a b d p (adds_on (FileDeviates stanza f) _ b c d q (adds_on (IsContradiction stanza f) (OfSome (ListedDeviates stanza f v.history) v.backups) c k d x r)))
 
   -- what is reported elsewhere is a listed backup's own
   there : (name : Text) (what : What) → IsElsewhere stanza f name what → OfSome (λ (x : Entry). OwnDeviates stanza f x.label) v.backups name what
@@ -252,22 +263,68 @@ pairs_known stanza (Some f) p one two a b c same e e2 x y =
     adds_on (PairDeviates IsArchiveText f (archive_info stanza)) (PairDeviates IsBackupText f (backup_info stanza)) a b c
     (subst (λ (n : Text). Adds (PairDeviates IsArchiveText f n) a b) e x) (subst (λ (n : Text). Adds (PairDeviates IsBackupText f n) b c) e2 here)
 
-pub whole_known : (stanza : Text) (o p q : Option Content) (v : BackupInfo) (history : List Cluster) (backups : List Entry) (a b c d e : List Finding) → a ≡ [] → p ≡ o → q ≡ o → IsOfOne IsBackupText → history ≡ v.history → backups ≡ v.backups
-    → IfSome o (λ f. PairIs IsBackupText f (backup_info stanza) v) → IfSome o (λ f. Adds (PairsDeviate stanza f) a b) → IfSome p (λ f. Adds (FileDeviates stanza f) b c)
-    → IfSome q (λ f. AddsMost (OfSome (ListedDeviates stanza f history) backups) (OfSome (λ (x : Entry). OwnDeviates stanza f x.label) backups) (IsElsewhere stanza f) c d)
+pub values_known : (stanza : Text) (o p : Option Content) (one two : Text) (a : Option RustArchive) (b : Option RustBackup) → p ≡ o → one ≡ archive_info stanza → two ≡ backup_info stanza → IfSome o (λ f. ValueSo IsArchiveText archive_info_of f one a)
+    → IfSome p (λ f. ValueSo IsBackupText backup_info_of f two b) → IfSome o (λ f. ValueSo IsArchiveText archive_info_of f (archive_info stanza) a × ValueSo IsBackupText backup_info_of f (backup_info stanza) b)
+values_known stanza None p one two a b same e e2 x y = tt
+values_known stanza (Some f) p one two a b same e e2 x y =
+    let Q : Option Content → Type 0 = λ o. IfSome o (λ f. ValueSo IsBackupText backup_info_of f two b) in
+    let here : Q (Some f) = subst Q same y in
+    (subst (λ (n : Text). ValueSo IsArchiveText archive_info_of f n a) e x, subst (λ (n : Text). ValueSo IsBackupText backup_info_of f n b) e2 here)
+
+-- the list of files, by another name
+pub stored_as : (stanza : Text) (o p : Option Content) → p ≡ o → (files others : List Stored) → others ≡ files → IfSome p (λ f. AreStored stanza f files) → IfSome o (λ f. AreStored stanza f others)
+stored_as stanza o p same files others is are = subst (λ (q : Option Content). IfSome q (λ f. AreStored stanza f others)) same (subst (λ (fs : List Stored). IfSome p (λ f. AreStored stanza f fs)) (sym is) are)
+
+pub whole_known : (stanza : Text) (o p q : Option Content) (v : BackupInfo) (pairs : PairsRead) (stored : List Stored) (history : List Cluster) (backups : List Entry) (a b c k d e : List Finding) → a ≡ [] → p ≡ o → q ≡ o → IsOfOne IsBackupText → history ≡ v.history → backups ≡ v.backups
+    → IfSome o (λ f. PairIs IsBackupText f (backup_info stanza) v) → IfSome o (λ f. HavePairsRead stanza f pairs) → IfSome p (λ f. AreStored stanza f stored)
+    → IfSome o (λ f. Adds (PairsDeviate stanza f) a b) → IfSome p (λ f. Adds (FileDeviates stanza f) b c)
+    → ((f : Content) → HavePairsRead stanza f pairs → PairIs IsBackupText f (backup_info stanza) v → AreStored stanza f stored → Adds (IsContradiction stanza f) c k)
+    → IfSome q (λ f. AddsMost (OfSome (ListedDeviates stanza f history) backups) (OfSome (λ (x : Entry). OwnDeviates stanza f x.label) backups) (IsElsewhere stanza f) k d)
     → IsStrictlySortedBy finding_cmp e → ((x : Finding) → In x e → In x d) → ((x : Finding) → In x d → (y : Finding) × In y e × AreAlike x y) → IfSome o (λ f. AreFindings stanza f e)
-whole_known stanza None p q v history backups a b c d e start same also one clusters entries pair x y z order each all = tt
-whole_known stanza (Some f) p q v history backups a b c d e start same also one clusters entries pair x y z order each all =
+whole_known stanza None p q v pairs stored history backups a b c k d e start same also one clusters entries pair values are x y t z order each all = tt
+whole_known stanza (Some f) p q v pairs stored history backups a b c k d e start same also one clusters entries pair values are x y t z order each all =
     let P : Option Content → Type 0 = λ o. IfSome o (λ f. Adds (FileDeviates stanza f) b c) in
-    let Q : Option Content → Type 0 = λ o. IfSome o (λ f. AddsMost (OfSome (ListedDeviates stanza f history) backups) (OfSome (λ (x : Entry). OwnDeviates stanza f x.label) backups) (IsElsewhere stanza f) c d) in
+    let Q : Option Content → Type 0 = λ o. IfSome o (λ f. AddsMost (OfSome (ListedDeviates stanza f history) backups) (OfSome (λ (x : Entry). OwnDeviates stanza f x.label) backups) (IsElsewhere stanza f) k d) in
+    let R : Option Content → Type 0 = λ o. IfSome o (λ f. AreStored stanza f stored) in
+    let there : R (Some f) = subst R same are in
     let files : P (Some f) = subst P same y in
     let listed : Q (Some f) = subst Q also z in
-    let most = subst (λ (h : List Cluster). AddsMost (OfSome (ListedDeviates stanza f h) backups) (OfSome (λ (x : Entry). OwnDeviates stanza f x.label) backups) (IsElsewhere stanza f) c d) clusters listed in
-    let own = listed_all stanza f v one pair c d
-    (subst (λ (es : List Entry). AddsMost (OfSome (ListedDeviates stanza f v.history) es) (OfSome (λ (x : Entry). OwnDeviates stanza f x.label) es) (IsElsewhere stanza f) c d) entries most) in
-    in_order stanza f d e (all_add stanza f v one pair [] b c d (subst (λ (l : List Finding). Adds (PairsDeviate stanza f) l b) start x) files own) order each all
+    let most = subst (λ (h : List Cluster). AddsMost (OfSome (ListedDeviates stanza f h) backups) (OfSome (λ (x : Entry). OwnDeviates stanza f x.label) backups) (IsElsewhere stanza f) k d) clusters listed in
+    let own = listed_all stanza f v one pair k d
+    (subst (λ (es : List Entry). AddsMost (OfSome (ListedDeviates stanza f v.history) es) (OfSome (λ (x : Entry). OwnDeviates stanza f x.label) es) (IsElsewhere stanza f) k d) entries most) in
+    in_order stanza f d e (all_add stanza f v one pair [] b c k d (subst (λ (l : List Finding). Adds (PairsDeviate stanza f) l b) start x) files (t f values pair there) own) order each all
 
-pub clean_known : (stanza : Text) (o : Option Content) (e : List Finding) → IsOfOne IsBackupText → IsOfOne IsManifestText → IfSome o (λ f. AreFindings stanza f e)
+pub clean_known : (stanza : Text) (o : Option Content) (e : List Finding) → IsOfOne IsArchiveText → IsOfOne IsBackupText → IsOfOne IsManifestText → IfSome o (λ f. AreFindings stanza f e)
     → IfSome o (λ f. (s : Stanza) → HasStanza stanza f s → IsSoundStanza s → MembersAgree stanza f s → e ≡ [])
-clean_known stanza None e one also are = tt
-clean_known stanza (Some f) e one also are = λ s has sound agree. none_found stanza f e are (clean stanza f s has sound agree one also)
+clean_known stanza None e one_archive one also are = tt
+clean_known stanza (Some f) e one_archive one also are = λ s has sound agree. none_found stanza f e are (clean stanza f s has sound agree one also (consistent stanza f s has sound one_archive one))
+
+-- ---- contradictions
+
+module _ (stanza : Text) (f : Content) (v : BackupInfo) (one : IsOfOne IsBackupText) (pair : PairIs IsBackupText f (backup_info stanza) v) where
+  abbrev Ways : Text → What → Type 0
+  Ways = Either (FileContradicts stanza f) (Either (HistoriesContradict stanza f) (OfSome (EntryContradicts stanza v.backups) v.backups))
+
+  ways_to : (name : Text) (what : What) → Ways name what → IsContradiction stanza f name what
+  ways_to name what (inl h) = OfArchived h
+  ways_to name what (inr (inl h)) = OfHistories h
+  ways_to name what (inr (inr h)) = OfContradicting v pair h.0 h.1 h.2
+
+  ways_back : (name : Text) (what : What) → IsContradiction stanza f name what → Ways name what
+  ways_back name what (OfArchived h) = inl h
+  ways_back name what (OfHistories h) = inr (inl h)
+  ways_back name what (OfContradicting w p e at h) =
+      let same : w ≡ v = one_value IsBackupText f (backup_info stanza) one w v p pair in
+      inr (inr (e, subst (λ (x : BackupInfo). In e x.backups) same at, subst (λ (x : BackupInfo). EntryContradicts stanza x.backups e name what) same h))
+
+  contradictions_add : (a b c d : List Finding) → Adds (FileContradicts stanza f) a b → Adds (HistoriesContradict stanza f) b c → Adds (OfSome (EntryContradicts stanza v.backups) v.backups) c d → Adds (IsContradiction stanza f) a d
+  contradictions_add a b c d p q r = adds_as Ways (IsContradiction stanza f) a d ways_to ways_back
+      (adds_on (FileContradicts stanza f) _ a b d p (adds_on (HistoriesContradict stanza f) (OfSome (EntryContradicts stanza v.backups) v.backups) b c d q r))
+
+pub contradictions_known : (stanza : Text) (v : BackupInfo) (pairs : PairsRead) (stored : List Stored) (name : Text) → name ≡ backup_info stanza → IsOfOne IsBackupText → (a b c d : List Finding) →
+    ((stanza : Text) (f : Content) → ValueSo IsArchiveText archive_info_of f (archive_info stanza) pairs.archive → AreStored stanza f stored → Adds (FileContradicts stanza f) a b)
+    → ((stanza : Text) (f : Content) → name ≡ backup_info stanza → ValueSo IsArchiveText archive_info_of f (archive_info stanza) pairs.archive → ValueSo IsBackupText backup_info_of f (backup_info stanza) pairs.backup → Adds (HistoriesContradict stanza f) b c)
+    → Adds (OfSome (EntryContradicts stanza v.backups) v.backups) c d
+    → (f : Content) → HavePairsRead stanza f pairs → PairIs IsBackupText f (backup_info stanza) v → AreStored stanza f stored → Adds (IsContradiction stanza f) a d
+contradictions_known stanza v pairs stored name is one a b c d p q r f values pair are =
+    contradictions_add stanza f v one pair a b c d (p stanza f values.0 are) (q stanza f is values.0 values.1) r

@@ -26,6 +26,7 @@ rank kinds.Second = 6
 rank kinds.Gap = 7
 rank kinds.Reference = 8
 rank kinds.Unlike = 9
+rank kinds.Contradiction = 10
 
 -- by name, then by kind, then by line; names and lines in byte order
 abbrev pub finding_cmp : Finding → Finding → Ordering

@@ -21,6 +21,7 @@ use Rattle.base_model.specs.Place.{place}
 use Rattle.base_model.specs.Repository.{IsWithinSpan}
 use Rattle.base_model.specs.Represents.{IsArchivePlace}
 use Rattle.base_model.specs.Log.{Lists}
+use Rattle.cmd_verify.specs.Contradictions.{IsContradiction}
 use Rattle.cmd_verify.specs.What.{What, MemberAbsent, MemberBad, MembersDiffer, Absent, Short, Digest, Second, Gap, Reference, Unlike}
 
 -- ---- a pair
@@ -172,7 +173,8 @@ ListedDeviates stanza f history e name what =
 
 -- ---- the whole
 
--- f deviates so at the name: in one of its two pairs, a stored segment, a listed backup, or an entry's manifest
+-- f deviates so at the name: in one of its two pairs, a stored segment, a listed backup, or an entry's manifest; or it
+-- contradicts itself
 pub data IsFinding (stanza : Text) (f : Content) (name : Text) (what : What) : Type 0 where
   OfArchivePair : PairDeviates IsArchiveText f (archive_info stanza) name what → IsFinding stanza f name what
   OfBackupPair : PairDeviates IsBackupText f (backup_info stanza) name what → IsFinding stanza f name what
@@ -181,3 +183,4 @@ pub data IsFinding (stanza : Text) (f : Content) (name : Text) (what : What) : T
       → IsFinding stanza f name what
   OfListed : (v : BackupInfo) → PairIs IsBackupText f (backup_info stanza) v → (e : Entry) → In e v.backups
       → EntryIsUnlike stanza f v.history e name what → IsFinding stanza f name what
+  OfContradiction : IsContradiction stanza f name what → IsFinding stanza f name what

@@ -1,4 +1,5 @@
 pub mod What
+pub mod Contradictions
 pub mod Findings
 pub mod Adding
 pub mod Clean
@@ -14,3 +15,5 @@ pub mod Sharing
 pub mod Verifying
 pub mod Texts
 pub mod Looking
+pub mod Contradicting
+pub mod PairsRead

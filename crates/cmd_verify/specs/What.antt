@@ -9,6 +9,15 @@ use Rattle.cmd_verify.specs.declared.findings.finding.FindingKind.{FindingKind}
 use Rattle.cmd_verify.specs.declared.findings.finding.FindingKind.TheVariants as kinds
 use Rattle.cmd_verify.specs.declared.findings.finding.Finding.{Finding}
 
+-- how the pairs, the archive's names and the list of backups contradict each other
+pub data Contradiction : Type 0 where
+  -- the histories of the two pairs don't fit together
+  HistoriesDiffer : Contradiction
+  -- the file is archived under a cluster that isn't in the history
+  NoCluster : Contradiction
+  -- the prior of the backup is of another cluster
+  OtherPrior : Contradiction
+
 -- what is wrong with a file
 pub data What : Type 0 where
   -- a member of a pair isn't there
@@ -31,6 +40,8 @@ pub data What : Type 0 where
   Reference : Label → What
   -- the manifest states another backup than its entry in backup.info does
   Unlike : What
+  -- what is stated there contradicts what is stated elsewhere
+  Contradicts : Contradiction → What
 
 abbrev pub kind_of : What → FindingKind
 kind_of MemberAbsent = kinds.MemberAbsent
@@ -43,6 +54,12 @@ kind_of (Second s) = kinds.Second
 kind_of (Gap s) = kinds.Gap
 kind_of (Reference l) = kinds.Reference
 kind_of Unlike = kinds.Unlike
+kind_of (Contradicts c) = kinds.Contradiction
+
+abbrev pub contradiction_line : Contradiction → Text
+contradiction_line HistoriesDiffer = codes "history differs from archive.info"
+contradiction_line NoCluster = codes "cluster not in the history"
+contradiction_line OtherPrior = codes "prior of another cluster"
 
 -- what is reported after the name and `: `
 abbrev pub line_of : What → Text
@@ -56,6 +73,7 @@ line_of (Second s) = codes "second name of " ++ segment_text s
 line_of (Gap s) = codes "segment " ++ segment_text s ++ codes " absent"
 line_of (Reference l) = codes "refers to " ++ label_text l ++ codes ", not listed"
 line_of Unlike = codes "unlike its entry"
+line_of (Contradicts c) = contradiction_line c
 
 -- it states that the name deviates so
 pub record Shows (x : Finding) (name : Text) (what : What) : Type 0 where

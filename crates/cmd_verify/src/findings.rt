@@ -11,12 +11,14 @@
 //!   deviates, each once, by name, kind and line. There is none where the repository is sound and the members of its
 //!   pairs agree.
 //! - What may deviate: members of pairs, stored segments, files of listed backups, segments that they need, labels that
-//!   they refer to, manifests unlike their entries.
+//!   they refer to, and manifests unlike their entries. Besides, the two histories may differ, a file may be of no cluster
+//!   of the history, and a prior of another cluster.
 //! - It only reads. `Disk` comes only where the disk's count of faults rose, and `TooMany` only where more files are
 //!   archived than can be listed.
 
 mod archive;
 mod backups;
+mod contradictions;
 mod entries;
 mod files;
 mod finding;
@@ -24,6 +26,7 @@ mod gaps;
 mod order;
 mod pairs;
 mod place_sum;
+mod priors;
 mod references;
 mod seconds;
 mod shared_files;

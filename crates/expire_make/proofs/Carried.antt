@@ -15,6 +15,7 @@ use Rattle.base_model.specs.Steady.{IsSteady}
 use Rattle.expire_rules.specs.declared.rules.Rules.{Rules}
 use Rattle.expire_rules.specs.Labels.{labels_of}
 use Rattle.expire_make.specs.Losing.{TakesAway, IsUnlisted, IsUnneeded}
+use Rattle.expire_make.specs.Emptying.{HasNoUnlisted}
 use Rattle.expire_make.specs.Removed.{Counted}
 use Rattle.expire_make.specs.Unneeded.{ids_in}
 use Rattle.expire_make.specs.Planning.{keeps_by}
@@ -28,6 +29,9 @@ copy_synced stanza r a steady = steady.fixed (copy_of (backup_info stanza)) (Pai
 module _ (stanza : Text) (es fs : List rust_entry.Entry) (same : es ≡ fs) where
   pub unlisted_as : (a b : DiskState) → TakesAway (IsUnlisted stanza (labels_of (map entry_of es))) a b → TakesAway (IsUnlisted stanza (labels_of (map entry_of fs))) a b
   unlisted_as a b p = subst (λ (xs : List rust_entry.Entry). TakesAway (IsUnlisted stanza (labels_of (map entry_of xs))) a b) same p
+
+  pub no_unlisted_as : (d : DiskState) → HasNoUnlisted stanza (labels_of (map entry_of es)) d → HasNoUnlisted stanza (labels_of (map entry_of fs)) d
+  no_unlisted_as d p = subst (λ (xs : List rust_entry.Entry). HasNoUnlisted stanza (labels_of (map entry_of xs)) d) same p
 
   module _ (rules : Rules) (current : ℕ) where
     pub unneeded_as : (a b : DiskState) → TakesAway (IsUnneeded stanza (keeps_by rules current (map entry_of es))) a b → TakesAway (IsUnneeded stanza (keeps_by rules current (map entry_of fs))) a b

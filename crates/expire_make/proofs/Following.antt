@@ -2,9 +2,7 @@
 use Rattle.std.proofs.Common.{◌≡◌, ℕ, List, ◌++◌, Option, Some, ap, ◌∙◌, sym, subst}
 use Rattle.std.specs.Prelude.{IfOk, IsSome, Result}
 use Rattle.base_devices.specs.Content.{Content}
-use Rattle.base_devices.specs.Moments.{View, LeavesNoMore}
-use Rattle.base_disk.specs.Store.{ChangesOnly}
-use Rattle.base_disk.proofs.Changes.{only_on, only_rests}
+use Rattle.base_devices.specs.Moments.{View}
 use Rattle.base_model.specs.Now.{NowRepresents}
 use Rattle.base_model.specs.Text.{Text}
 use Rattle.base_model.specs.Repository.{Stanza, Repository}
@@ -15,7 +13,7 @@ use Rattle.base_model.proofs.Waited.{all_following, part_following, after_follow
 use Rattle.expire_rules.specs.declared.rules.Rules.{Rules}
 use Rattle.expire_rules.specs.Condemned.{condemned_labels}
 use Rattle.expire_make.specs.declared.expiry_run.Expired.{Expired}
-use Rattle.expire_make.specs.Expiry.{IsPartOfExpiry, IsTouched, listed}
+use Rattle.expire_make.specs.Expiry.{IsPartOfExpiry, listed}
 use Rattle.expire_make.specs.Removed.{CountsGone}
 
 -- a part of an expiry after moves that are done
@@ -40,8 +38,3 @@ module _ (stanza : Text) (rules : Rules) (moment : ℕ) (old mid : Option Conten
 
 pub removed_after : (stanza : Text) (old mid new : Option Content) → mid ≡ old → {E : Type 0} (result : Result Expired E) → IfOk result (λ e. CountsGone stanza e.removed mid new) → IfOk result (λ e. CountsGone stanza e.removed old new)
 removed_after stanza old mid new same result h = subst (λ (o : Option Content). IfOk result (λ e. CountsGone stanza e.removed o new)) same h
-
-pub touched_after : (stanza : Text) (rules : Rules) (moment : ℕ) (s : Stanza) (a b d : View) → LeavesNoMore a b → b.now ≡ a.now → IsSome a.now → NowRepresents stanza (Some s) a.now
-    → ((s : Stanza) → IsSome b.now → NowRepresents stanza (Some s) b.now → ChangesOnly (IsTouched stanza rules moment s) b d) → ChangesOnly (IsTouched stanza rules moment s) a d
-touched_after stanza rules moment s a b d rests same known now h = only_on (IsTouched stanza rules moment s) a b d (only_rests (IsTouched stanza rules moment s) a b rests same)
-    (h s (subst (λ (o : Option Content). IsSome o) (sym same) known) (subst (λ (o : Option Content). NowRepresents stanza (Some s) o) (sym same) now))

@@ -26,5 +26,10 @@ pub mod Gone
 pub mod Alike
 pub mod Receipts
 pub mod Touched
+pub mod OneList
+pub mod Touching
+pub mod TouchedStanza
+pub mod Emptying
+pub mod Ending
 pub mod Whole
 pub mod Following

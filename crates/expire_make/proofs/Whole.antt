@@ -19,12 +19,13 @@ use Rattle.cmd_types.specs.DisksEffect.{IsPart, DoesPart, DoesWhole}
 use Rattle.repo_stanza.proofs.NewStanza.{no_pair}
 use Rattle.expire_rules.specs.declared.rules.Rules.{Rules}
 use Rattle.expire_rules.specs.Condemned.{condemned_labels}
-use Rattle.expire_make.specs.Expiry.{IsTouched, listed, retention, IsPartOfExpiry, PartFrom, WholeFrom, HasNeeded}
+use Rattle.expire_make.specs.Expiry.{Touches, listed, retention, IsPartOfExpiry, PartFrom, WholeFrom, HasNeeded}
 use Rattle.base_disk.specs.Store.{ChangesOnly}
 use Rattle.expire_rules.specs.Labels.{labels_of}
 use Rattle.expire_make.specs.Losing.{MayTouch}
-use Rattle.expire_make.specs.Planning.{IsPlan, keeps_by}
-use Rattle.expire_make.proofs.Ways.{entries_are, moves_as, left_entries, current_is}
+use Rattle.expire_make.specs.Planning.{IsPlan, keeps_by, left_of}
+use Rattle.expire_make.proofs.OneList.{same_list}
+use Rattle.expire_make.proofs.Ways.{entries_are, moves_as}
 use Rattle.expire_make.proofs.RetentionHolds.{sound_here, needed_here}
 
 module _ (stanza : Text) (rules : Rules) (moment : ℕ) where
@@ -86,14 +87,14 @@ module _ (stanza : Text) (rules : Rules) (moment : ℕ) where
       let here = plan_at labels w archive o f.0 f.1 plan in
       here.are_gone ∙ ap (λ (es : List Entry). condemned_labels rules moment es) (entries_are stanza rules moment f.0 labels w archive here s (now.represents f.0 f.1))
 
-  -- what is changed is of the stanza
+  -- what is changed is by the list that the pairs have
   pub touched : (labels : List Label) (w : BackupInfo) (archive : ArchiveInfo) (a b : View) → IfSome a.now (λ f. IsPlan stanza rules moment f labels w archive) → ChangesOnly (MayTouch stanza (labels_of w.backups) (keeps_by rules archive.current w.backups)) a b
-      → (s : Stanza) → IsSome a.now → NowRepresents stanza (Some s) a.now → ChangesOnly (IsTouched stanza rules moment s) a b
-  touched labels w archive a b plan only s known now =
-      let f = known_as a.now known in
-      let here = plan_at labels w archive a.now f.0 f.1 plan in
-      let has = now.represents f.0 f.1 in
-      let entries = left_entries stanza rules moment f.0 labels w archive here s has in
-      let number = current_is stanza rules moment f.0 labels w archive here s has in
-      subst (λ (es : List Entry). ChangesOnly (MayTouch stanza (labels_of es) (keeps_by rules (current_number s) es)) a b) entries
-      (subst (λ (n : ℕ). ChangesOnly (MayTouch stanza (labels_of w.backups) (keeps_by rules n w.backups)) a b) number only)
+      → Touches stanza rules moment a b
+  touched labels w archive a b plan only = record {
+    listed = λ f known list is has.
+        let here = plan_at labels w archive a.now f is plan in
+        let same = same_list stanza f archive known here.list list here.has has in
+        subst (λ (v : BackupInfo). ChangesOnly (MayTouch stanza (labels_of v.backups) (keeps_by rules known.current v.backups)) a b) (here.is_left ∙ ap (left_of rules moment) same.1)
+        (subst (λ (r : ArchiveInfo). ChangesOnly (MayTouch stanza (labels_of w.backups) (keeps_by rules r.current w.backups)) a b) same.0 only);
+    unlisted = λ f is no. let here = plan_at labels w archive a.now f is plan in absurd (no archive here.list here.has);
+  }

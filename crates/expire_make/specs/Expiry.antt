@@ -1,17 +1,18 @@
 -- What retention rules are to a repository, and what an expiry does (pgBackRest command reference, "Expire").
 use Rattle.std.specs.Prelude.{◌≡◌, ℕ, true, false, List, Option, Some, IsSome}
-use Rattle.base_devices.specs.Content.{Content}
+use Rattle.base_devices.specs.Content.{Name, Content, at}
 use Rattle.base_devices.specs.Moments.{View}
 use Rattle.base_devices.specs.States.{DiskState}
 use Rattle.base_disk.specs.Store.{ChangesOnly}
 use Rattle.base_model.specs.declared.labels.Label.{Label}
 use Rattle.base_model.specs.Text.{Text, In}
-use Rattle.base_model.specs.Values.{Entry, archive_info_of, backup_info_of}
+use Rattle.base_model.specs.Values.{ArchiveInfo, BackupInfo, Entry, archive_info_of, backup_info_of}
 use Rattle.base_model.specs.Repository.{Archived, Backup, Stanza, Repository, IsSoundStanza, current_number}
 use Rattle.base_model.specs.Represents.{Represents, HasStanza}
 use Rattle.base_model.specs.Now.{NowRepresents}
 use Rattle.base_model.specs.Steady.{IsSteady, EachImage, LeavesOnly}
 use Rattle.base_model.specs.Steps.{Step, Condemn, Expire, Retention, IsPartOf, after, all_of, changed, expiry_moves}
+use Rattle.archive_store.specs.Still.{IsStill}
 use Rattle.cmd_types.specs.declared.stages.plan.SyncScope.TheVariants.{Whole}
 use Rattle.cmd_types.specs.DisksEffect.{DoesPart, DoesWhole}
 use Rattle.expire_rules.specs.declared.rules.Rules.{Rules}
@@ -21,7 +22,7 @@ use Rattle.expire_rules.specs.Labels.{labels_of}
 use Rattle.expire_rules.specs.Needed.{keeping_of, keeps_file}
 use Rattle.expire_make.specs.declared.expiry_plan.Planned.{Planned}
 use Rattle.expire_make.specs.Losing.{MayTouch}
-use Rattle.expire_make.specs.Planning.{HoldsPlan, keeps_by}
+use Rattle.expire_make.specs.Planning.{HasList, HoldsPlan, keeps_by, left_of}
 
 -- the stanza's backups as `backup.info` lists them
 abbrev pub listed : Stanza → List Entry
@@ -71,8 +72,30 @@ pub record HasNeeded (stanza : Text) (kept : Retention) (s : Stanza) (g : Conten
   pub files : (a : Archived) → In a s.archived → kept.needed (changed (Condemn (kept.condemned s)) s) a ≡ true
       → In a left.archived
 
--- what the expiry of a stanza may change: the backup pair, folders of labels that aren't listed in the end, and files
--- that aren't needed then
+-- what the expiry of a list may change, by the values of the two pairs: the backup pair, folders of labels that aren't
+-- listed in the end, and files that aren't needed then
+abbrev pub IsTouchedBy : Text → Rules → ℕ → ArchiveInfo → BackupInfo → Text → Type 0
+IsTouchedBy stanza rules moment archive list name =
+    let left = left_of rules moment list in
+    MayTouch stanza (labels_of left.backups) (keeps_by rules archive.current left.backups) name
+
+-- What an expiry changes, whatever else the repository holds.
+pub record Touches (stanza : Text) (rules : Rules) (moment : ℕ) (old new : View) : Type 0 where
+  -- no more than what the expiry may change of the list that the two pairs have
+  pub listed : (f : Content) (archive : ArchiveInfo) (list : BackupInfo) → old.now ≡ Some f
+      → HasList stanza f archive list → ChangesOnly (IsTouchedBy stanza rules moment archive list) old new
+  -- nothing where they have none
+  pub unlisted : (f : Content) → old.now ≡ Some f
+      → ((archive : ArchiveInfo) (list : BackupInfo) → ¬ HasList stanza f archive list) → IsStill old new
+
+-- what changes of what the disk holds alone
+pub record TouchesNow (stanza : Text) (rules : Rules) (moment : ℕ) (old new : Option Content) : Type 0 where
+  pub listed : (f : Content) (archive : ArchiveInfo) (list : BackupInfo) → old ≡ Some f → HasList stanza f archive list
+      → (n : Name) → ¬ IsTouchedBy stanza rules moment archive list n → at n new ≡ at n old
+  pub unlisted : (f : Content) → old ≡ Some f
+      → ((archive : ArchiveInfo) (list : BackupInfo) → ¬ HasList stanza f archive list) → new ≡ old
+
+-- what the expiry of a stanza may change, where the disk represents it
 abbrev pub IsTouched : Text → Rules → ℕ → Stanza → Text → Type 0
 IsTouched stanza rules moment s name =
     let left = changed (Condemn (is_condemned rules moment (listed s))) s in
@@ -106,10 +129,9 @@ abbrev pub AreCondemned : Text → Rules → ℕ → List Label → DiskState �
 AreCondemned stanza rules moment labels d = (s : Stanza) → IsSome d.view.now → NowRepresents stanza (Some s) d.view.now
     → labels ≡ condemned_labels rules moment (listed s)
 
--- nothing changes but what the expiry of the disk's stanza may change
+-- nothing changes but what the expiry of the disk's list may change
 abbrev pub ChangesTouched : Text → Rules → ℕ → DiskState → DiskState → Type 0
-ChangesTouched stanza rules moment old new = (s : Stanza) → IsSome old.view.now
-    → NowRepresents stanza (Some s) old.view.now → ChangesOnly (IsTouched stanza rules moment s) old.view new.view
+ChangesTouched stanza rules moment old new = Touches stanza rules moment old.view new.view
 
 -- nothing changes but what carrying a plan out may change
 abbrev pub ChangesPlanned : Text → Rules → Planned → DiskState → DiskState → Type 0

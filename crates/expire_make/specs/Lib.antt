@@ -4,3 +4,4 @@ pub mod Losing
 pub mod Planning
 pub mod Unneeded
 pub mod Removed
+pub mod Emptying

@@ -1,8 +1,8 @@
 -- What an expiry is going to leave in the backup pair.
 use Rattle.std.specs.Prelude.{◌≡◌, ℕ, Bool, false, not, List, filter, IfSome, IsSome}
 use Rattle.base_devices.specs.Content.{Content}
-use Rattle.base_devices.specs.Moments.{is_unsynced}
-use Rattle.base_devices.specs.Crash.{Crash, Ends, NowChanges, Write, FirstOf, AllOf}
+use Rattle.base_devices.specs.Moments.{View, is_unsynced}
+use Rattle.base_devices.specs.Crash.{Crash, Ends, IsAlikeAt, NowChanges, Write, FirstOf, AllOf}
 use Rattle.base_devices.specs.States.{DiskState}
 use Rattle.base_model.specs.declared.labels.Label.{Label}
 use Rattle.base_model.specs.declared.wal.ArchiveId.{ArchiveId}
@@ -14,6 +14,8 @@ use Rattle.base_model.specs.InfoText.{info_text}
 use Rattle.base_model.specs.InfoFiles.{IsArchiveText, IsBackupText, backup_sections}
 use Rattle.base_model.specs.Pair.{PairIs}
 use Rattle.base_model.specs.Create.{member_writes}
+use Rattle.base_model.specs.Walks.{IsSynced}
+use Rattle.repo_pair.specs.Member.{IsMember}
 use Rattle.repo_stanza.specs.Judging.{Validates}
 use Rattle.repo_stanza.specs.Pairs.{HavePairs, AgreeAt}
 use Rattle.expire_rules.specs.declared.rules.Rules.{Rules}
@@ -56,6 +58,11 @@ HoldsList stanza archive list d = IfSome d.view.now (λ f. HasList stanza f arch
 -- where they were known, the members of the backup pair have one text
 abbrev pub BackupPairAgrees : Text → DiskState → DiskState → Type 0
 BackupPairAgrees stanza old new = IsSome old.view.now → IfSome new.view.now (AgreeAt (backup_info stanza))
+
+-- where they were known, and no name that is looked at was unsynced, all that a crash leaves has of both members what
+-- the disk holds
+abbrev pub BackupPairLasts : Text → View → View → Type 0
+BackupPairLasts stanza old new = IsSynced stanza old → IsSome old.now → IsAlikeAt (IsMember (backup_info stanza)) new
 
 -- ---- the plan
 

@@ -9,8 +9,9 @@ ghost use Rattle.base_model.specs.InfoFiles.{IsBackupInfo, IsLabel, info_limit};
 ghost use Rattle.base_crash_lists.specs.Beside.{StaysBeside};
 ghost use Rattle.expire_make.specs.Expiry.{ExpiresPart, ExpiresAll, KeepsNeeded, AreCondemned, ChangesTouched};
 ghost use Rattle.expire_make.specs.Losing.{MayExpire};
+ghost use Rattle.expire_make.specs.Emptying.{EndsListed};
 ghost use Rattle.expire_make.specs.Removed.{NumberGone};
-ghost use Rattle.expire_make.specs.Planning.{HoldsList, BackupPairAgrees, list_text};
+ghost use Rattle.expire_make.specs.Planning.{HoldsList, BackupPairAgrees, BackupPairLasts, list_text};
 ghost use Rattle.expire_make.specs.Fault.{ExpiryFails, IfRefused, IsDeviceFault};
 
 use crate::expiry_plan::{plan, read_list};
@@ -48,13 +49,16 @@ pub fn expire<D: Disk>(
     ensures labels { IfOk result
         (λ e. AreCondemned stanza.now rules.now moment e.labels.items (D.state d.old)) }
     ensures are_labels { IfOk result (λ e. AllByRecursion IsLabel e.labels.items) }
-    // Both members of the backup pair are alike then.
+    // Both members of the backup pair are alike then, and so they are in all that a crash leaves.
     ensures alike { OnOk result (BackupPairAgrees stanza.now (D.state d.old) (D.state d.new)) }
+    ensures lasts { OnOk result (BackupPairLasts stanza.now (D.state d.old).view (D.state d.new).view) }
     ensures removed { IfOk result (λ e. NumberGone stanza.now e.removed (D.state d.old) (D.state d.new)) }
+    // What is left then, whatever else lies in the repository.
+    ensures leaves { OnOk result (EndsListed stanza.now rules.now moment (D.state d.old) (D.state d.new)) }
     // Where it is refused only was read.
     ensures refused { IfErr result (λ e. IfRefused e (OnlyReads (D.state d.old) (D.state d.new))) }
     // Nothing changes but the backup pair, folders of labels, and files of the archive that aren't histories of
-    // timelines.
+    // timelines. Of these no folder of a label that stays in the list, and no file that the backups left need.
     ensures only { ChangesOnly (MayExpire stanza.now) (D.state d.old).view (D.state d.new).view }
     ensures touches { ChangesTouched stanza.now rules.now moment (D.state d.old) (D.state d.new) }
     ensures beside { StaysBeside stanza.now (D.state d.old).view (D.state d.new).view }
@@ -87,11 +91,14 @@ pub fn expire_list<D: Disk>(
     ensures labels { IfOk result
         (λ e. AreCondemned stanza.now rules.now moment e.labels.items (D.state d.old)) }
     ensures are_labels { IfOk result (λ e. AllByRecursion IsLabel e.labels.items) }
-    // Both members of the backup pair are alike then.
+    // Both members of the backup pair are alike then, and so they are in all that a crash leaves.
     ensures alike { OnOk result (BackupPairAgrees stanza.now (D.state d.old) (D.state d.new)) }
+    ensures lasts { OnOk result (BackupPairLasts stanza.now (D.state d.old).view (D.state d.new).view) }
     ensures removed { IfOk result (λ e. NumberGone stanza.now e.removed (D.state d.old) (D.state d.new)) }
+    // What is left then, whatever else lies in the repository.
+    ensures leaves { OnOk result (EndsListed stanza.now rules.now moment (D.state d.old) (D.state d.new)) }
     // Nothing changes but the backup pair, folders of labels, and files of the archive that aren't histories of
-    // timelines.
+    // timelines. Of these no folder of a label that stays in the list, and no file that the backups left need.
     ensures only { ChangesOnly (MayExpire stanza.now) (D.state d.old).view (D.state d.new).view }
     ensures touches { ChangesTouched stanza.now rules.now moment (D.state d.old) (D.state d.new) }
     ensures beside { StaysBeside stanza.now (D.state d.old).view (D.state d.new).view }

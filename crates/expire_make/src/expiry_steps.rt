@@ -6,8 +6,9 @@ ghost use Rattle.base_model.specs.Values.{backup_info_of};
 ghost use Rattle.base_model.specs.InfoFiles.{IsBackupInfo, info_limit};
 ghost use Rattle.base_crash_lists.specs.Beside.{StaysBeside};
 ghost use Rattle.expire_make.specs.Expiry.{CarriesOutPart, CarriesOutAll, ChangesPlanned};
+ghost use Rattle.expire_make.specs.Emptying.{LeavesPlanned};
 ghost use Rattle.expire_make.specs.Removed.{NumberGone};
-ghost use Rattle.expire_make.specs.Planning.{BackupPairAgrees, list_text};
+ghost use Rattle.expire_make.specs.Planning.{BackupPairAgrees, BackupPairLasts, list_text};
 ghost use Rattle.expire_make.specs.Fault.{IsDeviceFault};
 
 use crate::archive_removal::forget;
@@ -32,7 +33,9 @@ pub(crate) fn carry_out<D: Disk>(
     ensures part { CarriesOutPart stanza.now rules.now plan.now (D.state d.old) (D.state d.new) }
     ensures whole { OnOk result (CarriesOutAll stanza.now rules.now plan.now (D.state d.old) (D.state d.new)) }
     ensures alike { OnOk result (BackupPairAgrees stanza.now (D.state d.old) (D.state d.new)) }
+    ensures lasts { OnOk result (BackupPairLasts stanza.now (D.state d.old).view (D.state d.new).view) }
     ensures removed { IfOk result (λ k. NumberGone stanza.now k (D.state d.old) (D.state d.new)) }
+    ensures leaves { OnOk result (LeavesPlanned stanza.now rules.now plan.now (D.state d.old) (D.state d.new)) }
     ensures known { IsSome (D.state d.old).view.now → IsSome (D.state d.new).view.now }
     ensures touches { ChangesPlanned stanza.now rules.now plan.now (D.state d.old) (D.state d.new) }
     ensures beside { StaysBeside stanza.now (D.state d.old).view (D.state d.new).view }

@@ -1,5 +1,5 @@
 // Labels that are listed, and names of folders that are none of these.
-ghost use Rattle.std.specs.Prelude.{◌≡◌, true, map};
+ghost use Rattle.std.specs.Prelude.{◌≡◌, true, false, map};
 ghost use Rattle.base_model.specs.Values.{entry_of};
 ghost use Rattle.expire_rules.specs.Labels.{is_label, has_label, labels_of};
 ghost use Rattle.expire_rules.specs.Condemned.{without_labels};
@@ -30,7 +30,8 @@ fn lists(entries: &[Entry], label: &Label) -> bool
 
 /// Whether the text is that of a label that isn't listed.
 pub(crate) fn is_unlisted(text: &[u8], entries: &[Entry]) -> bool
-    ensures { result ≡ true → IsTextUnlisted (labels_of (map entry_of entries.now)) text.now }
+    ensures yes { result ≡ true → IsTextUnlisted (labels_of (map entry_of entries.now)) text.now }
+    ensures no { result ≡ false → ¬ IsTextUnlisted (labels_of (map entry_of entries.now)) text.now }
 {
     match read_label(text) {
         Some(label) => !lists(entries, &label),

@@ -13,9 +13,11 @@
 //!   rules condemn, and it returns how many files of the archive were removed.
 //! - At each moment each backup that stays, and each file that it needs, have the bytes that they had.
 //! - Nothing changes but the backup pair, folders of labels, and files of the archive that aren't timeline histories.
-//!   It keeps to its stanza, and its calls are made as they ask.
+//!   Whatever else lies in the repository, no folder of a label that stays in the list changes, and no file that the
+//!   backups left need. Where the pairs have no list nothing changes. It keeps to its stanza, and its calls are made as
+//!   they ask.
 //! - Each refusal has its cause. Where one of the pairs has no value, or their histories differ, only was read.
-//! - At Ok both members of the backup pair are alike.
+//! - At Ok both members of the backup pair are alike, on the disk and in all that a crash leaves.
 #![tactic(auto)]
 
 mod archive_removal;

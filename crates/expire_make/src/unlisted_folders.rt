@@ -5,7 +5,8 @@ ghost use Rattle.base_devices.specs.Cause.{Rises};
 ghost use Rattle.base_devices.specs.States.{OnlyReads};
 ghost use Rattle.base_model.specs.Text.{◌⫽◌};
 ghost use Rattle.base_model.specs.Names.{backup_folder};
-ghost use Rattle.expire_make.specs.Losing.{TakesAway, TakesFolder, IsUnlisted, FolderStaysDurable, labels_listed};
+ghost use Rattle.expire_make.specs.Emptying.{IsAbsentAfter, AreAbsentAfter, IsEmptied, IsEmptiedOf, AreEmptiedOf, HasNoUnlisted};
+ghost use Rattle.expire_make.specs.Losing.{TakesAway, TakesFolder, IsUnlisted, FolderStaysDurable, labels_listed, names_of};
 ghost use Rattle.expire_make.specs.Fault.{IsDeviceFault};
 
 use crate::fault::ExpireFault;
@@ -17,6 +18,7 @@ use std::alloc::Global;
 // Removes the name, where it has this in front.
 fn remove_after<D: Disk>(d: &mut D, name: &str, prefix: &str) -> Result<(), ExpireFault>
     ensures takes { TakesAway (λ n. IsTrue (starts_with nat_eq n prefix.now)) (D.state d.old) (D.state d.new) }
+    ensures gone { OnOk result (IsAbsentAfter prefix.now name.now (D.state d.new)) }
     ensures cause { IfErr result (IsDeviceFault (Rises (D.state d.old).faults (D.state d.new).faults)) }
 {
     if !name.as_bytes().starts_with(prefix.as_bytes()) {
@@ -29,6 +31,7 @@ fn remove_after<D: Disk>(d: &mut D, name: &str, prefix: &str) -> Result<(), Expi
 // Removes those of the names that have this in front: a disk whose contents are unknown may list others.
 fn remove_all<D: Disk>(d: &mut D, found: &[Found], prefix: &str) -> Result<(), ExpireFault>
     ensures takes { TakesAway (λ n. IsTrue (starts_with nat_eq n prefix.now)) (D.state d.old) (D.state d.new) }
+    ensures gone { OnOk result (AreAbsentAfter prefix.now (names_of found.now) (D.state d.new)) }
     ensures cause { IfErr result (IsDeviceFault (Rises (D.state d.old).faults (D.state d.new).faults)) }
 {
     for each in found {
@@ -45,6 +48,7 @@ fn drop_below<D: Disk>(
     name: &str,
 ) -> Result<(), ExpireFault>
     ensures takes { TakesFolder (backup_folder stanza.now ⫽ name.now) (D.state d.old) (D.state d.new) }
+    ensures gone { OnOk result (IsEmptied (backup_folder stanza.now ⫽ name.now) (D.state d.new)) }
     ensures cause { IfErr result (IsDeviceFault (Rises (D.state d.old).faults (D.state d.new).faults)) }
 {
     let folder = format!(in alloc; "backup/{stanza}/{name}")?;
@@ -62,6 +66,7 @@ fn drop_one<D: Disk>(
     entries: &[Entry],
 ) -> Result<bool, ExpireFault>
     ensures takes { TakesAway (IsUnlisted stanza.now (labels_listed entries.now)) (D.state d.old) (D.state d.new) }
+    ensures gone { OnOk result (IsEmptiedOf stanza.now (labels_listed entries.now) name.now (D.state d.new)) }
     ensures idle { IfOk result (λ is_dropped. is_dropped ≡ false → OnlyReads (D.state d.old) (D.state d.new)) }
     ensures cause { IfErr result (IsDeviceFault (Rises (D.state d.old).faults (D.state d.new).faults)) }
 {
@@ -81,6 +86,7 @@ fn drop_each<D: Disk>(
     entries: &[Entry],
 ) -> Result<bool, ExpireFault>
     ensures takes { TakesAway (IsUnlisted stanza.now (labels_listed entries.now)) (D.state d.old) (D.state d.new) }
+    ensures gone { OnOk result (AreEmptiedOf stanza.now (labels_listed entries.now) names.now (D.state d.new)) }
     ensures idle { IfOk result (λ is_dropped. is_dropped ≡ false → OnlyReads (D.state d.old) (D.state d.new)) }
     ensures cause { IfErr result (IsDeviceFault (Rises (D.state d.old).faults (D.state d.new).faults)) }
 {
@@ -102,6 +108,7 @@ pub(crate) fn drop_unlisted<D: Disk>(
     entries: &[Entry],
 ) -> Result<(), ExpireFault>
     ensures takes { TakesAway (IsUnlisted stanza.now (labels_listed entries.now)) (D.state d.old) (D.state d.new) }
+    ensures gone { OnOk result (HasNoUnlisted stanza.now (labels_listed entries.now) (D.state d.new)) }
     ensures settled { OnOk result (FolderStaysDurable (backup_folder stanza.now) (D.state d.old) (D.state d.new)) }
     ensures cause { IfErr result (IsDeviceFault (Rises (D.state d.old).faults (D.state d.new).faults)) }
 {

@@ -25,7 +25,7 @@ use guards::{Refusal, is_beside, is_fetch, is_in_recovery, is_root, refusal_of, 
 use help::asked_for;
 use messages::{Telling, end_progress, failure_of};
 use paths::absolute;
-use program_run::run;
+use program_run::{Status, run};
 use std::io::ErrorKind;
 use std::process::ExitCode;
 use std::{env, fs, io};
@@ -169,7 +169,7 @@ fn status_of(rt: HostRuntime, arguments: &[String]) -> io::Result<u8> {
     }
     match refused {
         Some(refusal) => Ok(refuse(messages, &refusal)),
-        None => perform(rt, messages, arguments),
+        None => Ok(perform(rt, messages, arguments)?.code()),
     }
 }
 
@@ -185,7 +185,8 @@ fn refuse(mut messages: Telling, refusal: &Refusal) -> u8 {
     status
 }
 
-fn perform(rt: HostRuntime, mut messages: Telling, arguments: &[String]) -> io::Result<u8> {
+// The status is that of the run: nothing else makes one.
+fn perform(rt: HostRuntime, mut messages: Telling, arguments: &[String]) -> io::Result<Status> {
     let alloc = rt.alloc();
     let program = program(&rt)?;
     let devices = make_devices(rt, program.clone()?, &messages)?;
@@ -207,10 +208,11 @@ fn perform(rt: HostRuntime, mut messages: Telling, arguments: &[String]) -> io::
         },
     };
     let status = run(alloc, arguments, &mut outside);
-    if status == 0 {
+    let code = status.code();
+    if code == 0 {
         end_progress(&outside, messages.progress());
     }
-    let _ = messages.end(&outside.out, failure_of(&outside, status), status);
+    let _ = messages.end(&outside.out, failure_of(&outside, code), code);
     end_workers(&rt, &mut outside.pool.links);
     Ok(status)
 }

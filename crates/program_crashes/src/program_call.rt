@@ -37,5 +37,5 @@ pub fn called<
         arguments.now outside.old outside.new result }
     ensures free { (K.state outside.new.locks).taken ≡ [] }
 {
-    run(alloc, arguments, outside)
+    run(alloc, arguments, outside).code()
 }

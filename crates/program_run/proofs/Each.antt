@@ -20,7 +20,7 @@ use Rattle.program_run.specs.Answers.{PrintsRefusal, Answers, Completes, ClosesT
 use Rattle.program_run.specs.Asked.{ArgumentsResolve, asked, unbuilt, MayAsk, Asks}
 use Rattle.program_run.proofs.AskedOnce.{one_settling, ok_same}
 use Rattle.program_run.proofs.Lawful.{lawful}
-use Rattle.program_run.proofs.Refused.{never_well, only_memory, memory_is, idle_talk}
+use Rattle.program_run.proofs.Refused.{never_well, only_memory, idle_talk}
 
 -- the arguments were refused, and nothing was done; or the command was carried out
 abbrev pub Either : Resolved → World → World → ℕ → Type 0
@@ -71,7 +71,7 @@ module _ (s : Resolved) (b k : World) (n : ℕ) where
 
 -- where no cause of a refusal holds
 pub completes : (arguments : List Text) (b k : World) (n : ℕ) → Answers arguments b k n → Completes arguments b k n
-completes arguments b k n (inl r) no_config built none whole = only_memory [] r.fault b k n r.printed whole (λ other. no_config r.fault (memory_is r.fault other) r.cause)
+completes arguments b k n (inl r) no_config built none whole = only_memory [] r.fault b k n r.printed whole (λ other. no_config r.fault other r.cause)
 completes arguments b k n (inr (s, settles, inl (is, c))) no_config built none whole = follow.completes (asked s).at (asked s).means (lawful s) s.warnings b k n c
     (λ fault other cause. none s fault (record { settles = settles; built = is }) other cause) whole
 completes arguments b k n (inr (s, settles, inr u)) no_config built none whole = never_unbuilt (unbuilt s) u.what (built s settles) u.is

@@ -85,10 +85,6 @@ module _ (unknown : List Text) (e : Fault Usage) (b k : World) (n : ℕ) (h : Pr
   pub only_memory : ¬ Failed b k Output → (refusal_status e ≢ 90 → ⊥) → EndsWell n ⊎ (n ≡ 90)
   only_memory whole never = by_status (λ is. ⊎_elim (λ (m : refusal_status e ≡ 90). inr (is ∙ m)) (λ other. absurd (never other)) (either_is (refusal_status e) 90)) (λ is rose. absurd (whole rose)) (λ is. inr is)
 
--- out of memory is one of those with its status
-pub memory_is : (e : Fault Usage) → refusal_status e ≢ 90 → e ≢ fault.NoMemory
-memory_is e other is = other (ap refusal_status is)
-
 -- ---- a talk
 
 usage_talks : {P : Type 0} (u : Usage) → IsServerRefusal (usage_status u) → P

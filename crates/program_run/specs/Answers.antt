@@ -9,7 +9,7 @@ use Rattle.cmd_types.specs.declared.stages.fault.StageFault.TheVariants.{NotBuil
 use Rattle.cmd_types.specs.declared.stages.object.Object.TheVariants.{Config, Output}
 use Rattle.cmd_types.specs.World.{World, Failed}
 use Rattle.cmd_trait.specs.declared.fault.Fault.{Fault}
-use Rattle.cmd_trait.specs.declared.fault.Fault.TheVariants.{Stage, NoMemory}
+use Rattle.cmd_trait.specs.declared.fault.Fault.TheVariants.{Stage}
 use Rattle.cmd_trait.specs.CallEffect.{IsIdle, Carries, Cause, OpensPlaces as OpensPlacesAt, OnlyLocked as OnlyLockedAt}
 use Rattle.cmd_trait.specs.Ends.{status_of}
 use Rattle.cmd_trait.specs.Follows.{EndsWell, Fulfils, TurnsBack, Finishes as FinishesAt, PartDone as PartDoneAt, LeavesRest as LeavesRestAt}
@@ -55,7 +55,7 @@ Answers arguments before after result = Refuses arguments before after result
 -- or memory ran out.
 abbrev pub Completes : List Text → World → World → ℕ → Type 0
 Completes arguments before after result =
-    ((fault : Fault Usage) → fault ≢ NoMemory
+    ((fault : Fault Usage) → refusal_status fault ≢ 90
     → ¬ ConfigCause arguments before.config.files (Failed before after Config) fault)
     → ((s : Resolved) → ArgumentsResolve arguments before.config.files (Ok s) → unbuilt s ≡ None)
     → ((s : Resolved) (fault : Fault (asked s).fault) → MayAsk arguments before.config.files s

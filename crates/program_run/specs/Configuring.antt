@@ -34,6 +34,10 @@ abbrev pub IsConfigurationOf : List (String Global) → InputState → Vec ℕ G
 IsConfigurationOf arguments source v = (path : Path) × (path_of_arguments (map string_bytes arguments) ≡ Ok path)
     × MayHave source.files path v.items
 
+-- the arguments say that no configuration is read
+abbrev pub NamesNone : List (String Global) → Type 0
+NamesNone arguments = path_of_arguments (map string_bytes arguments) ≡ Ok nowhere
+
 -- the command is that to which the arguments resolve with the source's configuration
 abbrev pub IsCommandOf : List (String Global) → InputState → GivenCommand → Type 0
 IsCommandOf arguments source c = (s : Resolved) × ArgumentsResolve (map string_bytes arguments) source.files (Ok s)

@@ -4,7 +4,7 @@ ghost use Rattle.std.specs.declared.alloc.Global.{Global};
 ghost use Rattle.base_devices.specs.Cause.{HasCause};
 ghost use Rattle.program_run.specs.Asked.{config_limit};
 ghost use Rattle.program_run.specs.Refusals.{of_device};
-ghost use Rattle.program_run.specs.Configuring.{IsFileOf, IsConfigurationOf, IsCommandOf, FileReadCause, ReadingCause};
+ghost use Rattle.program_run.specs.Configuring.{IsFileOf, IsConfigurationOf, IsCommandOf, NamesNone, FileReadCause, ReadingCause};
 
 use crate::refusal::of_usage;
 use base_devices::{DeviceError, InputFiles};
@@ -94,6 +94,7 @@ fn configuration<I: InputFiles>(
     ensures fits { IfOk result (λ v. length v.items ≤ limit) }
     ensures cause { IfErr result (ReadingCause arguments.now (I.state config.old) (I.state config.new)) }
     ensures later { (I.state config.old).faults ≤ (I.state config.new).faults }
+    ensures unread { NamesNone arguments.now → config.new ≡ config.old }
     ensures files { (I.state config.new).files ≡ (I.state config.old).files }
 {
     let path = match config_path(alloc, arguments) {
@@ -122,6 +123,7 @@ pub(crate) fn read_command<I: InputFiles>(
     ensures command { IfOk result (IsCommandOf arguments.now (I.state config.old)) }
     ensures cause { IfErr result (ReadingCause arguments.now (I.state config.old) (I.state config.new)) }
     ensures later { (I.state config.old).faults ≤ (I.state config.new).faults }
+    ensures unread { NamesNone arguments.now → config.new ≡ config.old }
     ensures files { (I.state config.new).files ≡ (I.state config.old).files }
 {
     let bytes = configuration(alloc, arguments, config, CONFIG_LIMIT)?;

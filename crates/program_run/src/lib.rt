@@ -11,4 +11,4 @@ mod given;
 mod refusal;
 mod top;
 
-pub use top::run;
+pub use top::{Status, run};

@@ -6,6 +6,7 @@ use Rattle.base_devices.specs.Crash.{Leaves}
 use Rattle.base_devices.specs.DataFolder.{Nodes}
 use Rattle.base_model.specs.Text.{Text}
 use Rattle.base_model.specs.Walks.{IsSynced}
+use Rattle.base_model.proofs.Walking.{rests_synced}
 use Rattle.archive_store.specs.Still.{IsStill}
 use Rattle.repo_stanza.specs.declared.control.Control.{Control}
 use Rattle.cmd_types.specs.declared.stages.object.Object.{Object}
@@ -19,7 +20,6 @@ use Rattle.cmd_types.specs.Reached.{reached_by}
 use Rattle.cmd_types.specs.DisksEffect.{Reached, OnNone, PairAlike}
 use Rattle.cmd_types.specs.World.{World, Failed, AreLater}
 use Rattle.cmd_types.proofs.Besides.{still_beside}
-use Rattle.cmd_types.proofs.Doing.{now_known}
 use Rattle.cmd_setup.specs.declared.ready.Ready.{Ready}
 use Rattle.cmd_setup.specs.Readies.{IsReady}
 use Rattle.cmd_archive_get.specs.declared.fault.GetFault.{GetFault}
@@ -35,10 +35,6 @@ use Rattle.cmd_trait.proofs.PartEffects.{ran_of, all_on, any_some, reading_runs,
 use Rattle.run_archive_get.specs.Getting.{get_meaning, get_plan}
 
 -- ---- of both commands
-
-pub ok_as : {E : Type 0} (r : Result Outcome E) (P Q : Outcome → Type 0) → ((o : Outcome) → P o → Q o) → IfOk r P → IfOk r Q
-ok_as (Ok o) P Q to h = to o h
-ok_as (Err e) P Q to h = tt
 
 -- of a command that is refused for nothing that a server sent
 pub never_closes : (p : Place) (m : Meaning GetFault) (b k : World) → ((fault : GetFault) → m.closes p (known_world b) (known_world k) (Failed b k) fault) → (r : Result Outcome (Halt GetFault)) → IfErr (own_of r) (Closes p m b k)
@@ -85,7 +81,8 @@ module _ (p : Place) (b k : World) (rest : k ≡ record b { repo = k.repo; tree 
       (ran_of placed means b k failed rose (GetCause p.stanza folder word path b.repo.view.now b.tree.nodes) (λ e h. h) refl tt r
       (λ command x. reading_runs Looked p.stanza command (reached_by get_early r) b k x still (ap (λ (s : World). s.spool.view) rest))
       got
-      (ok_as r _ _ (λ o h looked. h looked.synced (now_known p.stanza b.repo.view looked.now) looked.pair) lasting)
+      lasting
+      (λ synced some. rests_synced p.stanza b.repo.view k.repo.view still.time still.now synced)
       cause
       (all_on r (StaysHealed placed means b k) (record { agree = λ some h. any_some k.repo.view.now; lasts = λ synced some h. tt }))
       (record {

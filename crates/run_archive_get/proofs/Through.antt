@@ -10,6 +10,7 @@ use Rattle.base_model.specs.Repository.{Stanza}
 use Rattle.base_model.specs.Steps.{Command, Reading}
 use Rattle.base_model.specs.Text.{Text}
 use Rattle.base_model.specs.Walks.{IsSynced}
+use Rattle.base_model.proofs.Walking.{rests_synced}
 use Rattle.archive_store.specs.Still.{IsStill, still_self}
 use Rattle.archive_spool.specs.Marks.{GivesMarks}
 use Rattle.repo_stanza.specs.declared.control.Control.{Control}
@@ -26,7 +27,7 @@ use Rattle.cmd_types.specs.Reached.{reached_by}
 use Rattle.cmd_types.specs.DisksEffect.{Reached, stopped, DisksEffect, RunsPart, RunsWhole, DoesPart, DoesWhole, OnNone, PairAlike, SpoolEffect}
 use Rattle.cmd_types.specs.World.{World, Failed, AreLater}
 use Rattle.cmd_types.proofs.Besides.{still_beside}
-use Rattle.cmd_types.proofs.Doing.{reading_does, now_known}
+use Rattle.cmd_types.proofs.Doing.{reading_does}
 use Rattle.cmd_types.proofs.Lifted.{all_as, none_as}
 use Rattle.cmd_archive_get.specs.declared.fault.GetFault.{GetFault}
 use Rattle.cmd_archive_get.specs.Getting.{get_early, AreArguments, GivenBy, IsWanted}
@@ -40,7 +41,7 @@ use Rattle.cmd_trait.specs.CallEffect.{PartEffect, SamePlaces, StaysHealed}
 use Rattle.cmd_trait.proofs.PartEffects.{ran_of, all_on, any_some, reading_runs}
 use Rattle.run_archive_get.specs.GettingThrough.{GetsThrough, through_meaning}
 use Rattle.run_archive_get.specs.Started.{fetch_argument_list}
-use Rattle.run_archive_get.proofs.PartEffects.{as_given, never_closes, ok_as, turned_as, with_folder}
+use Rattle.run_archive_get.proofs.PartEffects.{as_given, never_closes, turned_as, with_folder}
 
 -- ---- to the log it only reads
 
@@ -93,7 +94,8 @@ module _ (p : Place) (b k : World) (rest : k ≡ record b { repo = k.repo; spool
       (ran_of placed means b k failed rose (GetAheadCause p.stanza folder word path known file b.repo.view.now b.tree.nodes b.spool.view.now) (λ e h. (file, known, wanted, h)) refl tt r
       (λ command x. ahead_runs Looked p.stanza command (reached_by get_early r) b k x still (λ whole. spool_reads p.stanza b.spool.view k.spool.view law new_law marks spool_known Looked whole b.repo.view))
       (gets_by placed word path spool queue b k r file known wanted got given (subst (λ (ws : List Text). IfOk r (FollowsUp p.stanza known file b.repo.view.now ws k.spool.view.now b.others k.others)) as_placed follows))
-      (ok_as r _ _ (λ o h looked. h looked.synced (now_known p.stanza b.repo.view looked.now) looked.pair) lasting)
+      lasting
+      (λ synced some. rests_synced p.stanza b.repo.view k.repo.view still.time still.now synced)
       cause
       (all_on r (StaysHealed placed means b k) (record { agree = λ some h. any_some k.repo.view.now; lasts = λ synced some h. tt }))
       (record {
@@ -121,6 +123,7 @@ module _ (p : Place) (b : World) (name path spool : Text) (queue : ℕ) where
       (λ command x. reading_runs Looked p.stanza command stopped b b x (still_self b.repo.view) refl)
       tt
       tt
+      (λ synced some. synced)
       tt
       tt
       (record {

@@ -1,5 +1,5 @@
 -- What archive-get means that serves through the spool.
-use Rattle.std.specs.Prelude.{◌≡◌, ℕ, true, [], Some, IsSome}
+use Rattle.std.specs.Prelude.{◌≡◌, ℕ, true, false, [], Some, IsSome}
 use Rattle.base_devices.specs.Content.{Content}
 use Rattle.base_devices.specs.Crash.{Leaves}
 use Rattle.base_model.specs.declared.wal.ArchiveName.{ArchiveName}
@@ -50,6 +50,7 @@ through_meaning name path spool queue = record {
   staged = true;
   spool = Some spool;
   uses = record nothing { spool = true };
+  unsyncs = false;
   manner = λ p old new. each (λ command. command ≡ Reading);
   promise = λ p old new outcome. GetsThrough p name path spool queue old new outcome;
   lasts = λ p nodes repo now_nodes outcome. (f : Content) → Leaves repo repo.moment f

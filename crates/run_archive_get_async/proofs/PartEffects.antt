@@ -8,6 +8,7 @@ use Rattle.base_disk.proofs.Images.{Law}
 use Rattle.base_model.specs.declared.wal.Segment.{Segment}
 use Rattle.base_model.specs.Steps.{Command, Reading}
 use Rattle.base_model.specs.Text.{Text}
+use Rattle.base_model.proofs.Walking.{rests_synced}
 use Rattle.archive_store.specs.Still.{IsStill}
 use Rattle.archive_spool.specs.Marks.{GivesMarks}
 use Rattle.repo_stanza.specs.declared.control.Control.{Control}
@@ -21,7 +22,7 @@ use Rattle.cmd_types.specs.declared.stages.halt.Halt.TheVariants.{Refused, Faile
 use Rattle.cmd_types.specs.Cluster.{FolderShows}
 use Rattle.cmd_types.specs.Halts.{HaltCause}
 use Rattle.cmd_types.specs.Reached.{reached_by}
-use Rattle.cmd_types.specs.DisksEffect.{Reached, DisksEffect, RunsPart, RunsWhole, DoesPart, DoesWhole, IsLookedAt, SpoolEffect}
+use Rattle.cmd_types.specs.DisksEffect.{Reached, DisksEffect, RunsPart, RunsWhole, DoesPart, DoesWhole, SpoolEffect}
 use Rattle.cmd_types.specs.World.{World, Failed, AreLater}
 use Rattle.cmd_types.proofs.Besides.{still_beside}
 use Rattle.cmd_types.proofs.Doing.{reading_does}
@@ -35,7 +36,7 @@ use Rattle.cmd_archive_get_async.proofs.Receipts.{spool_reads}
 use Rattle.cmd_trait.specs.Meaning.{Place, Meaning}
 use Rattle.cmd_trait.specs.Ends.{ending_of, reached_of}
 use Rattle.cmd_trait.specs.Faults.{own_of}
-use Rattle.cmd_trait.specs.CallEffect.{PartEffect, SamePlaces, StaysHealed, Closes}
+use Rattle.cmd_trait.specs.CallEffect.{OwnLasts, PartEffect, SamePlaces, StaysHealed, Closes}
 use Rattle.cmd_trait.proofs.CallEffects.{all_none}
 use Rattle.cmd_trait.proofs.PartEffects.{ran_of, all_on, any_ok, any_some}
 use Rattle.run_archive_get_async.specs.Fetching.{fetch_meaning, fetch_plan}
@@ -102,7 +103,8 @@ module _ (p : Place) (b k : World) (rest : k ≡ record b { repo = k.repo; spool
       (ran_of p means b k failed rose (FollowUpCause p.stanza known segment queue b.repo.view.now) (λ e h. (segment, named, (known, shows, h))) refl tt r
       (λ command x. ahead_runs Looked p.stanza command (reached_by get_early r) b k x still (λ whole. spool_reads p.stanza b.spool.view k.spool.view law new_law marks (known_beside p.stanza b.spool.view k.spool.view beside) Looked whole b.repo.view))
       (ahead_by p.stanza word queue b k r segment named known shows fetched)
-      (any_ok r (λ o. IsLookedAt p.stanza b.repo.view → Unit {0}) (λ o looked. tt))
+      (any_ok r (OwnLasts p means b k) (λ o synced some pair. tt))
+      (λ synced some. rests_synced p.stanza b.repo.view k.repo.view still.time still.now synced)
       cause
       (all_on r (StaysHealed p means b k) (record { agree = λ some h. any_some k.repo.view.now; lasts = λ synced some h. tt }))
       (record {

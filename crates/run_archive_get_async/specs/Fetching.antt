@@ -57,6 +57,7 @@ fetch_meaning name spool queue = record {
   staged = true;
   spool = Some spool;
   uses = record nothing { spool = true };
+  unsyncs = false;
   manner = λ p old new. each (λ command. command ≡ Reading);
   promise = λ p old new outcome. FetchesAhead p name queue old new outcome;
   lasts = λ p nodes repo now_nodes outcome. Unit {0};

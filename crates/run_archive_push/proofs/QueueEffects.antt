@@ -16,6 +16,7 @@ use Rattle.cmd_archive_push.specs.LogFile.{known_file}
 use Rattle.cmd_archive_push.specs.WalPath.{IsWalPath, wal_path}
 use Rattle.cmd_archive_push_wait.specs.declared.fault.QueueFault.{QueueFault}
 use Rattle.cmd_archive_push_wait.specs.Causes.{Call, QueueCause}
+use Rattle.cmd_archive_push_wait.specs.Between.{MayStart, TakesFew}
 use Rattle.cmd_archive_push_wait.specs.Leaving.{IsAcknowledged}
 use Rattle.cmd_archive_push_wait.specs.Pushing.{IsWaitOf, MissCause, QueuePushCause, queue_early}
 use Rattle.cmd_archive_push_wait.specs.Received.{ReceivedCause}
@@ -26,13 +27,13 @@ use Rattle.cmd_types.specs.declared.stages.object.Object.{Object}
 use Rattle.cmd_types.specs.declared.stages.outcome.Outcome.{Outcome}
 use Rattle.cmd_types.specs.declared.stages.outcome.Outcome.TheVariants.{Finished, Absent, FindingsFound}
 use Rattle.cmd_types.specs.declared.stages.plan.SyncScope.TheVariants.{Looked}
-use Rattle.cmd_types.specs.DisksEffect.{On, one, Reached, to_end, stopped, IsLookedAt, Takes}
+use Rattle.cmd_types.specs.DisksEffect.{On, one, Reached, to_end, stopped, Takes}
 use Rattle.cmd_types.specs.Halts.{HaltCause}
 use Rattle.cmd_types.specs.Reached.{OnFinished, reached_by}
 use Rattle.cmd_types.specs.World.{World, Failed, AreLater}
 use Rattle.cmd_types.proofs.Besides.{still_beside}
 use Rattle.cmd_types.proofs.Lifted.{quiet_takes, still_quiet}
-use Rattle.cmd_trait.specs.CallEffect.{PartEffect, SamePlaces, StaysHealed, OwnCause, Closes}
+use Rattle.cmd_trait.specs.CallEffect.{OwnLasts, PartEffect, SamePlaces, StaysHealed, OwnCause, Closes}
 use Rattle.cmd_trait.specs.Ends.{ending_of, reached_of}
 use Rattle.cmd_trait.specs.Faults.{own_of, of_own}
 use Rattle.cmd_trait.specs.KnownWorld.{known_world}
@@ -42,8 +43,8 @@ use Rattle.cmd_trait.proofs.PartEffects.{all_on, any_ok, any_some}
 use Rattle.run_archive_push.specs.declared.fault.QueuedPushFault.{QueuedPushFault}
 use Rattle.run_archive_push.specs.Arguments.{drain_arguments}
 use Rattle.run_archive_push.specs.Faults.{ended_of, halt_of_queue}
-use Rattle.run_archive_push.specs.Queueing.{IsLeftStored, queued_push_meaning, received_for}
-use Rattle.run_archive_push.specs.QueueLawful.{queued_push_lawful}
+use Rattle.run_archive_push.specs.Queueing.{IsLeftStored, QueueingEffect, queued_push_meaning, received_for}
+use Rattle.run_archive_push.specs.QueueLawful.{none_queued, queued_push_lawful}
 
 -- ---- how it ended
 
@@ -152,14 +153,18 @@ module _ (p : Place) (b k : World) (rest : k ≡ record b { repo = k.repo; spool
     closes_none (Err (HaltFailed object)) = tt
     closes_none (Err HaltMemory) = tt
 
-    pub queued_ran : IfSome k.others.account (λ n. n.stanza ≡ p.stanza → On (one (IsWaitOf b.others.account n)) (λ command. Takes Looked p.stanza command (reached_by queue_early r) b.repo.view b.spool.view k.repo.view k.spool.view)) →
+    effect : MayStart arguments b.others k.others → TakesFew turns b.others k.others → QueueingEffect p spool turns b.others k.others
+    effect started few = record { started = subst (λ (ws : List Text). MayStart ws b.others k.others) known started; few = few }
+
+    pub queued_ran : MayStart arguments b.others k.others → TakesFew turns b.others k.others → IfSome k.others.account (λ n. n.stanza ≡ p.stanza → On (one (IsWaitOf b.others.account n)) (λ command. Takes Looked p.stanza command (reached_by queue_early r) b.repo.view b.spool.view k.repo.view k.spool.view)) →
         IfSome k.others.account (λ n. n.stanza ≡ p.stanza → StaysBeside p.stanza b.repo.view k.repo.view × StaysBeside p.stanza b.spool.view k.spool.view) →
         IfOk r (λ o. OnFinished o (λ lines. (lines ≡ []) × Stored)) → IfErr r (HaltCause (QueuePushCause path b.tree.nodes name (call arguments)) failed) → SamePlaces b k → AreLater b k → PartEffect p means b k (own_of ended)
-    queued_ran takes beside stored cause places later = record {
+    queued_ran started few takes beside stored cause places later = record {
       steps = λ there. wait_steps p.stanza b.others.account k.others.account _ (subst (λ (x : Reached). IfSome k.others.account (λ n. n.stanza ≡ p.stanza → On (one (IsWaitOf b.others.account n)) (λ command. Takes Looked p.stanza command x b.repo.view b.spool.view k.repo.view k.spool.view)))
           (sym (reached_same word path spool turns r)) takes) there;
       promise = ended_ok word _ r (ok_as r _ _ (λ o h. no_lines Stored o h) stored);
-      lasts = ended_ok word _ r (any_ok r (λ o. IsLookedAt p.stanza b.repo.view → Unit {0}) (λ o looked. tt));
+      lasts = ended_ok word _ r (any_ok r (OwnLasts p means b k) (λ o synced some pair. tt));
+      synced = tt;
       acknowledges = ended_on word _ r (ok_on r _ _ (λ o h. queued_stored (after_lines Stored o h)) stored);
       cause = own_cause r cause;
       healed = ended_on word _ r (all_on r (StaysHealed p means b k) (record { agree = λ some h. any_some k.repo.view.now; lasts = λ synced some h. tt }));
@@ -168,7 +173,7 @@ module _ (p : Place) (b k : World) (rest : k ≡ record b { repo = k.repo; spool
         spool = λ there. (known_so p.stanza k.others.account _ beside there).1;
         repository = tt;
         folder = nodes;
-        others = tt;
+        others = effect started few;
         turned = all_none (reached_of means (ending_of (own_of ended))) _ nodes;
         server = ap (λ (s : World). s.server) rest;
         workers = ap (λ (s : World). s.links) rest;
@@ -193,6 +198,7 @@ module _ (p : Place) (b : World) (path spool : Text) (turns : ℕ) where
     steps = any_on (means_so.manner p (known_world b) (known_world b)) _ ((queued_push_lawful path spool turns).some p (known_world b) (known_world b) refl) (λ command. quiet_takes Looked p.stanza command stopped b.repo.view b.repo.view b.spool.view never_end (still_quiet p.stanza b.repo.view));
     promise = tt;
     lasts = tt;
+    synced = tt;
     acknowledges = tt;
     cause = tt;
     healed = tt;
@@ -201,7 +207,7 @@ module _ (p : Place) (b : World) (path spool : Text) (turns : ℕ) where
       spool = λ there. still_beside p.stanza b.spool.view b.spool.view (still_self b.spool.view);
       repository = tt;
       folder = refl;
-      others = tt;
+      others = none_queued p spool turns b.others;
       turned = tt;
       server = refl;
       workers = refl;
@@ -220,10 +226,10 @@ module _ (p : Place) (b : World) (path spool : Text) (turns : ℕ) where
 
 module _ (p : Place) (b k : World) (rest : k ≡ record b { repo = k.repo; spool = k.spool; tree = k.tree; others = k.others }) (nodes : k.tree.nodes ≡ b.tree.nodes) (path spool : Text) (turns : ℕ) (o : PushOrder) (is_order : (o.folder.now ≡ p.data_folder) × (o.path.now ≡ path))
     (r : Result Outcome (Halt QueueFault)) (ended : Result Outcome (Halt QueuedPushFault)) (lifted : ended ≡ ended_of o.text r) (arguments : List Text) (known : arguments ≡ drain_arguments p spool) (failed : Object → Type 0) (rose : (object : Object) → failed object → Failed b k object) where
-  pub queued_part : IfSome k.others.account (λ n. n.stanza ≡ p.stanza → On (one (IsWaitOf b.others.account n)) (λ command. Takes Looked p.stanza command (reached_by queue_early r) b.repo.view b.spool.view k.repo.view k.spool.view)) →
+  pub queued_part : MayStart arguments b.others k.others → TakesFew turns b.others k.others → IfSome k.others.account (λ n. n.stanza ≡ p.stanza → On (one (IsWaitOf b.others.account n)) (λ command. Takes Looked p.stanza command (reached_by queue_early r) b.repo.view b.spool.view k.repo.view k.spool.view)) →
       IfSome k.others.account (λ n. n.stanza ≡ p.stanza → StaysBeside p.stanza b.repo.view k.repo.view × StaysBeside p.stanza b.spool.view k.spool.view) →
       IfOk r (λ outcome. OnFinished outcome (λ lines. (lines ≡ []) × IfSome (known_file b.tree.nodes (wal_path (wal_text o.name))) (λ bytes. IfSome k.others.account (λ n. n.stanza ≡ p.stanza → IsAcknowledged o.name (sha1 bytes) b.others.account n b.repo.view k.repo.view b.spool.view)))) →
       IfErr r (HaltCause (QueuePushCause o.path.now b.tree.nodes o.name (λ sum. record { stanza = p.stanza; name = o.name; sum = sum; arguments = arguments; most = turns; others = b.others; new_others = k.others; repo = b.repo.view; new_repo = k.repo.view; spool = b.spool.view; new_spool = k.spool.view })) failed) → SamePlaces b k → AreLater b k →
       PartEffect p (queued_push_meaning path spool turns) b k (own_of ended)
-  queued_part takes beside stored cause places later = subst (λ (x : Text). PartEffect p (queued_push_meaning x spool turns) b k (own_of ended)) is_order.1 (subst (λ (e : Result Outcome (Halt QueuedPushFault)). PartEffect p (queued_push_meaning o.path.now spool turns) b k (own_of e)) (sym lifted)
-      (queued_ran p b k rest nodes o.path.now spool turns o.name (subst (λ (f : Text). IsWalPath f o.path.now o.name) is_order.0 o.named) o.text o.spelled r arguments known failed rose takes beside stored cause places later))
+  queued_part started few takes beside stored cause places later = subst (λ (x : Text). PartEffect p (queued_push_meaning x spool turns) b k (own_of ended)) is_order.1 (subst (λ (e : Result Outcome (Halt QueuedPushFault)). PartEffect p (queued_push_meaning o.path.now spool turns) b k (own_of e)) (sym lifted)
+      (queued_ran p b k rest nodes o.path.now spool turns o.name (subst (λ (f : Text). IsWalPath f o.path.now o.name) is_order.0 o.named) o.text o.spelled r arguments known failed rose started few takes beside stored cause places later))

@@ -1,6 +1,6 @@
 -- What the proof of the stages needs of what archive-push in the background means. Own.
 use Rattle.std.specs.Prelude.{◌≡◌, ◌⊎◌, ◌≤◌, ℕ, true, [], Option, Some, None, IsSomeAnd, refl}
-use Rattle.std.proofs.Common.{sym, ap, ◌∙◌}
+use Rattle.std.proofs.Common.{inl, sym, ap, ◌∙◌, arith}
 use Rattle.std.proofs.lemmas.List.{append-nil}
 use Rattle.archive_lookup.specs.Turns.{Account, ProcessesState}
 use Rattle.base_model.specs.Steps.{Command, ArchivePushAsync}
@@ -9,12 +9,12 @@ use Rattle.cmd_archive_push.proofs.Refusals.{push_within}
 use Rattle.cmd_archive_push_wait.proofs.Statuses.{queue_within}
 use Rattle.cmd_archive_push_wait.specs.Pushing.{IsWaitOf}
 use Rattle.cmd_trait.specs.KnownWorld.{KnownWorld}
-use Rattle.cmd_trait.specs.Meaning.{IsLawful, apart, quiet_talk}
+use Rattle.cmd_trait.specs.Meaning.{IsLawful, Place, apart, quiet_talk}
 use Rattle.run_archive_push.specs.declared.fault.QueuedPushFault.{QueuedPushFault}
 use Rattle.run_archive_push.specs.declared.fault.QueuedPushFault.TheVariants.{Push, Queue}
 use Rattle.run_archive_push.specs.Faults.{queued_push_early, queued_push_status}
 use Rattle.run_archive_push.specs.Lawful.{not_65, beside_47}
-use Rattle.run_archive_push.specs.Queueing.{queued_push_meaning}
+use Rattle.run_archive_push.specs.Queueing.{QueueingEffect, queued_push_meaning}
 use Rattle.run_archive_push.specs.Acknowledged.{stored_from}
 
 -- no step of others was waited for
@@ -32,6 +32,14 @@ waits_none old new same (Some k) is known there = (
     waits = refl;
   },
 )
+
+-- nothing was started, and no step of others was waited for
+pub none_queued : (p : Place) (spool : Text) (most : ℕ) (others : ProcessesState)
+    → QueueingEffect p spool most others others
+none_queued p spool most others = record {
+  started = inl refl;
+  few = (0, omega arith, record { none = λ is. refl; some = λ one. absurd (omega (arith, one)) });
+}
 
 within : (fault : QueuedPushFault)
     → (2 ≤ queued_push_status fault) × ((queued_push_status fault ≤ 46) ⊎ (queued_push_status fault ≡ 70))
@@ -54,7 +62,7 @@ queued_push_lawful path spool turns = record {
   repo_on = λ p least b c k still h. tt;
   folder_none = λ p old. refl;
   folder_on = λ p old repo nodes same h. h;
-  others_none = λ p others. tt;
+  others_none = λ p others. none_queued p spool turns others;
   turned_none = λ p old new n nodes same. nodes;
   turned_on = λ p old new repo n same h. h;
   over = λ fault. (within fault).0;

@@ -6,10 +6,12 @@ use Rattle.base_model.specs.Names.{wal_text}
 use Rattle.base_model.specs.Steps.{Command}
 use Rattle.base_model.specs.Text.{Text}
 use Rattle.archive_lookup.specs.Causes.{limit_of}
+use Rattle.archive_lookup.specs.Turns.{ProcessesState}
 use Rattle.cmd_archive_push.specs.LogFile.{known_file}
 use Rattle.cmd_archive_push.specs.WalCause.{WordCause}
 use Rattle.cmd_archive_push.specs.WalPath.{IsWalPath, wal_path}
 use Rattle.cmd_archive_push_wait.specs.declared.fault.QueueFault.{QueueFault}
+use Rattle.cmd_archive_push_wait.specs.Between.{MayStart, TakesFew}
 use Rattle.cmd_archive_push_wait.specs.Leaving.{IsAcknowledged}
 use Rattle.cmd_archive_push_wait.specs.Pushing.{IsWaitOf, MissCause}
 use Rattle.cmd_archive_push_wait.specs.Received.{Received, ReceivedCause}
@@ -72,6 +74,12 @@ pub record IsLeftStored (p : Place) (path : Text) (before after : Disks) : Type 
       (λ bytes. IfSome after.others.account (λ k. k.stanza ≡ p.stanza
       → IsAcknowledged name (sha1 bytes) before.others.account k before.repo after.repo before.spool))
 
+-- What it does to other processes, whatever the answer: archive-push:async was started for these places, once or not at
+-- all, and no more steps of others succeeded than it may wait for.
+pub record QueueingEffect (p : Place) (spool : Text) (most : ℕ) (old new : ProcessesState) : Type 0 where
+  pub started : MayStart (drain_arguments p spool) old new
+  pub few : TakesFew most old new
+
 -- its places are opened, and then it waits for steps of others; it is acknowledged only where the file is stored
 abbrev pub queued_push_meaning : (path spool : Text) → (turns : ℕ) → Meaning QueuedPushFault
 queued_push_meaning path spool turns = record {
@@ -79,6 +87,7 @@ queued_push_meaning path spool turns = record {
   staged = false;
   spool = Some spool;
   uses = record nothing { turns = true; spool = true };
+  unsyncs = true;
   manner = λ p old new. provided (TurnsKnownIf true p.stanza new) (IsWait old new);
   promise = λ p old new outcome. OnFinished outcome (λ lines. lines ≡ []);
   lasts = λ p nodes repo now_nodes outcome. Unit {0};
@@ -93,6 +102,6 @@ queued_push_meaning path spool turns = record {
   lines = λ fault. [];
   repo_effect = λ p least old new. Unit {0};
   folder_effect = λ p old nodes. nodes ≡ old.nodes;
-  others_effect = λ p old new. Unit {0};
+  others_effect = λ p old new. QueueingEffect p spool turns old new;
   turned = λ p old new n. new.nodes ≡ old.nodes;
 }

@@ -1,12 +1,15 @@
 -- What archive-push:async means.
-use Rattle.std.specs.Prelude.{◌≡◌, Bool, true, false, [], Some, IfSome, IsSome, IsSomeAnd}
+use Rattle.std.specs.Prelude.{◌≡◌, Bool, true, false, List, [], Option, Some, IfSome, IsSome, IsSomeAnd}
+use Rattle.base_devices.specs.Content.{Content}
 use Rattle.base_devices.specs.DataFolder.{Nodes}
-use Rattle.base_model.specs.Steps.{Command}
+use Rattle.base_devices.specs.Moments.{View}
+use Rattle.base_model.specs.Steps.{Command, Named}
 use Rattle.base_model.specs.Text.{Text}
 use Rattle.repo_stanza.specs.declared.control.Control.{Control}
 use Rattle.cmd_archive_push.specs.declared.fault.PushFault.{PushFault}
+use Rattle.cmd_archive_push.specs.Putting.{PutsAtMost}
 use Rattle.cmd_archive_push.specs.Texts.{push_message}
-use Rattle.cmd_archive_push_async.specs.Drained.{IsDrainOf, IsDrained, DrainCause, drain_early, drain_status}
+use Rattle.cmd_archive_push_async.specs.Drained.{AreLasting, IsDrainOf, IsDrained, DrainCause, drain_early, drain_status}
 use Rattle.cmd_types.specs.declared.stages.outcome.Outcome.{Outcome}
 use Rattle.cmd_types.specs.declared.stages.plan.Pairs.TheVariants.{HealArchive}
 use Rattle.cmd_types.specs.declared.stages.plan.Plan.{Plan}
@@ -22,12 +25,23 @@ abbrev pub IsSomeDrain : Nodes → Command → Type 0
 IsSomeDrain f command = (whole : Bool) × IsDrainOf f whole command
 
 -- Ok of archive-push:async: this is what became of the files that are ready, of the cluster that the data folder
--- reports, and each has its mark in the spool
+-- reports, by what the repository then holds, and each has its mark in the spool
 pub record Drains (stanza : Text) (old new : KnownWorld) (outcome : Outcome) : Type 0 where
   pub known : Control
   pub shows : IfSome old.nodes (λ f. FolderShows f known)
   pub drained : OnFinished outcome
-      (λ lines. IfSome old.nodes (λ f. IsDrained stanza f known old.repo old.spool new.spool lines))
+      (λ lines. IfSome old.nodes (λ f. IsDrained stanza f known old.repo new.repo old.spool new.spool lines))
+
+-- In all that a crash leaves each file that was stored is as the repository has it, of the cluster that the data folder
+-- reports.
+abbrev pub LastsDrained : Text → Option Nodes → View → Type 0
+LastsDrained stanza nodes repo = IfSome nodes (λ f. (known : Control) × AreLasting stanza f known repo)
+
+-- What it may change in the repository, whatever lies there: of what the disk holds no name changes but the members of
+-- the archive pair, temporary ones, and paths of files of the log with the sums of their bytes. These are put there,
+-- under the id of the current cluster.
+abbrev pub DrainEffect : Text → Option Content → Option Content → Type 0
+DrainEffect stanza old new = (files : List Named) × PutsAtMost stanza files old new
 
 -- the archive lock is taken, the stanza synced, the control file read and the archive pair healed
 abbrev pub drain_plan : Plan
@@ -46,9 +60,10 @@ drain_meaning spool = record {
   staged = true;
   spool = Some spool;
   uses = record nothing { spool = true };
+  unsyncs = false;
   manner = λ p old new. provided (IsSome old.nodes) (λ command. IsSomeAnd old.nodes (λ f. IsSomeDrain f command));
   promise = λ p old new outcome. Drains p.stanza old new outcome;
-  lasts = λ p nodes repo now_nodes outcome. Unit {0};
+  lasts = λ p nodes repo now_nodes outcome. LastsDrained p.stanza nodes repo;
   acknowledges = λ p old new. Unit {0};
   arguments = λ p. Unit {0};
   arguments_cause = λ p fault. ⊥;
@@ -58,7 +73,7 @@ drain_meaning spool = record {
   message = push_message;
   early = drain_early;
   lines = λ fault. [];
-  repo_effect = λ p least old new. Unit {0};
+  repo_effect = λ p least old new. DrainEffect p.stanza old.now new.now;
   folder_effect = λ p old nodes. nodes ≡ old.nodes;
   others_effect = λ p old new. new ≡ old;
   turned = λ p old new n. new.nodes ≡ old.nodes;

@@ -4,6 +4,7 @@ use Rattle.std.proofs.Common.{inl, inr, arith}
 use Rattle.base_devices.specs.DataFolder.{Nodes}
 use Rattle.base_model.specs.Steps.{Command, ArchivePushDrain}
 use Rattle.base_model.specs.Text.{Text}
+use Rattle.cmd_archive_push.proofs.Putting.{healed_puts, puts_after}
 use Rattle.cmd_archive_push_async.proofs.Statuses.{drain_is}
 use Rattle.cmd_archive_push_async.specs.Drained.{drain_early}
 use Rattle.cmd_trait.specs.Meaning.{IsLawful, IsEarly, apart, quiet_talk}
@@ -46,8 +47,8 @@ drain_lawful spool = record {
   more = λ p old new failed others to fault h. h;
   closes_more = λ p old new repo failed others to fault h. tt;
   arguments_closes = λ p old failed fault h. tt;
-  repo_none = λ p least b k still. tt;
-  repo_on = λ p least b c k still h. tt;
+  repo_none = λ p least b k heals. ([], healed_puts p.stanza b.now k.now heals.only.now);
+  repo_on = λ p least b c k heals h. (h.0, puts_after p.stanza b.now c.now heals.only.now h.0 k.now heals.known h.1);
   folder_none = λ p old. refl;
   folder_on = λ p old repo nodes same h. h;
   others_none = λ p others. refl;

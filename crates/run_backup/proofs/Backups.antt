@@ -19,13 +19,16 @@ use Rattle.cmd_types.specs.declared.stages.outcome.Outcome.TheVariants.{Finished
 use Rattle.cmd_types.specs.declared.stages.plan.SyncScope.TheVariants.{Whole}
 use Rattle.cmd_types.specs.Halts.{HaltCause}
 use Rattle.cmd_types.specs.Reached.{OnFinished, back_if, fails_early, reached_by}
-use Rattle.cmd_types.specs.DisksEffect.{Reached, to_end, turned_back, stopped, On, OnAll, DoesWhole, DisksEffect, IsLookedAt}
+use Rattle.cmd_types.specs.DisksEffect.{Reached, to_end, turned_back, stopped, On, OnAll, DoesWhole, DisksEffect}
 use Rattle.cmd_types.specs.World.{World, Failed, AreLater}
 use Rattle.cmd_types.proofs.Counts.{rises_from}
 use Rattle.expire_rules.specs.declared.rules.Rules.{Rules}
 use Rattle.expire_make.specs.Expiry.{retention}
 use Rattle.cmd_expire.specs.FollowUp.{StaysSound}
-use Rattle.cmd_expire.specs.Pruning.{IsMoment}
+use Rattle.expire_make.proofs.Touching.{touches_now}
+use Rattle.cmd_expire.specs.Pruning.{IsMomentIn}
+use Rattle.cmd_expire.proofs.Moments.{moment_from, moment_within}
+use Rattle.cmd_expire.specs.Changing.{Expires}
 use Rattle.cmd_trait.specs.declared.fault.Fault.{Fault}
 use Rattle.cmd_trait.specs.KnownWorld.{KnownWorld, known_world}
 use Rattle.cmd_trait.specs.Meaning.{Place, Meaning, TurnsKnownIf, Unless}
@@ -34,14 +37,13 @@ use Rattle.cmd_trait.specs.Faults.{of_own, own_of}
 use Rattle.cmd_trait.specs.CallEffect.{PartEffect, SamePlaces, Spares, StaysHealed, Closes}
 use Rattle.cmd_trait.proofs.Ends.{all_later}
 use Rattle.cmd_trait.proofs.CallEffects.{all_none, later_on}
-use Rattle.cmd_trait.proofs.PartEffects.{ran_of, all_on, any_ok, any_some}
+use Rattle.cmd_trait.proofs.PartEffects.{ran_of, all_on, any_some}
 use Rattle.run_backup.specs.declared.fault.BackupCommandFault.{BackupCommandFault}
 use Rattle.run_backup.specs.declared.fault.BackupCommandFault.TheVariants.{Backup, FollowUp}
 use Rattle.run_backup.specs.Faults.{of_made, backup_early}
 use Rattle.run_backup.specs.Following.{BackupMeaning, IsBackedUp, WithExpiry, AfterIt, CommandCause, manner_by, backup_meaning}
 use Rattle.run_backup.specs.Followed.{Followed, FollowsBackup, EndsAs}
 use Rattle.run_backup.specs.Lawful.{more_after}
-use Rattle.run_backup.proofs.Expiries.{earlier_moment}
 use Rattle.run_backup.proofs.Followings.{MakesBackup, stopped_steps, followed_steps, unfollowed}
 
 -- ---- what is needed of a kind of backup
@@ -52,9 +54,12 @@ pub record IsFollowable {F : Type 0} (M : BackupMeaning F) : Type 1 where
   -- the repository is sound with the backup
   pub sound : (p : Place) (old new : KnownWorld) (repo : Option Content) (lines : Text) → M.promise p old new repo lines → TurnsKnownIf M.running p.stanza new
       → (command : Command) → M.makes p old new command → NowEffect p.stanza command true old.repo repo → StaysSound p.stanza command old.repo
-  -- what comes after it in the repository and the clock doesn't matter
+  -- it changes no more without an expiry than with one, and with one what that may change too
+  pub changes_none : (expires : Option Rules) (p : Place) (least : ℕ) (a b : View) → M.changes None p least a b → M.changes expires p least a b
+  pub changes_then : (rules : Rules) (p : Place) (least : ℕ) (a b c : View) → M.changes None p least a b → Expires p.stanza rules least b c → M.changes (Some rules) p least a c
+  -- what comes after it in the repository and the clock doesn't matter, as long as the clock doesn't go back
   pub makes_on : (p : Place) (old new : KnownWorld) (repo : Option Content) (clock : ClockState) (command : Command) → M.makes p old new command → M.makes p old (record new { repo = repo; clock = clock }) command
-  pub promise_on : (p : Place) (old new : KnownWorld) (repo : Option Content) (clock : ClockState) (now : Option Content) (lines : Text) → M.promise p old new now lines → M.promise p old (record new { repo = repo; clock = clock }) now lines
+  pub promise_on : (p : Place) (old new : KnownWorld) (repo : Option Content) (clock : ClockState) (now : Option Content) (lines : Text) → new.clock.least ≤ clock.least → M.promise p old new now lines → M.promise p old (record new { repo = repo; clock = clock }) now lines
 
 -- what a backup did, without the expiry that may follow it
 pub record BacksUp {F : Type 0} (M : BackupMeaning F) (p : Place) (b k : World) (made : Result Outcome (Halt F)) : Type 0 where
@@ -64,9 +69,10 @@ pub record BacksUp {F : Type 0} (M : BackupMeaning F) (p : Place) (b k : World) 
   pub closes : IfErr made (HaltCause (M.closes p (known_world b) (known_world k) (Failed b k)) (λ object. Unit {0}))
   pub beside : TurnsKnownIf M.running p.stanza (known_world k) → StaysBeside p.stanza b.repo.view k.repo.view
   pub spool : TurnsKnownIf M.running p.stanza (known_world k) → StaysBeside p.stanza b.spool.view k.spool.view
+  pub changes : M.changes None p b.clock.least b.repo.view k.repo.view
   pub nodes : k.tree.nodes ≡ b.tree.nodes
   pub server : Unless M.running (k.server ≡ b.server)
-  pub others : Unless M.running (k.others ≡ b.others)
+  pub others : M.others_effect p b.others k.others
   pub places : SamePlaces b k
   pub later : AreLater b k
 
@@ -86,17 +92,17 @@ NoneFollows None made = Unit {0}
 NoneFollows (Some rules) (Ok (Finished lines)) = ⊥
 NoneFollows (Some rules) other = Unit {0}
 
-module _ {F : Type 0} (stanza : Text) (least : ℕ) (Is : Command → Type 0) (makes : MakesBackup Is) (a s m t : View) where
+module _ {F : Type 0} (stanza : Text) (least last : ℕ) (Is : Command → Type 0) (makes : MakesBackup Is) (a s m t : View) where
   none_steps : (expires : Option Rules) (made : Result Outcome (Halt F)) (Was : Text → Type 0) → NoneFollows expires made → IfOk made (λ o. OnFinished o Was)
       → ((command : Command) × Is command × DisksEffect Whole stanza command (reached_by (λ (e : F). true) made) a s m t)
-      → (command : Command) × WithExpiry expires least Is command × DisksEffect Whole stanza command (reached_by (λ (e : F). true) made) a s m t
-  none_steps None made Was none ok steps = unfollowed least steps
+      → (command : Command) × WithExpiry expires least last Is command × DisksEffect Whole stanza command (reached_by (λ (e : F). true) made) a s m t
+  none_steps None made Was none ok steps = unfollowed least last steps
   none_steps (Some rules) (Ok (Finished lines)) Was none ok steps = absurd none
   none_steps (Some rules) (Ok (Absent name)) Was none ok steps = absurd ok
   none_steps (Some rules) (Ok (FindingsFound lines count)) Was none ok steps = absurd ok
-  none_steps (Some rules) (Err (Refused e)) Was none ok steps = stopped_steps stanza rules least Is makes a s m t turned_back (back_not true) (unfollowed least steps)
-  none_steps (Some rules) (Err (HaltFailed object)) Was none ok steps = stopped_steps stanza rules least Is makes a s m t (back_if (fails_early object)) (back_not (fails_early object)) (unfollowed least steps)
-  none_steps (Some rules) (Err HaltMemory) Was none ok steps = stopped_steps stanza rules least Is makes a s m t stopped (back_not false) (unfollowed least steps)
+  none_steps (Some rules) (Err (Refused e)) Was none ok steps = stopped_steps stanza rules least last Is makes a s m t turned_back (back_not true) (unfollowed least last steps)
+  none_steps (Some rules) (Err (HaltFailed object)) Was none ok steps = stopped_steps stanza rules least last Is makes a s m t (back_if (fails_early object)) (back_not (fails_early object)) (unfollowed least last steps)
+  none_steps (Some rules) (Err HaltMemory) Was none ok steps = stopped_steps stanza rules least last Is makes a s m t stopped (back_not false) (unfollowed least last steps)
 
 none_promise : {F : Type 0} (stanza : Text) (least : ℕ) (new : KnownWorld) (expires : Option Rules) (made : Result Outcome (Halt F)) (Was : Option Content → Text → Type 0) → NoneFollows expires made
     → IfOk made (λ o. OnFinished o (Was new.repo)) → IfOk made (AfterIt expires stanza least (λ repo o. OnFinished o (Was repo)) new)
@@ -122,7 +128,7 @@ made_ok P (Err e) h = tt
 
 module _ {F : Type 0} (M : BackupMeaning F) (p : Place) (expires : Option Rules) (b k : World) where
   made_cause : (made : Result Outcome (Halt F)) → IfErr made (HaltCause (M.cause p (known_world b) (known_world k)) (Failed b k))
-      → IfErr (of_made made) (HaltCause (CommandCause M p (known_world b) (known_world k) (Failed b k)) (Failed b k))
+      → IfErr (of_made made) (HaltCause (CommandCause M expires p (known_world b) (known_world k) (Failed b k)) (Failed b k))
   made_cause (Ok o) h = tt
   made_cause (Err (Refused e)) h = h
   made_cause (Err (HaltFailed object)) h = h
@@ -145,21 +151,22 @@ module _ {F : Type 0} (M : BackupMeaning F) (facts : IsFollowable M) (p : Place)
   Steps reached = On (means.manner p (known_world b) (known_world k)) (λ command. DisksEffect Whole p.stanza command reached b.repo.view b.spool.view k.repo.view k.spool.view)
 
   none_there : Steps (reached_by (λ (e : F). true) made)
-  none_there = to_manner M.running p.stanza (known_world k) (WithExpiry expires b.clock.least (M.makes p (known_world b) (known_world k))) _
-      (λ turns. none_steps p.stanza b.clock.least (M.makes p (known_world b) (known_world k)) (facts.makes p (known_world b) (known_world k)) b.repo.view b.spool.view k.repo.view k.spool.view expires made
+  none_there = to_manner M.running p.stanza (known_world k) (WithExpiry expires b.clock.least k.clock.least (M.makes p (known_world b) (known_world k))) _
+      (λ turns. none_steps p.stanza b.clock.least k.clock.least (M.makes p (known_world b) (known_world k)) (facts.makes p (known_world b) (known_world k)) b.repo.view b.spool.view k.repo.view k.spool.view expires made
       (M.promise p (known_world b) (known_world k) k.repo.view.now) none h.promise (h.steps turns))
 
   none_ran : PartEffect p means b k (own_of (of_made made))
-  none_ran = ran_of p means b k (Failed b k) (λ object rose. rose) (CommandCause M p (known_world b) (known_world k) (Failed b k)) (λ e why. why) refl tt (of_made made)
+  none_ran = ran_of p means b k (Failed b k) (λ object rose. rose) (CommandCause M expires p (known_world b) (known_world k) (Failed b k)) (λ e why. why) refl tt (of_made made)
       (subst Steps (sym (made_reached made)) none_there)
       (made_ok (means.promise p (known_world b) (known_world k)) made (none_promise p.stanza b.clock.least (known_world k) expires made (M.promise p (known_world b) (known_world k)) none h.promise))
-      (any_ok (of_made made) (λ o. IsLookedAt p.stanza b.repo.view → Unit {0}) (λ o looked. tt))
+      tt
+      tt
       (made_cause M p expires b k made h.cause)
       (all_on (of_made made) (StaysHealed p means b k) (record { agree = λ some x. any_some k.repo.view.now; lasts = λ synced some x. tt }))
       (record {
         beside = h.beside;
         spool = h.spool;
-        repository = tt;
+        repository = facts.changes_none expires p b.clock.least b.repo.view k.repo.view h.changes;
         folder = h.nodes;
         others = h.others;
         turned = all_none (reached_of means (ending_of (own_of (of_made made)))) _ h.nodes;
@@ -184,8 +191,8 @@ module _ {F : Type 0} (M : BackupMeaning F) (facts : IsFollowable M) (p : Place)
   Is = M.makes p (known_world b) (known_world k)
 
   -- as the expiry began
-  was : M.promise p (known_world b) (known_world k) m.repo.view.now (string_bytes lines)
-  was = facts.promise_on p (known_world b) (known_world m) repo.view.now clock m.repo.view.now (string_bytes lines) h.promise
+  was : m.clock.least ≤ clock.least → M.promise p (known_world b) (known_world k) m.repo.view.now (string_bytes lines)
+  was later = facts.promise_on p (known_world b) (known_world m) repo.view.now clock m.repo.view.now (string_bytes lines) later h.promise
 
   there : TurnsKnownIf M.running p.stanza (known_world k) → TurnsKnownIf M.running p.stanza (known_world m)
   there = turns_same M.running
@@ -194,10 +201,10 @@ module _ {F : Type 0} (M : BackupMeaning F) (facts : IsFollowable M) (p : Place)
       turns_same true turns = turns
       turns_same false turns = tt
 
-  made_is : TurnsKnownIf M.running p.stanza (known_world k) → (command : Command) × WithExpiry None b.clock.least Is command × DisksEffect Whole p.stanza command to_end b.repo.view b.spool.view m.repo.view m.spool.view
+  made_is : TurnsKnownIf M.running p.stanza (known_world k) → (command : Command) × WithExpiry None b.clock.least k.clock.least Is command × DisksEffect Whole p.stanza command to_end b.repo.view b.spool.view m.repo.view m.spool.view
   made_is turns =
       let x = h.steps (there turns) in
-      unfollowed b.clock.least (x.0, facts.makes_on p (known_world b) (known_world m) repo.view.now clock x.0 x.1, x.2)
+      unfollowed b.clock.least k.clock.least (x.0, facts.makes_on p (known_world b) (known_world m) repo.view.now clock x.0 x.1, x.2)
 
   places_on : SamePlaces b k
   places_on = record { spool = h.places.spool; repo = opened ∙ h.places.repo; tree = h.places.tree }
@@ -208,11 +215,11 @@ module _ {F : Type 0} (M : BackupMeaning F) (facts : IsFollowable M) (p : Place)
   rose_all : (object : Object) → Failed m k object → Failed b k object
   rose_all object rose = rises_from _ _ _ (h.later object) rose
 
-  both_spares : StaysBeside p.stanza m.repo.view repo.view → (r : Result Outcome (Fault (BackupCommandFault F))) → IfErr r (Closes p both b k) → Spares p both b k r
-  both_spares beside r closed = record {
+  both_spares : StaysBeside p.stanza m.repo.view repo.view → Expires p.stanza rules b.clock.least m.repo.view repo.view → (r : Result Outcome (Fault (BackupCommandFault F))) → IfErr r (Closes p both b k) → Spares p both b k r
+  both_spares beside expires r closed = record {
     beside = λ turns. beside_on p.stanza b.repo.view m.repo.view repo.view (h.beside (there turns)) beside;
     spool = λ turns. h.spool (there turns);
-    repository = tt;
+    repository = facts.changes_then rules p b.clock.least b.repo.view m.repo.view repo.view h.changes expires;
     folder = h.nodes;
     others = h.others;
     turned = all_none (reached_of both (ending_of r)) _ h.nodes;
@@ -224,24 +231,29 @@ module _ {F : Type 0} (M : BackupMeaning F) (facts : IsFollowable M) (p : Place)
 
   module _ (r : Result Outcome (Halt (BackupCommandFault F))) (f : Followed p.stanza rules (string_bytes lines) m.repo repo m.clock clock r) where
     -- none before the least second that the clock might show at first
-    from_first : IsMoment rules.full b.clock.least f.moment
-    from_first = earlier_moment rules.full b.clock.least m.clock.least f.moment le f.may_be
+    from_first : IsMomentIn rules.full b.clock.least clock.least f.moment
+    from_first = moment_within rules.full b.clock.least m.clock.least clock.least f.moment le f.later f.may_be
+
+    -- what it changes
+    may_change : Expires p.stanza rules b.clock.least m.repo.view repo.view
+    may_change = record { only = f.only; moment = f.moment; may_be = moment_from rules.full b.clock.least clock.least f.moment from_first; touches = f.touches }
 
     both_steps : (reached : Reached) → ¬ (reached ≡ turned_back) → OnAll reached (DoesWhole Whole p.stanza (Expire (retention rules f.moment)) m.repo.view repo.view)
         → On (both.manner p (known_world b) (known_world k)) (λ command. DisksEffect Whole p.stanza command reached b.repo.view b.spool.view repo.view m.spool.view)
-    both_steps reached not all = to_manner M.running p.stanza (known_world k) (WithExpiry (Some rules) b.clock.least Is) _
-        (λ turns. followed_steps p.stanza rules b.clock.least Is (facts.makes p (known_world b) (known_world k)) b.repo.view b.spool.view m.repo.view m.spool.view repo.view f.moment from_first reached not
-        (λ command is done. facts.sound p (known_world b) (known_world k) m.repo.view.now (string_bytes lines) was turns command is done) f.part all (made_is turns))
+    both_steps reached not all = to_manner M.running p.stanza (known_world k) (WithExpiry (Some rules) b.clock.least clock.least Is) _
+        (λ turns. followed_steps p.stanza rules b.clock.least clock.least Is (facts.makes p (known_world b) (known_world k)) b.repo.view b.spool.view m.repo.view m.spool.view repo.view f.moment from_first reached not
+        (λ command is done. facts.sound p (known_world b) (known_world k) m.repo.view.now (string_bytes lines) (was f.later) turns command is done) f.part all (made_is turns))
 
   followed_ran : (r : Result Outcome (Halt (BackupCommandFault F))) → Followed p.stanza rules (string_bytes lines) m.repo repo m.clock clock r → PartEffect p both b k (own_of r)
   followed_ran (Ok (Finished more)) f = record {
     steps = both_steps (Ok (Finished more)) f to_end (λ (at : to_end ≡ turned_back). cc) f.whole;
-    promise = record { repo = m.repo.view.now; lines = lines; was = was; moment = f.moment; may_be = from_first (Ok (Finished more)) f; known = f.known; adds = f.adds };
-    lasts = λ looked. tt;
+    promise = record { repo = m.repo.view.now; lines = lines; was = was f.later; moment = f.moment; may_be = from_first (Ok (Finished more)) f; known = f.known; adds = f.adds };
+    lasts = tt;
+    synced = tt;
     acknowledges = tt;
     cause = tt;
     healed = record { agree = λ some x. any_some repo.view.now; lasts = λ synced some x. tt };
-    spares = both_spares f.beside (Ok (Finished more)) tt;
+    spares = both_spares f.beside (may_change (Ok (Finished more)) f) (Ok (Finished more)) tt;
     places = places_on;
     later = later_on b m k h.later later_from;
   }
@@ -251,14 +263,16 @@ module _ {F : Type 0} (M : BackupMeaning F) (facts : IsFollowable M) (p : Place)
     steps = both_steps (Err (Refused (FollowUp known fault))) f stopped (λ (at : stopped ≡ turned_back). cc) tt;
     promise = tt;
     lasts = tt;
+    synced = tt;
     acknowledges = tt;
     cause = (
       m.repo.view.now,
-      subst (M.promise p (known_world b) (known_world k) m.repo.view.now) (sym f.cause.0) was,
+      subst (M.promise p (known_world b) (known_world k) m.repo.view.now) (sym f.cause.0) (was f.later),
       more_after p.stanza m.repo.view.now (rose_all Repo) (rose_all TheClock) fault f.cause.1,
+      (f.moment, from_first (Err (Refused (FollowUp known fault))) f, touches_now p.stanza rules f.moment m.repo.view repo.view f.touches),
     );
     healed = tt;
-    spares = both_spares f.beside (Err (of_own (Refused (FollowUp known fault)))) tt;
+    spares = both_spares f.beside (may_change (Err (Refused (FollowUp known fault))) f) (Err (of_own (Refused (FollowUp known fault)))) tt;
     places = places_on;
     later = later_on b m k h.later later_from;
   }

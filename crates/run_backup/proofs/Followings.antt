@@ -15,9 +15,9 @@ use Rattle.cmd_types.specs.DisksEffect.{Reached, to_end, turned_back, OnAll, Doe
 use Rattle.expire_rules.specs.declared.rules.Rules.{Rules}
 use Rattle.expire_make.specs.Expiry.{retention}
 use Rattle.cmd_expire.specs.FollowUp.{StaysSound}
-use Rattle.cmd_expire.specs.Pruning.{IsMoment}
+use Rattle.cmd_expire.specs.Pruning.{IsMomentIn}
 use Rattle.cmd_expire.proofs.Followed.{stopped_runs, followed_runs}
-use Rattle.cmd_expire.proofs.Prunings.{some_moment}
+use Rattle.cmd_expire.proofs.Moments.{some_moment}
 use Rattle.run_backup.specs.Following.{WithExpiry}
 
 -- ---- which command it is
@@ -27,16 +27,16 @@ abbrev pub MakesBackup : (Command → Type 0) → Type 0
 MakesBackup Is = (command : Command) → Is command → (turns : List Turn) × (b : Backup) × (command ≡ MakeBackup turns b None)
 
 -- one after which none follows
-pub unfollowed : {Is P : Command → Type 0} (least : ℕ) → ((command : Command) × Is command × P command) → (command : Command) × WithExpiry None least Is command × P command
-unfollowed least (command, is, p) = (command, (command, is, refl), p)
+pub unfollowed : {Is P : Command → Type 0} (least last : ℕ) → ((command : Command) × Is command × P command) → (command : Command) × WithExpiry None least last Is command × P command
+unfollowed least last (command, is, p) = (command, (command, is, refl), p)
 
-module _ (stanza : Text) (rules : Rules) (least : ℕ) (Is : Command → Type 0) (makes : MakesBackup Is) (a s m t : View) where
+module _ (stanza : Text) (rules : Rules) (least last : ℕ) (Is : Command → Type 0) (makes : MakesBackup Is) (a s m t : View) where
   -- it reached no end
-  pub stopped_steps : (reached : Reached) → ¬ (reached ≡ to_end) → ((command : Command) × WithExpiry None least Is command × DisksEffect Whole stanza command reached a s m t)
-      → (command : Command) × WithExpiry (Some rules) least Is command × DisksEffect Whole stanza command reached a s m t
+  pub stopped_steps : (reached : Reached) → ¬ (reached ≡ to_end) → ((command : Command) × WithExpiry None least last Is command × DisksEffect Whole stanza command reached a s m t)
+      → (command : Command) × WithExpiry (Some rules) least last Is command × DisksEffect Whole stanza command reached a s m t
   stopped_steps reached not (command, (made, is_made, same), runs) =
       let x = makes made is_made in
-      let n = some_moment rules.full least in
+      let n = some_moment rules.full least last in
       let k = retention rules n.0 in (
         MakeBackup x.0 x.1 (Some k),
         (made, is_made, (x.0, x.1, n.0, n.1, x.2, refl)),
@@ -44,11 +44,11 @@ module _ (stanza : Text) (rules : Rules) (least : ℕ) (Is : Command → Type 0)
       )
 
   -- it reached its end, and an expiry followed at a moment
-  pub followed_steps : (d : View) (moment : ℕ) → IsMoment rules.full least moment → (reached : Reached) → ¬ (reached ≡ turned_back)
+  pub followed_steps : (d : View) (moment : ℕ) → IsMomentIn rules.full least last moment → (reached : Reached) → ¬ (reached ≡ turned_back)
       → ((command : Command) (is : Is command) → NowEffect stanza command true a.now m.now → StaysSound stanza command a.now)
       → DoesPart Whole stanza (Expire (retention rules moment)) m d → OnAll reached (DoesWhole Whole stanza (Expire (retention rules moment)) m d)
-      → ((command : Command) × WithExpiry None least Is command × DisksEffect Whole stanza command to_end a s m t)
-      → (command : Command) × WithExpiry (Some rules) least Is command × DisksEffect Whole stanza command reached a s d t
+      → ((command : Command) × WithExpiry None least last Is command × DisksEffect Whole stanza command to_end a s m t)
+      → (command : Command) × WithExpiry (Some rules) least last Is command × DisksEffect Whole stanza command reached a s d t
   followed_steps d moment may_be reached not sound part all (command, (made, is_made, same), runs) =
       let x = makes made is_made in
       let here = subst (λ (c : Command). DisksEffect Whole stanza c to_end a s m t) (same ∙ x.2) runs in

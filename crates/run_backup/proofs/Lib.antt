@@ -2,4 +2,3 @@ mod Followings
 mod Backups
 mod Offlines
 mod Onlines
-mod Expiries

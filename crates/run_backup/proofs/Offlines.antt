@@ -1,5 +1,5 @@
 -- What a backup of a stopped server did, in terms of all objects.
-use Rattle.std.proofs.Common.{◌≡◌, true, List, [], ◌∷◌, Option, Some, None, Result, Ok, Err, IfOk, IfErr, refl, sym, subst, arith}
+use Rattle.std.proofs.Common.{◌≡◌, inl, inr, ℕ, true, List, [], ◌∷◌, Option, Some, None, Result, Ok, Err, IfOk, IfErr, refl, sym, subst, arith}
 use Rattle.std.specs.Prelude.{◌≤◌, take, Contains, IfSome, IsSomeAnd}
 use Rattle.base_devices.specs.Content.{Content}
 use Rattle.base_devices.specs.DataFolder.{Nodes}
@@ -41,7 +41,12 @@ use Rattle.cmd_backup_offline.specs.Faults.{offline_early}
 use Rattle.cmd_backup_offline.specs.Held.{IsHeld}
 use Rattle.cmd_backup_offline.specs.Kinds.{IsBackupBy}
 use Rattle.cmd_backup_offline.specs.Taken.{IsTaken}
+use Rattle.cmd_backup_offline.specs.Touching.{TouchesOne}
+use Rattle.cmd_backup_offline.proofs.Takings.{made_later}
 use Rattle.expire_rules.specs.declared.rules.Rules.{Rules}
+use Rattle.cmd_expire.specs.Changing.{Expires}
+use Rattle.cmd_expire.proofs.Changing.{both_change, expires_on, expires_still, none_then}
+use Rattle.backup_make.specs.Touched.{TouchesOnly, IsOfBackup}
 use Rattle.cmd_expire.specs.FollowUp.{StaysSound}
 use Rattle.cmd_trait.specs.KnownWorld.{known_world}
 use Rattle.cmd_trait.specs.Meaning.{Place}
@@ -51,7 +56,8 @@ use Rattle.run_backup.specs.declared.fault.BackupCommandFault.{BackupCommandFaul
 use Rattle.run_backup.specs.Asking.{BackupHow}
 use Rattle.run_backup.specs.Followed.{FollowsBackup}
 use Rattle.run_backup.specs.Following.{backup_stages}
-use Rattle.run_backup.specs.Offline.{found_by, taking_of, offline, backup_offline_meaning}
+use Rattle.run_backup.specs.Offline.{MayChange, found_by, taking_of, offline, backup_offline_meaning}
+use Rattle.run_backup.specs.Touchings.{touched_frame}
 use Rattle.run_backup.proofs.Backups.{IsFollowable, BacksUp, backed_ran}
 use Rattle.run_backup.proofs.Followings.{MakesBackup, known_sound}
 
@@ -94,6 +100,17 @@ kind_receipts Incr stanza links old command is = backup_receipts stanza is.0 com
 
 -- ---- an expiry may follow it
 
+-- a later state of the clock is as good
+taken_later : (stanza : Text) (known : Control) (o : OfflineOrder) (nodes : Option Nodes) (used : List LinkState) (old new : Option Content) (clock mid last : ClockState) → mid.least ≤ last.least → (lines : Text) → IsTaken stanza known o nodes used old new clock mid lines → IsTaken stanza known o nodes used old new clock last lines
+taken_later stanza known o nodes used old new clock mid last later lines t = record {
+  list = t.list;
+  seen = t.seen;
+  room = t.room;
+  listing = t.listing;
+  stopped = t.stopped;
+  made = made_later stanza o t.list t.seen used old new clock mid last later lines t.made;
+}
+
 makes_backup : (kind : BackupKind) (links : List LinkState) (stanza : Text) (old : Option Content) → MakesBackup (IsBackupBy kind links stanza old)
 makes_backup Full links stanza old command is = ([], is.0, is.1)
 makes_backup Diff links stanza old command is = ([], is.0, is.1)
@@ -105,12 +122,30 @@ sound_by Full links stanza b old new adds command is done = known_sound stanza [
 sound_by Diff links stanza b old new adds command is done = known_sound stanza [] b old new adds.adds adds.sound is.0 command is.1 done
 sound_by Incr links stanza b old new adds command is done = known_sound stanza [] b old new adds.adds adds.sound is.0 command is.1 done
 
+-- the expiry that may follow it changes no less than none
+change_more : (expires : Option Rules) (stanza : Text) (least : ℕ) (a b : View) → TouchesOne stanza a b → MayChange expires stanza least a b
+change_more None stanza least a b x = x
+change_more (Some rules) stanza least a b (inl still) = inl (expires_still stanza rules least a b still)
+change_more (Some rules) stanza least a b (inr (label, x)) = inr (
+  label,
+  record { is_label = x.is_label; is_new = x.is_new; both = none_then stanza least TouchesOnly touched_frame (IsOfBackup stanza label) (Some rules) a b x.only },
+)
+
+change_then : (rules : Rules) (stanza : Text) (least : ℕ) (a b c : View) → TouchesOne stanza a b → Expires stanza rules least b c → MayChange (Some rules) stanza least a c
+change_then rules stanza least a b c (inl still) h = inl (expires_on stanza rules least a b c still h)
+change_then rules stanza least a b c (inr (label, x)) h = inr (
+  label,
+  record { is_label = x.is_label; is_new = x.is_new; both = both_change stanza least TouchesOnly touched_frame (IsOfBackup stanza label) rules a b c x.only h },
+)
+
 offline_facts : (how : BackupHow) → IsFollowable (offline how)
 offline_facts how = record {
   makes = λ p old new. makes_backup how.kind (take how.workers old.links) p.stanza old.repo;
   sound = λ p old new repo lines was turns command is done. let t = was.2.2 in sound_by how.kind (take how.workers old.links) p.stanza t.made.backup old.repo repo t.made.adds command is done;
   makes_on = λ p old new repo clock command is. is;
-  promise_on = λ p old new repo clock now lines was. was;
+  changes_none = λ expires p least a b x. change_more expires p.stanza least a b x;
+  changes_then = λ rules p least a b c x h. change_then rules p.stanza least a b c x h;
+  promise_on = λ p old new repo clock now lines later was. let t = was.2.2 in (was.0, was.1, (was.2.0, was.2.1, taken_later p.stanza was.2.0 was.0 old.nodes (take how.workers old.links) old.repo now old.clock new.clock clock later lines t));
 }
 
 -- ---- all of it
@@ -149,10 +184,10 @@ module _ {D C : Type 0} (p : Place) (b : World) (state : D → DiskState) (befor
   err_any (Ok x) Q all = tt
   err_any (Err e) Q all = all e
 
-  backs_up : StaysBeside p.stanza b.repo.view repo.view → On (one (IsBackupBy o.kind used p.stanza b.repo.view.now)) (λ command. RepoEffect Whole p.stanza command (reached_by offline_early made) b.repo.view repo.view) →
-      IfOk made (λ outcome. OnFinished outcome (IsTaken p.stanza known o b.tree.nodes used b.repo.view.now repo.view.now)) → (failed : Object → Type 0) → ((object : Object) → failed object → Failed b m object) →
+  backs_up : StaysBeside p.stanza b.repo.view repo.view → TouchesOne p.stanza b.repo.view repo.view → On (one (IsBackupBy o.kind used p.stanza b.repo.view.now)) (λ command. RepoEffect Whole p.stanza command (reached_by offline_early made) b.repo.view repo.view) →
+      IfOk made (λ outcome. OnFinished outcome (IsTaken p.stanza known o b.tree.nodes used b.repo.view.now repo.view.now b.clock (of first))) → (failed : Object → Type 0) → ((object : Object) → failed object → Failed b m object) →
       IfErr made (HaltCause (OfflineCause (found_by p.stanza o.take.workers (known_world b) known) o) failed) → SamePlaces b m → AreLater b m → BacksUp (offline (taking_of o)) p b m made
-  backs_up beside does taken failed rose cause places later = record {
+  backs_up beside changes does taken failed rose cause places later = record {
     steps = λ turns. (
       does.0,
       does.1,
@@ -163,6 +198,7 @@ module _ {D C : Type 0} (p : Place) (b : World) (state : D → DiskState) (befor
     closes = err_any made _ closes_any;
     beside = λ turns. beside;
     spool = λ turns. still_beside p.stanza b.spool.view b.spool.view (still_self b.spool.view);
+    changes = changes;
     nodes = nodes;
     server = refl;
     others = refl;
@@ -170,12 +206,12 @@ module _ {D C : Type 0} (p : Place) (b : World) (state : D → DiskState) (befor
     later = later;
   }
 
-  pub offline_ran : (how : BackupHow) → taking_of o ≡ how → StaysBeside p.stanza b.repo.view repo.view → On (one (IsBackupBy o.kind used p.stanza b.repo.view.now)) (λ command. RepoEffect Whole p.stanza command (reached_by offline_early made) b.repo.view repo.view) →
-      IfOk made (λ outcome. OnFinished outcome (IsTaken p.stanza known o b.tree.nodes used b.repo.view.now repo.view.now)) → (failed : Object → Type 0) → ((object : Object) → failed object → Failed b m object) →
+  pub offline_ran : (how : BackupHow) → taking_of o ≡ how → StaysBeside p.stanza b.repo.view repo.view → TouchesOne p.stanza b.repo.view repo.view → On (one (IsBackupBy o.kind used p.stanza b.repo.view.now)) (λ command. RepoEffect Whole p.stanza command (reached_by offline_early made) b.repo.view repo.view) →
+      IfOk made (λ outcome. OnFinished outcome (IsTaken p.stanza known o b.tree.nodes used b.repo.view.now repo.view.now b.clock (of first))) → (failed : Object → Type 0) → ((object : Object) → failed object → Failed b m object) →
       IfErr made (HaltCause (OfflineCause (found_by p.stanza o.take.workers (known_world b) known) o) failed) → SamePlaces b m → AreLater b m → b.clock.least ≤ (of first).least →
       (state after).opened ≡ (state before).opened → (state before).faults ≤ (state after).faults → (of first).faults ≤ (of last).faults →
       (expires : Option Rules) (r : Result Outcome (Halt (BackupCommandFault OfflineFault))) → FollowsBackup p.stanza expires made state before after of first last r →
       PartEffect p (backup_offline_meaning how expires) b (record m { repo = state after; clock = of last }) (own_of r)
-  offline_ran how is beside does taken failed rose cause places later le opened repo_later clock_later expires r follows =
+  offline_ran how is beside changes does taken failed rose cause places later le opened repo_later clock_later expires r follows =
       subst (λ (x : BackupHow). PartEffect p (backup_offline_meaning x expires) b (record m { repo = state after; clock = of last }) (own_of r)) is
-      (backed_ran (offline (taking_of o)) (offline_facts (taking_of o)) p b m state before after of first last le opened repo_later clock_later expires made (backs_up beside does taken failed rose cause places later) r follows)
+      (backed_ran (offline (taking_of o)) (offline_facts (taking_of o)) p b m state before after of first last le opened repo_later clock_later expires made (backs_up beside changes does taken failed rose cause places later) r follows)

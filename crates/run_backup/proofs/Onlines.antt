@@ -48,7 +48,7 @@ use Rattle.run_backup.specs.declared.fault.BackupCommandFault.{BackupCommandFaul
 use Rattle.run_backup.specs.Asking.{BackupHow, RunningHow}
 use Rattle.run_backup.specs.Followed.{FollowsBackup}
 use Rattle.run_backup.specs.Offline.{taking_of}
-use Rattle.run_backup.specs.Online.{AsksBackup, IsAnyRefusal, IsRunningOf, ShowsLabel, received_by, asked_by, online, backup_online_meaning}
+use Rattle.run_backup.specs.Online.{AsksBackup, IsOfflineRefusal, IsRunningOf, OnlyWaits, ShowsLabel, received_by, asked_by, online, backup_online_meaning}
 use Rattle.run_backup.proofs.Backups.{IsFollowable, BacksUp, backed_ran}
 use Rattle.run_backup.proofs.Followings.{MakesBackup, known_sound}
 
@@ -117,13 +117,15 @@ online_facts server how = record {
   makes = λ p old new. running_makes p.stanza how old new;
   sound = λ p old new repo lines was turns command is done. running_sound p.stanza how old new was.0.2.0 was.0.0 lines repo was.0.2.2 turns command is done;
   makes_on = λ p old new repo clock command is. is;
-  promise_on = λ p old new repo clock now lines was. was;
+  changes_none = λ expires p least a b x. tt;
+  changes_then = λ rules p least a b c x changes. tt;
+  promise_on = λ p old new repo clock now lines later was. was;
 }
 
 -- ---- the talk
 
-any_refusal : (e : OnlineBackupFault) (x : Halt OfflineFault) → ◌≡◌ {A = Halt OnlineBackupFault} (Refused e) (offline_halt x) → IsAnyRefusal e
-any_refusal e (Refused f) is = let same : e ≡ faults.Take f = cc in subst IsAnyRefusal (sym same) tt
+any_refusal : (e : OnlineBackupFault) (x : Halt OfflineFault) → ◌≡◌ {A = Halt OnlineBackupFault} (Refused e) (offline_halt x) → IsOfflineRefusal e
+any_refusal e (Refused f) is = let same : e ≡ faults.Take f = cc in subst IsOfflineRefusal (sym same) tt
 any_refusal e (HaltFailed object) is = cc
 any_refusal e HaltMemory is = cc
 
@@ -171,27 +173,28 @@ module _ {D C : Type 0} (p : Place) (server : Server) (fast : Bool) (turns : ℕ
   closes_of (HaltFailed object) x = tt
   closes_of HaltMemory x = tt
 
-  backs_up : IfSome others.account (λ n. n.stanza ≡ p.stanza → StaysBeside p.stanza b.repo.view repo.view) → IfSome others.account (λ n. n.stanza ≡ p.stanza → StaysBeside p.stanza b.spool.view spool.view) →
+  backs_up : OnlyWaits turns b.others others → IfSome others.account (λ n. n.stanza ≡ p.stanza → StaysBeside p.stanza b.repo.view repo.view) → IfSome others.account (λ n. n.stanza ≡ p.stanza → StaysBeside p.stanza b.spool.view spool.view) →
       RunsOnline p.stanza o.kind used (received_by (known_world b) (known_world m) known) (reached_by online_early made) b.others.account others.account b.repo.view b.spool.view repo.view spool.view →
       IfOk made (λ outcome. OnFinished outcome (BacksUpOnline p.stanza known o b.tree.nodes (received_by (known_world b) (known_world m) known) used b.others.account others.account b.repo.view.now repo.view.now)) →
       OnOk made (AsksBackup server fast talk.place b.server.sent talk.sent) →
       IfErr made (λ h. ((talk ≡ b.server) × ((x : Halt OfflineFault) × (h ≡ offline_halt x))) ⊎ EndsTalk (Failed b m TheServer) talk.sent h) → (failed : Object → Type 0) → ((object : Object) → failed object → Failed b m object) →
       IfErr made (HaltCause (OnlineCause (asked_by p.stanza by_order (known_world b) (known_world m) known)) failed) → SamePlaces b m → AreLater b m → BacksUp (online server by_order) p b m made
-  backs_up beside spool_beside runs taken asks closed failed rose cause places later = record {
+  backs_up waits beside spool_beside runs taken asks closed failed rose cause places later = record {
     steps = running_steps p.stanza by_order (known_world b) (known_world m) known shows others.account _ runs;
     promise = ok_with made _ _ _ (λ lines h asked. ((o, refl, (known, shows, h)), asked)) taken asks;
     cause = err_as made _ _ (cause_of failed rose) cause;
     closes = err_as made _ _ closes_of closed;
     beside = with_account p.stanza others.account _ beside;
     spool = with_account p.stanza others.account _ spool_beside;
+    changes = tt;
     nodes = nodes;
     server = tt;
-    others = tt;
+    others = waits;
     places = places;
     later = later;
   }
 
-  pub online_ran : (how : BackupHow) → taking_of o ≡ how → IfSome others.account (λ n. n.stanza ≡ p.stanza → StaysBeside p.stanza b.repo.view repo.view) → IfSome others.account (λ n. n.stanza ≡ p.stanza → StaysBeside p.stanza b.spool.view spool.view) →
+  pub online_ran : (how : BackupHow) → taking_of o ≡ how → OnlyWaits turns b.others others → IfSome others.account (λ n. n.stanza ≡ p.stanza → StaysBeside p.stanza b.repo.view repo.view) → IfSome others.account (λ n. n.stanza ≡ p.stanza → StaysBeside p.stanza b.spool.view spool.view) →
       RunsOnline p.stanza o.kind used (received_by (known_world b) (known_world m) known) (reached_by online_early made) b.others.account others.account b.repo.view b.spool.view repo.view spool.view →
       IfOk made (λ outcome. OnFinished outcome (BacksUpOnline p.stanza known o b.tree.nodes (received_by (known_world b) (known_world m) known) used b.others.account others.account b.repo.view.now repo.view.now)) →
       OnOk made (AsksBackup server fast talk.place b.server.sent talk.sent) →
@@ -200,6 +203,6 @@ module _ {D C : Type 0} (p : Place) (server : Server) (fast : Bool) (turns : ℕ
       (state after).opened ≡ (state before).opened → (state before).faults ≤ (state after).faults → (of first).faults ≤ (of last).faults →
       (expires : Option Rules) (r : Result Outcome (Halt (BackupCommandFault OnlineBackupFault))) → FollowsBackup p.stanza expires made state before after of first last r →
       PartEffect p (backup_online_meaning server (record { taken = how; fast = fast; turns = turns }) expires) b (record m { repo = state after; clock = of last }) (own_of r)
-  online_ran how is beside spool_beside runs taken asks closed failed rose cause places later le opened repo_later clock_later expires r follows =
+  online_ran how is waits beside spool_beside runs taken asks closed failed rose cause places later le opened repo_later clock_later expires r follows =
       subst (λ (x : BackupHow). PartEffect p (backup_online_meaning server (record { taken = x; fast = fast; turns = turns }) expires) b (record m { repo = state after; clock = of last }) (own_of r)) is
-      (backed_ran (online server by_order) (online_facts server by_order) p b m state before after of first last le opened repo_later clock_later expires made (backs_up beside spool_beside runs taken asks closed failed rose cause places later) r follows)
+      (backed_ran (online server by_order) (online_facts server by_order) p b m state before after of first last le opened repo_later clock_later expires made (backs_up waits beside spool_beside runs taken asks closed failed rose cause places later) r follows)

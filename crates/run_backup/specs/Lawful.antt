@@ -2,23 +2,23 @@
 use Rattle.std.specs.Prelude.{◌≡◌, ◌≢◌, ◌≤◌, ℕ, Bool, true, false, List, [], Option, None, Some, refl}
 use Rattle.std.proofs.Common.{inl, inr, subst, arith}
 use Rattle.base_devices.specs.Content.{Content}
+use Rattle.base_devices.specs.Moments.{View}
 use Rattle.base_model.specs.Repository.{Backup}
 use Rattle.base_model.specs.Steps.{Command, MakeBackup, Turn}
 use Rattle.base_model.specs.Text.{Text}
 use Rattle.archive_lookup.specs.Turns.{ProcessesState}
+use Rattle.archive_store.specs.Still.{IsStill}
 use Rattle.backup_lemmas.proofs.Reading.{no_files}
 use Rattle.cmd_types.specs.declared.stages.object.Object.{Object}
 use Rattle.cmd_types.specs.declared.stages.object.Object.TheVariants.{Repo, Clock as TheClock}
 use Rattle.cmd_types.specs.DisksEffect.{On}
-use Rattle.expire_rules.specs.declared.rules.FullRule.{FullRule}
-use Rattle.expire_rules.specs.declared.rules.FullRule.TheVariants.{Unset, Count, Days}
 use Rattle.expire_rules.specs.declared.rules.Rules.{Rules}
 use Rattle.expire_make.specs.Expiry.{retention}
 use Rattle.cmd_expire.specs.declared.fault.FollowUpFault.{FollowUpFault}
 use Rattle.cmd_expire.specs.declared.fault.FollowUpFault.TheVariants as following
 use Rattle.cmd_expire.specs.FollowUp.{FollowUpCause, IsFollowed}
-use Rattle.cmd_expire.specs.Pruning.{IsMoment}
 use Rattle.cmd_expire.specs.Texts.{after_status}
+use Rattle.cmd_expire.proofs.Moments.{some_moment}
 use Rattle.cmd_expire.proofs.Statuses.{after_late}
 use Rattle.cmd_trait.specs.KnownWorld.{KnownWorld}
 use Rattle.cmd_trait.specs.Meaning.{Place, IsLawful, HasOne, IsEarly, IsOf, IsServerRefusal, EndsTalk, TurnsKnownIf, Unless, apart}
@@ -41,23 +41,24 @@ pub record IsBackupLawful {F : Type 0} (m : BackupMeaning F) : Type 1 where
       → IsServerRefusal (m.status fault) → Unless m.running (new.server ≡ old.server)
       → m.closes p old new failed fault
       → EndsTalk old new failed (m.status fault)
+  -- what is only read before it is nothing that it changes
+  pub changes_none : (expires : Option Rules) (p : Place) (least : ℕ) (b k : View) → IsStill b k
+      → m.changes expires p least b k
+  pub changes_on : (expires : Option Rules) (p : Place) (least : ℕ) (b c k : View) → IsStill b c
+      → m.changes expires p least c k → m.changes expires p least b k
   -- its statuses are those of refusals
   pub over : (fault : F) → 2 ≤ m.status fault
   pub not_found : (fault : F) → m.status fault ≢ 65
+  -- where other processes did nothing they are as they may be
+  pub others_none : (p : Place) (others : ProcessesState) → m.others_effect p others others
 
 -- ---- which command it is
 
--- a moment by which the rules may be read
-some_moment : (full : FullRule) (least : ℕ) → (moment : ℕ) × IsMoment full least moment
-some_moment Unset least = (0, refl)
-some_moment (Count n) least = (0, refl)
-some_moment (Days n) least = (least, omega arith)
-
 -- nothing was done of a backup, with an expiry after it
-any_followed : (rules : Option Rules) (least : ℕ) (turns : List Turn) (b : Backup)
-    → (command : Command) × IsFollowed rules least (MakeBackup turns b None) command
-any_followed None least turns b = (MakeBackup turns b None, refl)
-any_followed (Some rules) least turns b = let m = some_moment rules.full least in
+any_followed : (rules : Option Rules) (first last : ℕ) (turns : List Turn) (b : Backup)
+    → (command : Command) × IsFollowed rules first last (MakeBackup turns b None) command
+any_followed None first last turns b = (MakeBackup turns b None, refl)
+any_followed (Some rules) first last turns b = let m = some_moment rules.full first last in
     (MakeBackup turns b (Some (retention rules m.0)), (turns, b, m.0, m.1, refl, refl))
 
 has_one : (running : Bool) (stanza : Text) (new : KnownWorld) (Is : Command → Type 0)
@@ -71,10 +72,6 @@ is_there : (running : Bool) (stanza : Text) (new : KnownWorld) (Is P : Command �
 is_there true stanza new Is P turns on = on turns
 is_there false stanza new Is P turns on = on
 
-same_others : (running : Bool) (others : ProcessesState) → Unless running (others ≡ others)
-same_others true others = tt
-same_others false others = refl
-
 -- ---- why it ends
 
 -- for more reasons, where there are more
@@ -86,12 +83,13 @@ more_after stanza repo to other following.Repo h = to h
 more_after stanza repo to other following.Clock h = other h
 more_after stanza repo to other following.NoMemory h = h
 
-more_cause : {F : Type 0} (m : BackupMeaning F) (p : Place) (old new : KnownWorld) (failed others : Object → Type 0)
-    → ((object : Object) → failed object → others object) → (fault : BackupCommandFault F)
-    → CommandCause m p old new failed fault → CommandCause m p old new others fault
-more_cause m p old new failed others to (OfBackup fault) h = h
-more_cause m p old new failed others to (FollowUp lines fault) (repo, was, why) =
-    (repo, was, more_after p.stanza repo (to Repo) (to TheClock) fault why)
+more_cause : {F : Type 0} (m : BackupMeaning F) (expires : Option Rules) (p : Place) (old new : KnownWorld)
+    (failed others : Object → Type 0) → ((object : Object) → failed object → others object)
+    → (fault : BackupCommandFault F)
+    → CommandCause m expires p old new failed fault → CommandCause m expires p old new others fault
+more_cause m expires p old new failed others to (OfBackup fault) h = h
+more_cause m expires p old new failed others to (FollowUp lines fault) (repo, was, why, left) =
+    (repo, was, more_after p.stanza repo (to Repo) (to TheClock) fault why, left)
 
 more_closes : {F : Type 0} (m : BackupMeaning F) → IsBackupLawful m → (p : Place) (old new : KnownWorld)
     (repo : Option Content) (failed others : Object → Type 0) → ((object : Object) → failed object → others object)
@@ -141,19 +139,20 @@ talk m laws p old new failed (FollowUp lines fault) is same closes =
 pub backup_lawful : {F : Type 0} (m : BackupMeaning F) → IsBackupLawful m → (expires : Option Rules)
     → IsLawful (backup_meaning m expires)
 backup_lawful m laws expires = record {
-  some = λ p old new same. has_one m.running p.stanza new (WithExpiry expires old.clock.least (m.makes p old new))
-      (λ turns. let x = any_followed expires old.clock.least [] no_files in
+  some = λ p old new same. has_one m.running p.stanza new
+      (WithExpiry expires old.clock.least new.clock.least (m.makes p old new))
+      (λ turns. let x = any_followed expires old.clock.least new.clock.least [] no_files in
       (x.0, (MakeBackup [] no_files None, laws.some p old new same turns, x.1)));
   healed = λ p old new repo heals P h. subst (λ (r : Option Content). On (manner_by m.running p.stanza new
-      (WithExpiry expires old.clock.least (m.makes p (record old { repo = r }) new))) P) heals h;
-  more = more_cause m;
+      (WithExpiry expires old.clock.least new.clock.least (m.makes p (record old { repo = r }) new))) P) heals h;
+  more = more_cause m expires;
   closes_more = more_closes m laws;
   arguments_closes = λ p old failed fault h. absurd h;
-  repo_none = λ p least b k still. tt;
-  repo_on = λ p least b c k still h. tt;
+  repo_none = λ p least b k still. laws.changes_none expires p least b k still;
+  repo_on = λ p least b c k still h. laws.changes_on expires p least b c k still h;
   folder_none = λ p old. refl;
   folder_on = λ p old repo nodes same h. h;
-  others_none = λ p others. same_others m.running others;
+  others_none = laws.others_none;
   turned_none = λ p old new n nodes same. nodes;
   turned_on = λ p old new repo n same h. h;
   over = over m laws;
@@ -163,7 +162,8 @@ backup_lawful m laws expires = record {
   no_spool = λ none. refl;
   talk = talk m laws;
   there = λ p old new known turns P on.
-      is_there m.running p.stanza new (WithExpiry expires old.clock.least (m.makes p old new)) P turns on;
+      is_there m.running p.stanza new (WithExpiry expires old.clock.least new.clock.least (m.makes p old new)) P turns
+      on;
   through = λ is p old new. tt;
   opens_only = λ off. absurd (apart off);
   lasts_alone = λ off p nodes repo now_nodes outcome. absurd (apart off);

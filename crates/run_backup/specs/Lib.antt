@@ -6,5 +6,6 @@ pub mod Offline
 pub mod Online
 pub mod Orders
 pub mod Lawful
+pub mod Touchings
 pub mod OfflineLawful
 pub mod OnlineLawful

@@ -5,7 +5,7 @@ use Rattle.base_model.specs.Text.{Text}
 use Rattle.repo_stanza.specs.declared.control.Control.{Control}
 use Rattle.server_talk.specs.Sends.{Ended}
 use Rattle.server_talk.specs.Telling.{starting, stopping}
-use Rattle.archive_lookup.specs.Turns.{Turned}
+use Rattle.archive_lookup.specs.Turns.{ProcessesState, Turned}
 use Rattle.archive_wait.specs.TurnsDone.{turns_of}
 use Rattle.cmd_types.specs.declared.stages.object.Object.TheVariants.{Server as TheServer}
 use Rattle.cmd_stanza_create.specs.Server.{Server, socket_path}
@@ -14,6 +14,7 @@ use Rattle.cmd_backup_online.specs.declared.fault.OnlineBackupFault.TheVariants.
 use Rattle.cmd_backup_online.specs.Causes.{Asked, OnlineCause}
 use Rattle.cmd_backup_online.specs.Doing.{Received, TakesTurns, IsOnlineBy}
 use Rattle.cmd_backup_online.specs.Modelled.{IsLabelKnown}
+use Rattle.cmd_backup_online.specs.Running.{TurnsWithin}
 use Rattle.cmd_backup_online.specs.Taken.{BacksUpOnline}
 use Rattle.cmd_backup_online.specs.Texts.{online_backup_status, online_backup_message}
 use Rattle.expire_rules.specs.declared.rules.Rules.{Rules}
@@ -57,6 +58,13 @@ asked_by stanza how old new known = record {
   now = new.repo;
 }
 
+-- ---- other processes
+
+-- This program was started no more, and other processes took this many steps at most.
+pub record OnlyWaits (most : ℕ) (old new : ProcessesState) : Type 0 where
+  pub started : new.started ≡ old.started
+  pub turns : TurnsWithin most old new
+
 -- ---- the talk
 
 -- the server was asked at its socket, asked to start a backup and to stop it, and the talk was ended
@@ -65,9 +73,9 @@ AsksBackup s fast place old new = (place ≡ socket_path s)
     × (new ≡ option_map (λ said. said ++ starting s.user s.database fast ++ stopping) old)
 
 -- a running server's backup is refused as a stopped one's is
-abbrev pub IsAnyRefusal : OnlineBackupFault → Type 0
-IsAnyRefusal (Take fault) = Unit {0}
-IsAnyRefusal other = ⊥
+abbrev pub IsOfflineRefusal : OnlineBackupFault → Type 0
+IsOfflineRefusal (Take fault) = Unit {0}
+IsOfflineRefusal other = ⊥
 
 -- ---- the command
 
@@ -82,10 +90,12 @@ online server how = record {
       old.others.account new.others.account old.repo repo lines))
       × AsksBackup server how.fast new.server.place old.server.sent new.server.sent;
   cause = λ p old new fault. OnCluster old.nodes (λ known. OnlineCause (asked_by p.stanza how old new known) fault);
-  closes = λ p old new failed fault. (IsAnyRefusal fault × (new.server ≡ old.server))
+  closes = λ p old new failed fault. (IsOfflineRefusal fault × (new.server ≡ old.server))
       ⊎ (Ended new.server.sent ⊎ failed TheServer);
+  changes = λ expires p least old new. Unit {0};
   status = online_backup_status;
   message = online_backup_message;
+  others_effect = λ p old new. OnlyWaits how.turns old new;
 }
 
 -- and then the expiry by these rules, where there are some

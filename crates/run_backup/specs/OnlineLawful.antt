@@ -29,7 +29,7 @@ use Rattle.cmd_trait.specs.Meaning.{Place, IsLawful, IsServerRefusal, EndsTalk}
 use Rattle.run_backup.specs.Asking.{RunningHow}
 use Rattle.run_backup.specs.Lawful.{IsBackupLawful, backup_lawful}
 use Rattle.run_backup.specs.OfflineLawful.{offline_not_found}
-use Rattle.run_backup.specs.Online.{IsAnyRefusal, ShowsLabel, online, backup_online_meaning}
+use Rattle.run_backup.specs.Online.{IsOfflineRefusal, OnlyWaits, ShowsLabel, online, backup_online_meaning}
 
 -- ---- which command it is
 
@@ -60,6 +60,14 @@ idle stanza how old new same (Some k) is there = (
   none_by how.taken.kind (take how.taken.workers old.links) [] None stanza old.repo,
 )
 
+-- ---- other processes
+
+none_waited : (most : ℕ) (others : ProcessesState) → OnlyWaits most others others
+none_waited most others = record {
+  started = refl;
+  turns = (0, omega arith, record { none = λ is. refl; some = λ low. absurd (omega (arith, low)) });
+}
+
 -- ---- with which status
 
 not_server : (fault : ServerFault) → server_status fault ≢ 65
@@ -88,7 +96,7 @@ only_many n (inl low) (inr is) = is.0
 only_many n (inr high) (inl is) = absurd (omega (arith, high, is.1))
 only_many n (inr high) (inr is) = is.0
 
-any_long : (fault : OnlineBackupFault) → IsAnyRefusal fault → IsServerRefusal (online_backup_status fault)
+any_long : (fault : OnlineBackupFault) → IsOfflineRefusal fault → IsServerRefusal (online_backup_status fault)
     → 70 ≤ online_backup_status fault
 any_long (faults.Take fault) any is = only_many _ (offline_within fault).1 is
 any_long (faults.Server fault) any is = absurd any
@@ -116,8 +124,11 @@ online_laws server how = record {
   some = λ p old new same turns. idle p.stanza how old new same new.others.account refl turns;
   closes_more = λ p old new repo failed others to fault h. more_closes (to TheServer) h;
   talk = λ p old new failed fault is same closes. talk server how p old new failed fault is closes;
+  changes_none = λ expires p least b k still. tt;
+  changes_on = λ expires p least b c k still h. tt;
   over = online_backup_over;
   not_found = not_found;
+  others_none = λ p others. none_waited how.turns others;
 }
 
 -- the laws of a running server's backup

@@ -4,6 +4,8 @@
 //!
 //! - `BackupOffline` is a command that means `backup_offline_meaning`, and `BackupOnline` one that means
 //!   `backup_online_meaning`.
+//! - After every answer one of a stopped server has changed nothing but the folder of one new label and the backup pair,
+//!   whatever the repository holds; and an expiry after it no more than an expiry may change.
 //! - `expire_next`: where rules are given, and the backup succeeded, the expiry follows it, and reports after its lines
 //!   what was removed. Otherwise nothing is done, and the command ends as the backup did.
 //! - Lemmas (`proofs/Backups`), once for both kinds: a backup and such an expiry after it are what the command means.

@@ -13,7 +13,7 @@ use Rattle.cmd_types.specs.declared.stages.outcome.Outcome.{Outcome}
 use Rattle.cmd_types.specs.declared.stages.plan.SyncScope.TheVariants.{Whole}
 use Rattle.cmd_types.specs.Halts.{HaltCause}
 use Rattle.cmd_types.specs.Reached.{OnFinished, reached_by}
-use Rattle.cmd_types.specs.DisksEffect.{IsLookedAt, DisksEffect}
+use Rattle.cmd_types.specs.DisksEffect.{DisksEffect}
 use Rattle.cmd_types.specs.World.{World, Failed, AreLater}
 use Rattle.cmd_types.proofs.Lifted.{does_runs}
 use Rattle.expire_rules.specs.declared.rules.Rules.{Rules}
@@ -23,6 +23,7 @@ use Rattle.expire_make.proofs.Receipts.{expiry_spool}
 use Rattle.cmd_expire.specs.declared.fault.ExpireCommandFault.{ExpireCommandFault}
 use Rattle.cmd_expire.specs.Faults.{expire_early, ExpireCommandCause}
 use Rattle.cmd_expire.specs.Pruning.{counts_days, Prunes, ShowsMoment, IsExpired}
+use Rattle.cmd_expire.proofs.Moments.{moment_from}
 use Rattle.cmd_trait.specs.KnownWorld.{KnownWorld, known_world}
 use Rattle.cmd_trait.specs.Meaning.{Place, Unless}
 use Rattle.cmd_trait.specs.Ends.{ending_of, reached_of}
@@ -30,7 +31,7 @@ use Rattle.cmd_trait.specs.Faults.{own_of, of_own}
 use Rattle.cmd_trait.specs.CallEffect.{PartEffect, SamePlaces, StaysHealed, Closes}
 use Rattle.cmd_trait.proofs.Ends.{own_err}
 use Rattle.cmd_trait.proofs.CallEffects.{all_none}
-use Rattle.cmd_trait.proofs.PartEffects.{ran_of, any_ok, all_on, any_err, any_some, spool_kept}
+use Rattle.cmd_trait.proofs.PartEffects.{ran_of, all_on, any_err, any_some, spool_kept}
 use Rattle.run_expire.specs.Expiring.{Removes, expire_meaning}
 
 removes : (stanza : Text) (rules : Rules) (moment : ℕ) (old new : KnownWorld) (r : Result Outcome (Halt ExpireCommandFault)) → OnOk r (ShowsMoment rules.full old.clock new.clock moment) → IfOk r (λ o. OnFinished o (IsExpired stanza rules moment old.repo new.repo)) →
@@ -60,13 +61,14 @@ module _ (p : Place) (b k : World) (rest : k ≡ record b { repo = k.repo; clock
             (does_runs Whole p.stanza command (reached_by expire_early r) b.repo.view k.repo.view b.spool.view (λ q log keeps. expiry_spool p.stanza (retention rules x.moment) true q log b.spool.view keeps) x.does),
       )
       (removes p.stanza rules x.moment (known_world b) (known_world k) r x.known x.pruned)
-      (any_ok r (λ o. IsLookedAt p.stanza b.repo.view → Unit {0}) (λ o looked. tt))
+      tt
+      tt
       cause
       (all_on r (StaysHealed p (expire_meaning rules) b k) (record { agree = λ some h. any_some k.repo.view.now; lasts = λ synced some h. tt }))
       (record {
         beside = λ known. beside;
         spool = λ known. spool_kept p.stanza b k (ap (λ (s : World). s.spool.view) rest);
-        repository = record { only = only; moment = x.moment; may_be = x.may_be; touches = x.touches };
+        repository = record { only = only; moment = x.moment; may_be = moment_from rules.full b.clock.least k.clock.least x.moment x.may_be; touches = x.touches };
         folder = ap (λ (s : World). s.tree.nodes) rest;
         others = ap (λ (s : World). s.others) rest;
         turned = all_none (reached_of (expire_meaning rules) (ending_of (own_of r))) _ (ap (λ (s : World). s.tree.nodes) rest);

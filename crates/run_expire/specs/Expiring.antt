@@ -1,9 +1,5 @@
 -- What expire means.
-use Rattle.std.specs.Prelude.{◌≡◌, ℕ, true, false, [], None, Some, IsSome}
-use Rattle.base_devices.specs.Moments.{View}
-use Rattle.base_disk.specs.Store.{ChangesOnly}
-use Rattle.base_model.specs.Now.{NowRepresents}
-use Rattle.base_model.specs.Repository.{Stanza}
+use Rattle.std.specs.Prelude.{◌≡◌, ℕ, true, false, [], None}
 use Rattle.base_model.specs.Text.{Text}
 use Rattle.cmd_types.specs.declared.stages.outcome.Outcome.{Outcome}
 use Rattle.cmd_types.specs.declared.stages.plan.Plan.{Plan}
@@ -12,26 +8,13 @@ use Rattle.cmd_types.specs.declared.stages.plan.Pairs.TheVariants.{ReadBoth}
 use Rattle.cmd_types.specs.Reached.{OnFinished}
 use Rattle.cmd_types.specs.DisksEffect.{one}
 use Rattle.expire_rules.specs.declared.rules.Rules.{Rules}
-use Rattle.expire_make.specs.Expiry.{IsTouched}
-use Rattle.expire_make.specs.Losing.{MayExpire}
 use Rattle.cmd_expire.specs.declared.fault.ExpireCommandFault.{ExpireCommandFault}
 use Rattle.cmd_expire.specs.Faults.{expire_early, ExpireCommandCause}
 use Rattle.cmd_expire.specs.Texts.{expire_status, expire_message}
-use Rattle.cmd_expire.specs.Pruning.{IsMoment, ShowsMoment, IsExpiryBy, IsExpired, counts_days}
+use Rattle.cmd_expire.specs.Changing.{Expires}
+use Rattle.cmd_expire.specs.Pruning.{ShowsMoment, IsExpiryBy, IsExpired, counts_days}
 use Rattle.cmd_trait.specs.KnownWorld.{KnownWorld}
 use Rattle.cmd_trait.specs.Meaning.{Meaning, nothing}
-
--- What expire may change, after every answer and at each moment.
-pub record Expires (stanza : Text) (rules : Rules) (least : ℕ) (old new : View) : Type 0 where
-  -- whatever the disk holds: the backup pair, folders of labels, and files of the archive that aren't histories of
-  -- timelines
-  pub only : ChangesOnly (MayExpire stanza) old new
-  -- of a stanza, by the rules at some moment: of these no folder of a label that is listed in the end, and no file that
-  -- is needed then
-  pub moment : ℕ
-  pub may_be : IsMoment rules.full least moment
-  pub touches : (s : Stanza) → IsSome old.now → NowRepresents stanza (Some s) old.now
-      → ChangesOnly (IsTouched stanza rules moment s) old new
 
 -- Ok of expire: all is gone that the rules expire at the moment that the clock showed, and the lines state it
 abbrev pub Removes : Text → Rules → KnownWorld → KnownWorld → Outcome → Type 0
@@ -55,7 +38,8 @@ expire_meaning rules = record {
   staged = true;
   spool = None;
   uses = record nothing { clock = counts_days rules.full };
-  manner = λ p old new. one (IsExpiryBy rules old.clock.least);
+  unsyncs = true;
+  manner = λ p old new. one (IsExpiryBy rules old.clock.least new.clock.least);
   promise = λ p old new outcome. Removes p.stanza rules old new outcome;
   lasts = λ p nodes repo now_nodes outcome. Unit {0};
   acknowledges = λ p old new. Unit {0};

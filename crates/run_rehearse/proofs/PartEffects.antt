@@ -15,7 +15,7 @@ use Rattle.cmd_types.specs.declared.stages.outcome.Outcome.TheVariants.{Finished
 use Rattle.cmd_types.specs.declared.stages.plan.SyncScope.TheVariants.{Whole}
 use Rattle.cmd_types.specs.Halts.{HaltCause}
 use Rattle.cmd_types.specs.Reached.{reached_by}
-use Rattle.cmd_types.specs.DisksEffect.{Reached, RepoEffect, DisksEffect, OnNone, IsLookedAt}
+use Rattle.cmd_types.specs.DisksEffect.{Reached, RepoEffect, DisksEffect, OnNone}
 use Rattle.cmd_types.specs.World.{World, Failed, AreLater}
 use Rattle.cmd_rehearse.specs.declared.fault.RehearseFault.{RehearseFault}
 use Rattle.cmd_rehearse.specs.declared.fault.RehearseFault.TheVariants.{StanzaExists, NotEmpty, Step}
@@ -29,7 +29,7 @@ use Rattle.cmd_trait.specs.Meaning.{Place}
 use Rattle.cmd_trait.specs.Faults.{own_of, of_own}
 use Rattle.cmd_trait.specs.CallEffect.{PartEffect, SamePlaces, StaysHealed, Closes}
 use Rattle.cmd_trait.proofs.Ends.{reached_same, own_err}
-use Rattle.cmd_trait.proofs.PartEffects.{ran_of, any_ok, all_on, any_err, any_some, spool_kept}
+use Rattle.cmd_trait.proofs.PartEffects.{ran_of, all_on, any_err, any_some, spool_kept}
 use Rattle.run_rehearse.specs.Rehearsing.{size_by, rehearse_meaning}
 
 ok_as : {E : Type 0} (r : Result Outcome E) (P Q : Outcome → Type 0) → ((o : Outcome) → P o → Q o) → IfOk r P → IfOk r Q
@@ -78,7 +78,8 @@ module _ (p : Place) (number : ℕ) (b k : World) (spool : k.spool.view ≡ b.sp
             (leaves_spool Whole p.stanza command (reached_by rehearse_early r) b.repo.view k.repo.view b.spool.view does),
       )
       (ok_as r _ _ (λ o h. (x, y, z, h)) shows)
-      (any_ok r (λ o. IsLookedAt p.stanza b.repo.view → Unit {0}) (λ o looked. tt))
+      tt
+      tt
       cause
       (all_on r (StaysHealed p m b k) (record { agree = λ some h. any_some k.repo.view.now; lasts = λ synced some h. tt }))
       (record {

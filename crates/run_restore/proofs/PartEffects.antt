@@ -1,11 +1,12 @@
 -- What restore's own part did, known of all objects.
-use Rattle.std.proofs.Common.{◌≡◌, ◌≢◌, ◌⊎◌, ⊎_elim, inl, inr, Option, Some, Result, Ok, Err, IfOk, IfErr, refl, subst, ap, true}
+use Rattle.std.proofs.Common.{◌≡◌, ◌≢◌, ◌⊎◌, inl, inr, Option, Some, Result, Ok, Err, IfOk, IfErr, refl, subst, ap, true, string_bytes}
 use Rattle.std.specs.Prelude.{OnErr}
 use Rattle.base_devices.specs.Content.{Content}
 use Rattle.base_model.specs.declared.labels.Label.{Label}
 use Rattle.base_model.specs.Now.{NowRepresents}
 use Rattle.base_model.specs.Repository.{Stanza}
 use Rattle.base_model.specs.Text.{Text}
+use Rattle.base_model.proofs.Walking.{rests_synced}
 use Rattle.archive_store.specs.Still.{IsStill}
 use Rattle.restore_steps.specs.Clearing.{control_path, HasNone}
 use Rattle.cmd_types.specs.declared.stages.object.Object.{Object}
@@ -19,7 +20,7 @@ use Rattle.cmd_types.specs.declared.stages.plan.SyncScope.TheVariants.{Whole}
 use Rattle.cmd_types.specs.Halts.{HaltCause}
 use Rattle.cmd_types.specs.Reached.{OnFinished, reached_by, back_if, fails_early}
 use Rattle.cmd_types.specs.StagesTexts.{object_status}
-use Rattle.cmd_types.specs.DisksEffect.{OnNone, IsLookedAt}
+use Rattle.cmd_types.specs.DisksEffect.{OnNone}
 use Rattle.cmd_types.specs.World.{World, Failed, AreLater}
 use Rattle.cmd_types.proofs.Besides.{still_beside}
 use Rattle.cmd_restore.specs.declared.fault.RestoreCommandFault.{RestoreCommandFault}
@@ -35,8 +36,8 @@ use Rattle.cmd_trait.specs.Ends.{status, ending_of, reached_of}
 use Rattle.cmd_trait.specs.Faults.{own_of, of_own}
 use Rattle.cmd_trait.specs.CallEffect.{PartEffect, SamePlaces, StaysHealed, Closes}
 use Rattle.cmd_trait.proofs.Ends.{own_err}
-use Rattle.cmd_trait.proofs.PartEffects.{ran_of, any_ok, all_on, any_err, any_some, spool_kept, reading_runs}
-use Rattle.run_restore.specs.Restoring.{RestoreHow, found_for, Restores, LeavesWhole, restore_meaning}
+use Rattle.cmd_trait.proofs.PartEffects.{ran_of, all_on, any_err, any_some, spool_kept, reading_runs}
+use Rattle.run_restore.specs.Restoring.{RestoreHow, found_for, Restores, LeavesWhole, LeavesRefused, restore_meaning}
 
 -- with another status than these the workers weren't started
 first_leaves : (e : RestoreCommandFault) → restore_status e ≢ 55 → restore_status e ≢ 56 → restore_status e ≢ 63 → leaves_folder (Refused e) ≡ true
@@ -64,16 +65,16 @@ module _ (p : Place) (b k : World) (rest : k ≡ record b { repo = k.repo; tree 
   abbrev Stays : Type 0
   Stays = k.tree.nodes ≡ b.tree.nodes
 
-  -- where it is refused before its workers are started, the folder stays
-  turned : (failed : Object → Type 0) → (failed TheServer → ⊥) → (why : RestoreCommandFault → Type 0) (r : Result Outcome (Halt RestoreCommandFault)) → IfOk r IsIn → IfErr r (HaltCause why failed) → IfErr r (λ h. leaves_folder h ≡ true → Stays) →
-      OnNone (reached_of (restore_meaning set how) (ending_of (own_of r))) (status (restore_meaning set how) (ending_of (own_of r)) ≢ 55 → status (restore_meaning set how) (ending_of (own_of r)) ≢ 56 → status (restore_meaning set how) (ending_of (own_of r)) ≢ 63 → Stays)
-  turned failed never why (Ok (Finished lines)) f cause h = tt
-  turned failed never why (Ok (Absent name)) f cause h = absurd f
-  turned failed never why (Ok (FindingsFound lines count)) f cause h = absurd f
-  turned failed never why (Err (Refused e)) f cause h = λ a b c. h (first_leaves e a b c)
-  turned failed never why (Err (HaltFailed object)) f cause h = go object cause
+  -- where it is refused, no half of a backup is left; and before its workers are started the folder stays
+  turned : (failed : Object → Type 0) → (failed TheServer → ⊥) → (why : RestoreCommandFault → Type 0) (r : Result Outcome (Halt RestoreCommandFault)) → IfOk r IsIn → IfErr r (HaltCause why failed) → OnErr r (Stays ⊎ HasNone control_path k.tree.nodes) → IfErr r (λ h. leaves_folder h ≡ true → Stays) →
+      OnNone (reached_of (restore_meaning set how) (ending_of (own_of r))) (LeavesRefused (known_world b) (known_world k) (status (restore_meaning set how) (ending_of (own_of r))))
+  turned failed never why (Ok (Finished lines)) f cause half h = tt
+  turned failed never why (Ok (Absent name)) f cause half h = absurd f
+  turned failed never why (Ok (FindingsFound lines count)) f cause half h = absurd f
+  turned failed never why (Err (Refused e)) f cause half h = (half, λ x y z. h (first_leaves e x y z))
+  turned failed never why (Err (HaltFailed object)) f cause half h = go object cause
     where
-      go : (o : Object) → failed o → OnNone (back_if (fails_early o)) (object_status o ≢ 55 → object_status o ≢ 56 → object_status o ≢ 63 → Stays)
+      go : (o : Object) → failed o → OnNone (back_if (fails_early o)) (LeavesRefused (known_world b) (known_world k) (object_status o))
       go objects.Server x = absurd (never x)
       go objects.Repo x = tt
       go objects.Spool x = tt
@@ -83,14 +84,14 @@ module _ (p : Place) (b k : World) (rest : k ≡ record b { repo = k.repo; tree 
       go objects.Locks x = tt
       go objects.Config x = tt
       go objects.Output x = tt
-  turned failed never why (Err HaltMemory) f cause h = tt
+  turned failed never why (Err HaltMemory) f cause half h = tt
 
   -- the folder is unchanged, or has no control file, or holds a whole backup
-  left_whole : (r : Result Outcome (Halt RestoreCommandFault)) → IfOk r IsIn → OnErr r (Stays ⊎ HasNone control_path k.tree.nodes) → LeavesWhole p how (known_world b) k.tree.nodes
-  left_whole (Ok (Finished lines)) ok err = inr (inr (ok.manifest, ok.finished))
+  left_whole : (r : Result Outcome (Halt RestoreCommandFault)) → IfOk r IsIn → OnErr r (Stays ⊎ HasNone control_path k.tree.nodes) → LeavesWhole p set how (known_world b) k.tree.nodes
+  left_whole (Ok (Finished lines)) ok err = inr (label, is_set, (string_bytes lines, ok))
   left_whole (Ok (Absent name)) ok err = absurd ok
   left_whole (Ok (FindingsFound lines count)) ok err = absurd ok
-  left_whole (Err h) ok err = ⊎_elim (λ e. inl e) (λ n. inr (inl n)) err
+  left_whole (Err h) ok err = inl err
 
   closes_none : (h : Halt RestoreCommandFault) → Unit {0} → Closes p (restore_meaning set how) b k (of_own h)
   closes_none (Refused e) x = tt
@@ -107,7 +108,8 @@ module _ (p : Place) (b k : World) (rest : k ≡ record b { repo = k.repo; tree 
       (ran_of p (restore_meaning set how) b k failed rose (RestoreCommandCause (found_for p label how (known_world b))) (λ e h. (label, is_set, h)) refl tt r
       (λ command x. reading_runs Whole p.stanza command (reached_by restore_early r) b k x still (ap (λ (s : World). s.spool.view) rest))
       (both r IsIn _ (Restores p set how (known_world b) (known_world k)) (λ o x y. record { label = label; is = is_set; recovers = x; gives = y }) restored given)
-      (any_ok r (λ o. IsLookedAt p.stanza b.repo.view → Unit {0}) (λ o looked. tt))
+      tt
+      (λ synced some. rests_synced p.stanza b.repo.view k.repo.view still.time still.now synced)
       cause
       (all_on r (StaysHealed p (restore_meaning set how) b k) (record { agree = λ some h. any_some k.repo.view.now; lasts = λ synced some h. tt }))
       (record {
@@ -116,7 +118,7 @@ module _ (p : Place) (b k : World) (rest : k ≡ record b { repo = k.repo; tree 
         repository = still;
         folder = left_whole r restored control;
         others = ap (λ (s : World). s.others) rest;
-        turned = turned failed never _ r restored cause unchanged;
+        turned = turned failed never _ r restored cause control unchanged;
         server = ap (λ (s : World). s.server) rest;
         workers = tt;
         clock = ap (λ (s : World). s.clock) rest;

@@ -1,6 +1,7 @@
 -- What the proof of the stages needs of that. Own.
 use Rattle.std.specs.Prelude.{◌≢◌, ◌≤◌, ◌⊎◌, ℕ, Option, refl}
-use Rattle.std.proofs.Common.{inl, inr, arith}
+use Rattle.std.proofs.Common.{inl, inr, subst, arith}
+use Rattle.base_devices.specs.Content.{Content}
 use Rattle.base_model.specs.Steps.{Reading}
 use Rattle.base_model.specs.Text.{Text}
 use Rattle.archive_store.specs.Still.{still_on}
@@ -8,7 +9,7 @@ use Rattle.cmd_restore.specs.declared.fault.RestoreCommandFault.{RestoreCommandF
 use Rattle.cmd_restore.specs.declared.fault.RestoreCommandFault.TheVariants.{SetForm, NoBackup, SetMissing, Running, NotEmpty, ManifestDamaged, WorkersLost, Unread, FileDamaged}
 use Rattle.cmd_restore.specs.Texts.{restore_status}
 use Rattle.cmd_trait.specs.Meaning.{IsLawful, apart, quiet_talk}
-use Rattle.run_restore.specs.Restoring.{RestoreHow, restore_meaning}
+use Rattle.run_restore.specs.Restoring.{RestoreHow, LeavesWhole, restore_meaning}
 
 -- a status of a refusal, none of a command that ended with findings, and none of a server's answer
 abbrev IsOne : ℕ → Type 0
@@ -34,10 +35,11 @@ restore_lawful set how = record {
   arguments_closes = λ p old failed fault h. tt;
   repo_none = λ p least b k still. still;
   repo_on = λ p least b c k still h. still_on b c k still h;
-  folder_none = λ p old. inl refl;
-  folder_on = λ p old repo nodes same h. h;
+  folder_none = λ p old. inl (inl refl);
+  folder_on = λ p old repo nodes same h.
+      subst (λ (r : Option Content). LeavesWhole p set how (record old { repo = r }) nodes) same h;
   others_none = λ p others. refl;
-  turned_none = λ p old new n nodes same lost unread damaged. nodes;
+  turned_none = λ p old new n nodes same. (inl nodes, λ lost unread damaged. nodes);
   turned_on = λ p old new repo n same h. h;
   over = λ fault. (within fault).0;
   not_found = λ fault. (within fault).1;

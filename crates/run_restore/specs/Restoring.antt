@@ -1,5 +1,5 @@
 -- What restore means.
-use Rattle.std.specs.Prelude.{◌≡◌, ◌⊎◌, ◌≢◌, ℕ, Bool, true, false, [], take, Option, Some, None, IfSome}
+use Rattle.std.specs.Prelude.{◌≡◌, ◌⊎◌, ◌≢◌, ℕ, Bool, true, false, [], take, Option, Some, None}
 use Rattle.base_devices.specs.Content.{Content}
 use Rattle.base_devices.specs.DataFolder.{Nodes}
 use Rattle.base_model.specs.declared.labels.Label.{Label}
@@ -7,10 +7,8 @@ use Rattle.base_model.specs.Now.{NowRepresents}
 use Rattle.base_model.specs.Repository.{Stanza}
 use Rattle.base_model.specs.Steps.{Reading}
 use Rattle.base_model.specs.Text.{Text}
-use Rattle.base_model.specs.Values.{Manifest}
 use Rattle.archive_store.specs.Still.{IsStill}
 use Rattle.restore_steps.specs.Clearing.{control_path, HasNone}
-use Rattle.restore_make.specs.Finished.{IsFinished}
 use Rattle.cmd_types.specs.declared.stages.outcome.Outcome.{Outcome}
 use Rattle.cmd_types.specs.declared.stages.plan.Plan.{Plan}
 use Rattle.cmd_types.specs.declared.stages.plan.SyncScope.TheVariants.{Whole}
@@ -62,12 +60,23 @@ abbrev pub RestoreCause : Place → Option Text → RestoreHow → KnownWorld �
 RestoreCause p set how old fault =
     (label : Option Label) × ShowsSet set label × RestoreCommandCause (found_for p label how old) fault
 
--- the folder is unchanged, or has no control file, so that no server starts from half of a backup, or holds a whole one
-abbrev pub LeavesWhole : Place → RestoreHow → KnownWorld → Option Nodes → Type 0
-LeavesWhole p how old new = (new ≡ old.nodes)
-    ⊎ (HasNone control_path new ⊎ ((m : Manifest)
-    × IfSome new (IsFinished p.stanza (take how.workers old.links) (options_by p.stanza how.delta how.recovery) m
-    old.nodes)))
+-- the folder is unchanged, or has no control file, so that no server starts from half of a backup
+abbrev pub LeavesNoHalf : KnownWorld → Option Nodes → Type 0
+LeavesNoHalf old new = (new ≡ old.nodes) ⊎ HasNone control_path new
+
+-- the folder holds the whole backup that was asked for, or the last one
+abbrev pub HoldsAsked : Place → Option Text → RestoreHow → KnownWorld → Option Nodes → Type 0
+HoldsAsked p set how old new = (label : Option Label) × ShowsSet set label
+    × ((lines : Text) × Recovers (found_for p label how old) new lines)
+
+-- no half of a backup is left, or the whole one
+abbrev pub LeavesWhole : Place → Option Text → RestoreHow → KnownWorld → Option Nodes → Type 0
+LeavesWhole p set how old new = LeavesNoHalf old new ⊎ HoldsAsked p set how old new
+
+-- Refused, it leaves no half of a backup, and no whole one. Where it is refused for another reason than lost workers
+-- (55), an unread file (56) or a damaged one (63), it has started no worker, and the folder is unchanged.
+abbrev pub LeavesRefused : KnownWorld → KnownWorld → ℕ → Type 0
+LeavesRefused old new n = LeavesNoHalf old new.nodes × (n ≢ 55 → n ≢ 56 → n ≢ 63 → new.nodes ≡ old.nodes)
 
 -- no lock: the data folder is opened, the stanza is synced, and both pairs are read
 abbrev pub restore_plan : Plan
@@ -80,14 +89,13 @@ restore_plan = record {
   pairs = ReadBoth;
 }
 
--- Where it is refused for another reason than lost workers, an unread file or a damaged one, it has started no worker,
--- and the folder is unchanged.
 abbrev pub restore_meaning : Option Text → RestoreHow → Meaning RestoreCommandFault
 restore_meaning set how = record {
   plan = restore_plan;
   staged = true;
   spool = None;
   uses = record nothing { workers = true };
+  unsyncs = false;
   manner = λ p old new. each (λ command. command ≡ Reading);
   promise = λ p old new outcome. Restores p set how old new outcome;
   lasts = λ p nodes repo now_nodes outcome. Unit {0};
@@ -101,7 +109,7 @@ restore_meaning set how = record {
   early = restore_early;
   lines = λ fault. [];
   repo_effect = λ p least old new. IsStill old new;
-  folder_effect = λ p old nodes. LeavesWhole p how old nodes;
+  folder_effect = λ p old nodes. LeavesWhole p set how old nodes;
   others_effect = λ p old new. new ≡ old;
-  turned = λ p old new n. n ≢ 55 → n ≢ 56 → n ≢ 63 → new.nodes ≡ old.nodes;
+  turned = λ p old new n. LeavesRefused old new n;
 }

@@ -23,7 +23,7 @@ use Rattle.cmd_types.specs.declared.stages.plan.SyncScope.TheVariants.{Whole}
 use Rattle.cmd_types.specs.Cluster.{FolderShows}
 use Rattle.cmd_types.specs.Halts.{HaltCause}
 use Rattle.cmd_types.specs.Reached.{reached_by}
-use Rattle.cmd_types.specs.DisksEffect.{Reached, RepoEffect, DisksEffect, OnNone, IsLookedAt}
+use Rattle.cmd_types.specs.DisksEffect.{Reached, RepoEffect, DisksEffect, OnNone}
 use Rattle.cmd_types.specs.World.{World, Failed, AreLater}
 use Rattle.cmd_types.proofs.Besides.{pairs_beside}
 use Rattle.cmd_types.proofs.Lifted.{does_runs}
@@ -37,7 +37,7 @@ use Rattle.cmd_trait.specs.Faults.{own_of, of_own}
 use Rattle.cmd_trait.specs.CallEffect.{PartEffect, SamePlaces, StaysHealed, Closes}
 use Rattle.cmd_trait.proofs.Ends.{reached_same, own_err}
 use Rattle.cmd_trait.proofs.CallEffects.{none_as}
-use Rattle.cmd_trait.proofs.PartEffects.{ran_of, any_ok, all_on, any_some, spool_kept}
+use Rattle.cmd_trait.proofs.PartEffects.{ran_of, all_on, any_some, spool_kept}
 use Rattle.run_stanza_create.specs.Creating.{IsCreateOf, create_plan, create_meaning}
 use Rattle.run_stanza_create.proofs.OneCluster.{cluster_is}
 
@@ -90,7 +90,8 @@ module _ (p : Place) (server : Option Server) (b k : World) (rest : k ≡ record
       (λ one x. subst (λ (c : Command). DisksEffect Whole p.stanza c (reached_by create_early r) b.repo.view b.spool.view k.repo.view k.spool.view) (sym (create_of b.tree.nodes known one shows x)) (subst (λ (v : View). DisksEffect Whole p.stanza command (reached_by create_early r) b.repo.view b.spool.view k.repo.view v) (sym (ap (λ (s : World). s.spool.view) rest))
       (does_runs Whole p.stanza command (reached_by create_early r) b.repo.view k.repo.view b.spool.view (λ q log keeps. create_spool p.stanza (Some (first_cluster known)) true q log b.spool.view keeps) does)))
       (ok_with r _ _ _ _ (λ o made agrees asks. record { known = known; shows = shows; created = made; agrees = agrees; asks = asks }) created same asked)
-      (any_ok r (λ o. IsLookedAt p.stanza b.repo.view → Unit {0}) (λ o looked. tt))
+      tt
+      tt
       cause
       (all_on r (StaysHealed p (create_meaning server) b k) (record { agree = λ some h. any_some k.repo.view.now; lasts = λ synced some h. tt }))
       (record {

@@ -293,7 +293,7 @@ pub(crate) fn run_on(
             lost: Vec::new(alloc),
         },
     };
-    let status = run(alloc, words, &mut outside);
+    let status = run(alloc, words, &mut outside).code();
     let ran = Ran {
         status,
         server: outside.server,

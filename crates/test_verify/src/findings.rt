@@ -1,4 +1,8 @@
 // What verification finds.
+use crate::contradictions::{
+    ARCHIVE_COPY, ARCHIVE_OF_ANOTHER, ARCHIVE_OF_TWO, LATER_OF_SECOND, LIST_COPY, LIST_OF_TWO,
+    SEGMENT_4_OF_SECOND,
+};
 use crate::fixture::{
     ARCHIVE_INFO, BACKUP_INFO, BUNDLE, CONTROL, ENDS_LATER, FULL_COPY, FULL_MAIN, Held, LATER_COPY,
     LATER_MAIN, OF_ANOTHER, SEGMENT_2, SEGMENT_3, SEGMENT_3_BEFORE, SEGMENT_4, disk_with,
@@ -141,6 +145,36 @@ const FILES: &[Row] = &[
     (&[(SEGMENT_3_BEFORE, "another segment 3")], &[SEGMENT_3], ""),
 ];
 
+/// Values that contradict each other, each valid by itself.
+const CONTRADICTIONS: &[Row] = &[
+    (
+        &[
+            (ARCHIVE_INFO, ARCHIVE_OF_ANOTHER),
+            (ARCHIVE_COPY, ARCHIVE_OF_ANOTHER),
+        ],
+        &[],
+        "backup/demo/backup.info: history differs from archive.info\n",
+    ),
+    (
+        &[(SEGMENT_4_OF_SECOND, "segment 4")],
+        &[],
+        "archive/demo/16-2/0000000100000000/000000010000000000000004-7173bfc7c0c2797532a37fbb3f05c4dea8f24ac6: cluster not in the history\n",
+    ),
+    (
+        &[
+            (ARCHIVE_INFO, ARCHIVE_OF_TWO),
+            (ARCHIVE_COPY, ARCHIVE_OF_TWO),
+            (BACKUP_INFO, LIST_OF_TWO),
+            (LIST_COPY, LIST_OF_TWO),
+            (LATER_MAIN, LATER_OF_SECOND),
+            (LATER_COPY, LATER_OF_SECOND),
+            (SEGMENT_4_OF_SECOND, "segment 4"),
+        ],
+        &[],
+        "backup/demo/20240102-030405F_20240102-030505I/backup.manifest: prior of another cluster\n",
+    ),
+];
+
 fn check_rows(rt: &impl Abort, alloc: Global, rows: &[Row]) {
     for (other, lost, wanted) in rows {
         let mut disk = well(rt, disk_with(alloc, other, lost, &[]));
@@ -166,4 +200,10 @@ fn members_of_pairs(rt: HostRuntime) {
 fn files_of_backups_and_of_the_archive(rt: HostRuntime) {
     let alloc = rt.alloc();
     check_rows(&rt, alloc, FILES);
+}
+
+#[test]
+fn values_that_contradict_each_other(rt: HostRuntime) {
+    let alloc = rt.alloc();
+    check_rows(&rt, alloc, CONTRADICTIONS);
 }

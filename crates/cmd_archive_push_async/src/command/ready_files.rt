@@ -9,7 +9,7 @@ ghost use Rattle.cmd_types.specs.Current.{HasValue};
 ghost use Rattle.cmd_types.specs.Plans.{archive_lock};
 ghost use Rattle.cmd_archive_push_async.specs.Paired.{KeepsPair};
 ghost use Rattle.cmd_archive_push_async.specs.Whole.{HasMarksOf};
-ghost use Rattle.cmd_archive_push_async.specs.Between.{RunsDrain, Pushes, DrainEnds};
+ghost use Rattle.cmd_archive_push_async.specs.Between.{PutsByCurrent, RunsDrain, Pushes, GivesReceipts, PutsLogs, Lasting, DrainEnds};
 
 use crate::files::drain;
 use base_devices::{DataFolder, Disk, Locks};
@@ -37,8 +37,15 @@ pub fn drain_stanza<D: Disk, S: Disk, T: DataFolder, K: Locks>(
     requires valid { IsArchiveInfo (archive_info_of info.now) }
     // It is one command of the log: all of it, or a part, or nothing where it is refused.
     ensures runs { RunsDrain D.state S.state T.state stanza.now result repo.old repo.new spool.old spool.new tree.old }
-    ensures drained { Pushes D.state S.state T.state stanza.now known.now result repo.old spool.old spool.new tree.old }
-    // At Ok a crash leaves the marks unchanged.
+    ensures drained { Pushes D.state S.state T.state stanza.now known.now result repo.old repo.new spool.old spool.new
+        tree.old }
+    // Each receipt that it gives is of a file that the repository then stores, whatever else lies there. It puts files
+    // that are ready, and changes no other name.
+    ensures receipts { GivesReceipts D.state S.state T.state stanza.now repo.old repo.new spool.old spool.new tree.old }
+    ensures puts_only { PutsByCurrent stanza.now (D.state repo.old) (D.state repo.new) }
+    ensures puts { PutsLogs D.state S.state T.state stanza.now repo.old repo.new tree.old }
+    // At Ok no crash removes what was stored, and each leaves the marks unchanged.
+    ensures stays { Lasting D.state S.state T.state stanza.now result known.now repo.old repo.new tree.old }
     ensures lasts { OnOk result (HasMarksOf stanza.now (S.state spool.old).view (S.state spool.new).view) }
     // Members of the archive pair that have the same bytes stay so, in all that a crash leaves too.
     ensures pair { KeepsPair stanza.now (D.state repo.old).view (D.state repo.new).view }

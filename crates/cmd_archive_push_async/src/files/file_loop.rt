@@ -3,7 +3,7 @@ ghost use Rattle.std.specs.Prelude.{◌≡◌, ◌+◌, ◌<◌, ◌^◌, IfErr}
 ghost use Rattle.base_devices.specs.States.{CallsProperly, OnlyReadsFolder};
 ghost use Rattle.archive_lookup.specs.Stored.{ChangesArchive};
 ghost use Rattle.cmd_archive_push_async.specs.Paired.{KeepsPair};
-ghost use Rattle.cmd_archive_push_async.specs.Between.{DrainsFiles, DrainsCleared, EndsAmong};
+ghost use Rattle.cmd_archive_push_async.specs.Between.{PutsSome, DrainsFiles, DrainsCleared, EndsAmong};
 
 use crate::files::marked_store::store_file;
 use crate::files::push_marks::{Drained, of_spool};
@@ -41,6 +41,7 @@ pub(crate) fn drain_files<D: Disk, S: Disk, T: DataFolder>(
 ) -> Result<Drained, Halt<PushFault>>
     ensures drains { DrainsFiles D.state S.state T.state to.now names.now result
         repo.old repo.new spool.old spool.new tree.old }
+    ensures puts_only { PutsSome to.now.stanza.now to.now.id (D.state repo.old) (D.state repo.new) }
     ensures pair { KeepsPair to.now.stanza.now (D.state repo.old).view (D.state repo.new).view }
     ensures repo_only { ChangesArchive to.now.stanza.now (D.state repo.old).view (D.state repo.new).view }
     ensures spool_only { ChangesArchive to.now.stanza.now (S.state spool.old).view (S.state spool.new).view }
@@ -76,6 +77,7 @@ pub(crate) fn drain_named<D: Disk, S: Disk, T: DataFolder>(
 ) -> Result<Drained, Halt<PushFault>>
     ensures drains { DrainsCleared D.state S.state T.state to.now names.now result
         repo.old repo.new spool.old spool.new tree.old }
+    ensures puts_only { PutsSome to.now.stanza.now to.now.id (D.state repo.old) (D.state repo.new) }
     ensures pair { KeepsPair to.now.stanza.now (D.state repo.old).view (D.state repo.new).view }
     ensures repo_only { ChangesArchive to.now.stanza.now (D.state repo.old).view (D.state repo.new).view }
     ensures spool_only { ChangesArchive to.now.stanza.now (S.state spool.old).view (S.state spool.new).view }

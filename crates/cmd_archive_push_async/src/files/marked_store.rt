@@ -7,7 +7,7 @@ ghost use Rattle.cmd_archive_push.specs.LogFile.{IsOpened};
 ghost use Rattle.cmd_archive_push.specs.WalPath.{wal_path};
 ghost use Rattle.cmd_archive_push_async.specs.Paired.{KeepsPair};
 ghost use Rattle.cmd_archive_push_async.specs.Ends.{SkipsMissing, is_missing};
-ghost use Rattle.cmd_archive_push_async.specs.Between.{Records, EndsAtFile};
+ghost use Rattle.cmd_archive_push_async.specs.Between.{PutsSome, Records, EndsAtFile};
 
 use crate::files::push_marks::{Drained, mark_tried};
 use crate::files::pushing::push_log;
@@ -67,6 +67,7 @@ fn store_log<D: Disk, S: Disk, T: DataFolder>(
     ensures drains { Records D.state S.state T.state to.now name result
         repo.old repo.new spool.old spool.new tree.old }
     ensures few { IfOk result (λ drained. drained.pushed + drained.refused ≤ 1) }
+    ensures puts_only { PutsSome to.now.stanza.now to.now.id (D.state repo.old) (D.state repo.new) }
     ensures pair { KeepsPair to.now.stanza.now (D.state repo.old).view (D.state repo.new).view }
     ensures repo_only { ChangesArchive to.now.stanza.now (D.state repo.old).view (D.state repo.new).view }
     ensures spool_only { ChangesArchive to.now.stanza.now (S.state spool.old).view (S.state spool.new).view }
@@ -94,6 +95,7 @@ pub(crate) fn store_file<D: Disk, S: Disk, T: DataFolder>(
     ensures drains { Records D.state S.state T.state to.now name result
         repo.old repo.new spool.old spool.new tree.old }
     ensures few { IfOk result (λ drained. drained.pushed + drained.refused ≤ 1) }
+    ensures puts_only { PutsSome to.now.stanza.now to.now.id (D.state repo.old) (D.state repo.new) }
     ensures pair { KeepsPair to.now.stanza.now (D.state repo.old).view (D.state repo.new).view }
     ensures repo_only { ChangesArchive to.now.stanza.now (D.state repo.old).view (D.state repo.new).view }
     ensures spool_only { ChangesArchive to.now.stanza.now (S.state spool.old).view (S.state spool.new).view }

@@ -9,7 +9,7 @@ ghost use Rattle.cmd_archive_push.specs.LogFile.{IsOpened};
 ghost use Rattle.cmd_archive_push.specs.WalPath.{wal_path};
 ghost use Rattle.cmd_archive_push_async.specs.Paired.{KeepsPair};
 ghost use Rattle.cmd_archive_push_async.specs.Pushing.{IsHaltedBy};
-ghost use Rattle.cmd_archive_push_async.specs.Between.{ShowsSumOf, GoesByPush, HasFate, PushStops};
+ghost use Rattle.cmd_archive_push_async.specs.Between.{PutsSome, ShowsSumOf, GoesByPush, PutsLog, HasFate, PushStops};
 
 use crate::files::target::Target;
 use archive_store::push_from;
@@ -53,8 +53,10 @@ pub(crate) fn push_log<D: Disk, T: DataFolder>(
 ) -> Result<Tried, Halt<PushFault>>
     requires opened { IsOpened (T.state tree.old).nodes (wal_path (wal_text name)) log.now }
     ensures goes { GoesByPush D.state T.state to.now name result repo.old repo.new tree.old }
+    ensures puts { PutsLog D.state T.state to.now name result repo.old repo.new tree.old }
     ensures sum { IfOk result (ShowsSumOf name (T.state tree.old)) }
     ensures fate { IfOk result (HasFate D.state T.state to.now name repo.old tree.old) }
+    ensures puts_only { PutsSome to.now.stanza.now to.now.id (D.state repo.old) (D.state repo.new) }
     ensures pair { KeepsPair to.now.stanza.now (D.state repo.old).view (D.state repo.new).view }
     ensures only { ChangesArchive to.now.stanza.now (D.state repo.old).view (D.state repo.new).view }
     ensures frame { CallsProperly (D.state repo.old) (D.state repo.new) }

@@ -4,7 +4,7 @@ ghost use Rattle.base_devices.specs.States.{CallsProperly, OnlyReadsFolder};
 ghost use Rattle.archive_lookup.specs.Stored.{ChangesArchive};
 ghost use Rattle.cmd_archive_push_async.specs.Paired.{KeepsPair};
 ghost use Rattle.cmd_archive_push_async.specs.Whole.{HasMarksOf};
-ghost use Rattle.cmd_archive_push_async.specs.Between.{DrainsLogs, EndsAtReady};
+ghost use Rattle.cmd_archive_push_async.specs.Between.{PutsSome, DrainsLogs, EndsAtReady};
 
 use crate::files::file_loop::drain_named;
 use crate::files::mark_sync::sync_marks;
@@ -33,6 +33,7 @@ pub fn drain<D: Disk, S: Disk, T: DataFolder>(
         repo.old repo.new spool.old spool.new tree.old }
     // At Ok a crash leaves the marks unchanged.
     ensures lasts { OnOk result (HasMarksOf stanza.now (S.state spool.old).view (S.state spool.new).view) }
+    ensures puts_only { PutsSome stanza.now id (D.state repo.old) (D.state repo.new) }
     ensures pair { KeepsPair stanza.now (D.state repo.old).view (D.state repo.new).view }
     ensures repo_only { ChangesArchive stanza.now (D.state repo.old).view (D.state repo.new).view }
     ensures spool_only { ChangesArchive stanza.now (S.state spool.old).view (S.state spool.new).view }

@@ -6,6 +6,7 @@ ghost use Rattle.worker_pool.specs.Pools.{links_in};
 ghost use Rattle.worker_pool.specs.Run.{AreReady};
 ghost use Rattle.backup_make.specs.Draft.{IsDraft, main_of};
 ghost use Rattle.backup_make.specs.Made.{LeavesAlike};
+ghost use Rattle.backup_make.specs.Touched.{TouchesBackup};
 ghost use Rattle.base_crash_lists.specs.Beside.{StaysBeside};
 ghost use Rattle.cmd_backup_common.specs.Halting.{FinishHalts};
 ghost use Rattle.cmd_backup_common.specs.Texts.{label_line};
@@ -50,8 +51,10 @@ pub fn finish<D: Disk, L: Link, U: Scheduler, C: Clock>(
     requires label { IsLabel draft.label }
     requires few { vec_len pool.old.links < 2 ^ 32 }
     requires ready { AreReady (links_in L.link_state pool.old) }
-    ensures made { FinishesBy draft.entry line L.link_state pool.old D.state repo.old repo.new result }
+    ensures made { FinishesBy draft.entry line L.link_state pool.old D.state repo.old repo.new
+        C.state clock.old clock.new result }
     ensures alike { OnOk result (LeavesAlike (main_of draft.entry) (D.state repo.old) (D.state repo.new)) }
+    ensures only { TouchesBackup draft.entry (D.state repo.old) (D.state repo.new) }
     ensures beside { StaysBeside draft.entry.stanza.now (D.state repo.old).view (D.state repo.new).view }
     ensures frame { CallsProperly (D.state repo.old) (D.state repo.new) }
     ensures later { (C.state clock.old).faults ≤ (C.state clock.new).faults }

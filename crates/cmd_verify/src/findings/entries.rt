@@ -16,7 +16,7 @@ use base_model::{Cluster, Entry, Label, Manifest, Span, WalPart};
 use base_text::NoMemory;
 use std::alloc::Global;
 
-fn is_same_prior(a: &Option<Label>, b: &Option<Label>) -> bool
+pub(crate) fn is_same_prior(a: &Option<Label>, b: &Option<Label>) -> bool
     ensures yes { IsTrue result → a.now ≡ b.now }
     ensures no { result ≡ false → a.now ≢ b.now }
 {

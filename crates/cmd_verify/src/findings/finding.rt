@@ -27,6 +27,8 @@ pub enum FindingKind {
     Reference,
     /// A manifest states another backup than its entry in `backup.info` does.
     Unlike,
+    /// The pairs, the names of the archive and the list of backups contradict each other.
+    Contradiction,
 }
 
 /// A deviation: its kind, and the line that states it.

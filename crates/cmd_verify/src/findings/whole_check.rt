@@ -8,14 +8,17 @@ ghost use Rattle.archive_lookup.specs.Stored.{AreStored};
 ghost use Rattle.cmd_verify.specs.Exact.{AreFindings};
 ghost use Rattle.cmd_verify.specs.Faults.{VerifyFails};
 ghost use Rattle.cmd_verify.specs.Looking.{AddsArchiveOf, AddsBackups, AddsPairs, HoldsBackupPair, NoneIfSound};
+ghost use Rattle.cmd_verify.specs.PairsRead.{AddsContradictions, ArePairsValid, HoldsPairs};
 ghost use Rattle.cmd_verify.specs.Sharing.{AreListed};
 ghost use Rattle.base_devices.specs.States.{OnlyReads};
 
 use crate::findings::archive::look_at_archive;
 use crate::findings::backups::{StanzaLists, look_at_listed};
+use crate::findings::contradictions::{tell_histories, tell_outside};
 use crate::findings::finding::{Finding, LookFault, VerifyFault};
 use crate::findings::order::put_in_order;
 use crate::findings::pairs::look_at_pair;
+use crate::findings::priors::tell_entries;
 use archive_lookup::{Stored, all};
 use base_devices::Disk;
 use base_model::{ArchiveInfo, BackupInfo, Cluster, Entry, Label};
@@ -57,21 +60,51 @@ fn look_at_backups<D: Disk>(
     Ok(())
 }
 
-// The two pairs.
+/// The values of the two pairs, where they have one.
+#[derive(Drop)]
+pub(crate) struct PairsRead {
+    pub archive: Option<ArchiveInfo>,
+    pub backup: Option<BackupInfo>,
+}
+
+// The two pairs. The answer is their values.
 fn look_at_pairs<D: Disk>(
     alloc: Global,
     d: &mut D,
     stanza: &str,
     found: &mut Vec<Finding>,
-) -> Result<(), LookFault>
+) -> Result<PairsRead, LookFault>
     ensures adds { OnOk result (AddsPairs stanza.now (D.state d.old) found.old found.new) }
+    ensures values { IfOk result (HoldsPairs stanza.now (D.state d.old)) }
+    ensures valid { IfOk result ArePairsValid }
     ensures looks { OnlyReads (D.state d.old) (D.state d.new) }
     ensures cause { IsErrOf result LookFault.Disk → Rises (D.state d.old).faults (D.state d.new).faults }
 {
-    let archive = format!(in alloc; "archive/{stanza}/archive.info")?;
-    let backup = format!(in alloc; "backup/{stanza}/backup.info")?;
-    let _: Option<ArchiveInfo> = look_at_pair(alloc, d, archive.as_str(), found)?;
-    let _: Option<BackupInfo> = look_at_pair(alloc, d, backup.as_str(), found)?;
+    let archive_name = format!(in alloc; "archive/{stanza}/archive.info")?;
+    let backup_name = format!(in alloc; "backup/{stanza}/backup.info")?;
+    let archive = look_at_pair(alloc, d, archive_name.as_str(), found)?;
+    let backup = look_at_pair(alloc, d, backup_name.as_str(), found)?;
+    Ok(PairsRead { archive, backup })
+}
+
+// What the values of the pairs, the names of the archive and the list contradict.
+fn tell_contradictions(
+    alloc: Global,
+    stanza: &str,
+    pairs: PairsRead,
+    listed: &BackupInfo,
+    files: &[Stored],
+    found: &mut Vec<Finding>,
+) -> Result<(), NoMemory>
+    requires valid { ArePairsValid pairs }
+    requires rules { IsBackupInfo (backup_info_of listed.now) }
+    ensures { OnOk result (AddsContradictions stanza.now pairs listed.now files.now found.old found.new) }
+{
+    let PairsRead { archive, backup } = pairs;
+    let name = format!(in alloc; "backup/{stanza}/backup.info")?;
+    tell_outside(alloc, &archive, files, found)?;
+    tell_histories(alloc, name.as_str(), &archive, backup, found)?;
+    tell_entries(alloc, stanza, &listed.backups, found)?;
     Ok(())
 }
 
@@ -111,8 +144,9 @@ pub fn verify<D: Disk>(
 {
     let labels = labels_of(alloc, &listed.backups)?;
     let mut found = Vec::new(alloc);
-    look_at_pairs(alloc, d, stanza, &mut found)?;
+    let pairs = look_at_pairs(alloc, d, stanza, &mut found)?;
     let files = look_at_files_of(alloc, d, stanza, &mut found)?;
+    tell_contradictions(alloc, stanza, pairs, listed, &files, &mut found)?;
     look_at_backups(
         alloc,
         d,

@@ -2,6 +2,7 @@ use Rattle.backup_make.specs.Draft.{stanza_of}
 use Rattle.backup_make.proofs.Besides.{fetched_beside}
 use Rattle.backup_make.proofs.Commits.{stays_stored}
 use Rattle.backup_make.proofs.Labels.{apart}
+use Rattle.backup_make.proofs.Touched.{own_touched}
 use Rattle.backup_make.proofs.draft_jobs.fetch.Goals as goal
 
 pub returns-clause-fetched : goal.returns-clause-fetched
@@ -21,3 +22,9 @@ returns-in_err-ends-clause-beside g c = fetched_beside (stanza_of c.args.draft) 
 
 pub returns-clause-beside : goal.returns-clause-beside
 returns-clause-beside g c = fetched_beside (stanza_of c.args.draft) c.args.draft.label _ _ c.gather.ensures.touches
+
+pub returns-in_err-ends-clause-only : goal.returns-in_err-ends-clause-only
+returns-in_err-ends-clause-only g c = own_touched (stanza_of c.args.draft) c.args.draft.label _ _ c.gather.ensures.touches
+
+pub returns-clause-only : goal.returns-clause-only
+returns-clause-only g c = own_touched (stanza_of c.args.draft) c.args.draft.label _ _ c.gather.ensures.touches

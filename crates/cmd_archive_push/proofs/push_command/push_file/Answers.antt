@@ -1,7 +1,11 @@
+use Rattle.std.proofs.Common.{Option, subst}
+use Rattle.base_devices.specs.DataFolder.{Nodes}
 use Rattle.base_model.specs.Values.{archive_info_of}
 use Rattle.archive_store.specs.Still.{still_self}
 use Rattle.cmd_types.proofs.Besides.{still_beside}
 use Rattle.cmd_archive_push.proofs.Doings.{none_did, asked_on}
+use Rattle.cmd_archive_push.specs.Storing.{PutsOrder}
+use Rattle.cmd_archive_push.proofs.Putting.{kept_current, none_put}
 use Rattle.cmd_archive_push.proofs.Opened.{unopened_ends}
 use Rattle.cmd_archive_push.proofs.push_command.push_file.Goals as goal
 
@@ -34,3 +38,19 @@ returns-in_err-id-clause-beside g c = still_beside c.args.stanza.now _ _ (still_
 
 pub returns-in_err-log-clause-beside : goal.returns-in_err-log-clause-beside
 returns-in_err-log-clause-beside g c = still_beside c.args.stanza.now _ _ (still_self (g.D.Disk.state c.args.repo.now).view)
+
+pub returns-in_err-id-clause-puts : goal.returns-in_err-id-clause-puts
+returns-in_err-id-clause-puts g c =
+    let at = c.in_err-id.ensures.mismatch in
+    none_put c.args.stanza.now c.args.order (g.D.Disk.state c.args.repo.now).view (g.T.DataFolder.state c.args.tree.now).nodes at.0
+    (kept_current c.args.stanza.now (g.D.Disk.state c.args.repo.now).view.now (archive_info_of c.args.info.now) c.requires.pair at.0 at.1)
+
+pub returns-in_err-log-clause-puts : goal.returns-in_err-log-clause-puts
+returns-in_err-log-clause-puts g c =
+    let at = c.in_ok-id.ensures.id in
+    none_put c.args.stanza.now c.args.order (g.D.Disk.state c.args.repo.now).view (g.T.DataFolder.state c.args.tree.now).nodes at.0
+    (kept_current c.args.stanza.now (g.D.Disk.state c.args.repo.now).view.now (archive_info_of c.args.info.now) c.requires.pair at.0 at.1)
+
+pub returns-clause-puts : goal.returns-clause-puts
+returns-clause-puts g c =
+    subst (λ (o : Option Nodes). PutsOrder c.args.stanza.now c.args.order (g.D.Disk.state c.args.repo.now).view (g.D.Disk.state c.store.new.repo).view o) c.open_log_file.ensures.looks.nodes c.store.ensures.puts

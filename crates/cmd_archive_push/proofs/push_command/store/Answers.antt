@@ -3,7 +3,9 @@ use Rattle.cmd_types.proofs.Besides.{archive_beside}
 use Rattle.cmd_archive_push.specs.Outcomes.{pushed_lines}
 use Rattle.cmd_archive_push.proofs.Doings.{halt_did, memory_did, end_did}
 use Rattle.cmd_archive_push.proofs.Logged.{opened_read}
-use Rattle.cmd_archive_push.proofs.Opened.{opened_agrees, opened_alike, opened_part, opened_whole, opened_lasts, opened_ends, opened_stored}
+use Rattle.base_devices.specs.DataFolder.{known_path}
+use Rattle.cmd_archive_push.proofs.Putting.{opened_puts}
+use Rattle.cmd_archive_push.proofs.Opened.{opened_agrees, opened_alike, written_synced, opened_part, opened_whole, opened_lasts, opened_ends, opened_stored}
 use Rattle.cmd_archive_push.proofs.push_command.store.Goals as goal
 
 pub push_from-requires-clause-known : goal.push_from-requires-clause-known
@@ -109,3 +111,39 @@ pub returns-in_ok-lines-in-Ok-clause-alike : goal.returns-in_ok-lines-in-Ok-clau
 returns-in_ok-lines-in-Ok-clause-alike g c =
     opened_alike c.args.stanza.now c.args.order.now c.args.at.now.id c.requires.fits _
     (g.D.Disk.state c.args.repo.now).view (g.D.Disk.state c.push_from.new.d).view c.push_from.ensures.leaves.writes
+
+pub returns-in-Err-clause-puts : goal.returns-in-Err-clause-puts
+returns-in-Err-clause-puts g c =
+    let at = c.requires.current in
+    opened_puts c.args.stanza.now c.args.order.now (g.T.DataFolder.state c.args.tree.now).nodes (known_path c.args.log.now.what) c.requires.opened.lies c.args.at.now.id at.0 at.1
+    (λ sum digest. record { version = c.requires.fits.0; number = c.requires.fits.1; fits = c.args.order.now.named.fits; digest = digest })
+    (g.D.Disk.state c.args.repo.now).view (g.D.Disk.state c.push_from.new.d).view at.2.current c.push_from.ensures.leaves.writes
+
+pub returns-in_err-lines-in-Ok-clause-puts : goal.returns-in_err-lines-in-Ok-clause-puts
+returns-in_err-lines-in-Ok-clause-puts g c =
+    let at = c.requires.current in
+    opened_puts c.args.stanza.now c.args.order.now (g.T.DataFolder.state c.args.tree.now).nodes (known_path c.args.log.now.what) c.requires.opened.lies c.args.at.now.id at.0 at.1
+    (λ sum digest. record { version = c.requires.fits.0; number = c.requires.fits.1; fits = c.args.order.now.named.fits; digest = digest })
+    (g.D.Disk.state c.args.repo.now).view (g.D.Disk.state c.push_from.new.d).view at.2.current c.push_from.ensures.leaves.writes
+
+pub returns-in_ok-lines-in-Ok-clause-puts : goal.returns-in_ok-lines-in-Ok-clause-puts
+returns-in_ok-lines-in-Ok-clause-puts g c =
+    let at = c.requires.current in
+    opened_puts c.args.stanza.now c.args.order.now (g.T.DataFolder.state c.args.tree.now).nodes (known_path c.args.log.now.what) c.requires.opened.lies c.args.at.now.id at.0 at.1
+    (λ sum digest. record { version = c.requires.fits.0; number = c.requires.fits.1; fits = c.args.order.now.named.fits; digest = digest })
+    (g.D.Disk.state c.args.repo.now).view (g.D.Disk.state c.push_from.new.d).view at.2.current c.push_from.ensures.leaves.writes
+
+pub returns-in-Err-clause-synced : goal.returns-in-Err-clause-synced
+returns-in-Err-clause-synced g c =
+    written_synced c.args.stanza.now c.args.at.now.id c.args.order.now.name c.push_from.ensures.leaves.writes.0
+    (g.D.Disk.state c.args.repo.now).view (g.D.Disk.state c.push_from.new.d).view c.push_from.ensures.leaves.writes.2
+
+pub returns-in_err-lines-in-Ok-clause-synced : goal.returns-in_err-lines-in-Ok-clause-synced
+returns-in_err-lines-in-Ok-clause-synced g c =
+    written_synced c.args.stanza.now c.args.at.now.id c.args.order.now.name c.push_from.ensures.leaves.writes.0
+    (g.D.Disk.state c.args.repo.now).view (g.D.Disk.state c.push_from.new.d).view c.push_from.ensures.leaves.writes.2
+
+pub returns-in_ok-lines-in-Ok-clause-synced : goal.returns-in_ok-lines-in-Ok-clause-synced
+returns-in_ok-lines-in-Ok-clause-synced g c =
+    written_synced c.args.stanza.now c.args.at.now.id c.args.order.now.name c.push_from.ensures.leaves.writes.0
+    (g.D.Disk.state c.args.repo.now).view (g.D.Disk.state c.push_from.new.d).view c.push_from.ensures.leaves.writes.2

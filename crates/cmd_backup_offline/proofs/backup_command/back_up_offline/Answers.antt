@@ -1,10 +1,10 @@
-use Rattle.std.proofs.Common.{◌<◌, ◌^◌, List, [], map, take, length, refl, sym, ◌∙◌, ap, subst, arith, option_map}
+use Rattle.std.proofs.Common.{inl, ◌<◌, ◌^◌, List, [], map, take, length, refl, sym, ◌∙◌, ap, subst, arith, option_map}
 use Rattle.std.specs.Prelude.{Result, Ok, Err}
 use Rattle.base_devices.specs.Cause.{Rises}
 use Rattle.base_model.specs.Values.{FileEntry, backup_info_of, file_entry_of, manifest_of}
 use Rattle.backup_plan.specs.Views.{seen_of}
 use Rattle.base_crash_lists.proofs.Stays.{rests_beside, beside_on}
-use Rattle.archive_store.specs.Still.{rests_none}
+use Rattle.archive_store.specs.Still.{rests_none, still_self}
 use Rattle.cmd_types.specs.declared.stages.halt.Halt.{Halt}
 use Rattle.cmd_types.specs.declared.stages.outcome.Outcome.{Outcome}
 use Rattle.cmd_types.specs.declared.stages.object.Object.TheVariants as objects
@@ -26,11 +26,13 @@ use Rattle.cmd_backup_offline.specs.Causes.{OfflineCause}
 use Rattle.cmd_backup_offline.specs.Drafting.{MayBase}
 use Rattle.cmd_backup_offline.specs.Faults.{of_backup, offline_early}
 use Rattle.cmd_backup_offline.specs.Kinds.{IsBackupBy}
+use Rattle.cmd_backup_common.specs.Seconds.{StatesSecond}
 use Rattle.cmd_backup_offline.specs.Making.{IsMade, MakingCause}
 use Rattle.cmd_backup_offline.specs.Taken.{IsTaken}
 use Rattle.cmd_backup_offline.proofs.Bases.{may_base}
 use Rattle.cmd_backup_offline.proofs.Causes.{of_backup_as, base_takes, made_takes, only_repo}
 use Rattle.cmd_backup_offline.proofs.Takings.{refused_offline, same_reach, ok_reach, command_does, made_by_used, has_room, begins_from, on_finished}
+use Rattle.cmd_backup_offline.proofs.Touchings.{touches_after, copies_rests}
 use Rattle.cmd_backup_offline.proofs.backup_command.back_up_offline.Goals as goal
 
 pub returns-in-Err-clause-does : goal.returns-in-Err-clause-does
@@ -95,14 +97,16 @@ returns-in-Ok-make_offline-clause-taken g c =
     let list = backup_info_of c.in-Ok.begun.list in
     let seen = map seen_of c.in-Ok.begun.seen.items in
     let nodes = (g.T.DataFolder.state c.args.tree.now).nodes in
-    on_finished (IsMade stanza c.args.task.order list seen now x.now y.now) (IsTaken stanza c.args.task.stanza.control.now c.args.task.order nodes used a.now y.now) c.in-Ok-make_offline.outcome
+    let first = g.C.Clock.state c.args.clock.now in
+    let last = g.C.Clock.state c.make_offline.new.clock in
+    on_finished (IsMade stanza c.args.task.order list seen now x.now y.now first last) (IsTaken stanza c.args.task.stanza.control.now c.args.task.order nodes used a.now y.now first last) c.in-Ok-make_offline.outcome
     (λ t m. record {
       list = list;
       seen = seen;
       room = has_room stanza c.args.task.stanza.control.now c.args.task.stanza.archive.now c.args.task.stanza.backup a.now c.requires.archive c.requires.backup list c.in-Ok.ensures.settled c.in-Ok.ensures.of c.in-Ok.ensures.room;
       listing = c.in-Ok.ensures.listing;
       stopped = c.in-Ok.ensures.stopped;
-      made = made_by_used used now (left_comes used now [] c.begin.new.pool.lost.items c.in-Ok.ensures.left) stanza a x y c.load_base.ensures.looks.time c.load_base.ensures.looks.now c.args.task.order list seen t m;
+      made = made_by_used used now (left_comes used now [] c.begin.new.pool.lost.items c.in-Ok.ensures.left) stanza a x y c.load_base.ensures.looks.time c.load_base.ensures.looks.now c.args.task.order list seen first last t m;
     })
     c.in-Ok-make_offline.ensures.made
 
@@ -152,7 +156,31 @@ returns-clause-cause g c =
     let tree = Rises (g.T.DataFolder.state c.args.tree.now).faults (g.T.DataFolder.state c.begin.new.tree).faults in
     let clock = Rises (g.C.Clock.state c.args.clock.now).faults (g.C.Clock.state c.make_offline.new.clock).faults in
     let few : length c.args.pool.now.links.items < 2 ^ 32 = omega (arith, c.requires.few, c.args.pool.now.links.ok) in
-    let takes = made_takes before o c.args.task.stanza.archive.now c.args.task.stanza.backup c.requires.archive c.requires.backup list c.in-Ok.ensures.settled seen c.in-Ok.ensures.listing old now mid c.in-Ok.ensures.left (used_few g.L.Link.link_state o.take.workers (2 ^ 32) c.args.pool.now.links.items few) in
+    let takes = made_takes before o c.args.task.stanza.archive.now c.args.task.stanza.backup c.requires.archive c.requires.backup list c.in-Ok.ensures.settled (g.D.Disk.state c.load_base.new.repo).view.now c.load_base.ensures.looks.now seen c.in-Ok.ensures.listing old now mid c.in-Ok.ensures.left (used_few g.L.Link.link_state o.take.workers (2 ^ 32) c.args.pool.now.links.items few) in
     subst (HaltCause (OfflineCause before o) (Any (Rises x z) tree clock)) (sym c.of_backup-in-Err-make_offline.ensures)
-    (of_backup_as (MakingCause before.stanza o seen list old before.least now mid) (OfflineCause before o) (Either (Rises y z) clock) (Any (Rises x z) tree clock) takes
+    (of_backup_as (MakingCause before.stanza o seen list old before.least (StatesSecond before.stanza list (g.D.Disk.state c.load_base.new.repo).view.now) now mid) (OfflineCause before o) (Either (Rises y z) clock) (Any (Rises x z) tree clock) takes
     (either_any (Rises y z) (Rises x z) tree clock clock (rises_from x y z c.load_base.ensures.looks.later) (λ h. h)) c.in-Err-make_offline.halt c.in-Err-make_offline.ensures.cause)
+
+pub returns-in-Err-clause-only : goal.returns-in-Err-clause-only
+returns-in-Err-clause-only g c = inl (still_self (g.D.Disk.state c.args.repo.now).view)
+
+pub returns-in_err-base-clause-only : goal.returns-in_err-base-clause-only
+returns-in_err-base-clause-only g c = let looks = c.load_base.ensures.looks in inl (record { now = looks.now; time = looks.time })
+
+pub returns-in-Ok-make_offline-clause-only : goal.returns-in-Ok-make_offline-clause-only
+returns-in-Ok-make_offline-clause-only g c =
+    let looks = c.load_base.ensures.looks in
+    touches_after c.args.task.stanza.name.now (g.D.Disk.state c.args.repo.now).view (g.D.Disk.state c.load_base.new.repo).view (g.D.Disk.state c.make_offline.new.repo).view
+    (record { now = looks.now; time = looks.time }) c.make_offline.ensures.only
+
+pub returns-in-Ok-make_offline-clause-lasts : goal.returns-in-Ok-make_offline-clause-lasts
+returns-in-Ok-make_offline-clause-lasts g c =
+    let looks = c.load_base.ensures.looks in
+    copies_rests c.args.task.stanza.name.now (g.D.Disk.state c.args.repo.now).view (g.D.Disk.state c.load_base.new.repo).view (g.D.Disk.state c.make_offline.new.repo).view
+    (record { now = looks.now; time = looks.time }) c.in-Ok-make_offline.ensures.lasts
+
+pub returns-clause-only : goal.returns-clause-only
+returns-clause-only g c =
+    let looks = c.load_base.ensures.looks in
+    touches_after c.args.task.stanza.name.now (g.D.Disk.state c.args.repo.now).view (g.D.Disk.state c.load_base.new.repo).view (g.D.Disk.state c.make_offline.new.repo).view
+    (record { now = looks.now; time = looks.time }) c.make_offline.ensures.only

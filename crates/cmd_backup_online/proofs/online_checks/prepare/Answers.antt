@@ -1,8 +1,10 @@
-use Rattle.std.proofs.Common.{map, take, ◌∙◌, ap}
+use Rattle.std.proofs.Common.{map, take, ◌∙◌, ap, subst, Option}
 use Rattle.base_devices.specs.Cause.{Rises}
+use Rattle.base_devices.specs.Content.{Content}
 use Rattle.base_model.specs.Values.{archive_info_of, backup_info_of}
 use Rattle.cmd_types.specs.Halts.{HaltCause}
 use Rattle.cmd_types.proofs.Counts.{rises_from}
+use Rattle.cmd_backup_common.specs.Seconds.{StatesSecond, SecondCause as NoSecond}
 use Rattle.cmd_backup_common.proofs.Beginnings.{ends_with}
 use Rattle.cmd_backup_common.proofs.Makings.{Either}
 use Rattle.cmd_backup_offline.specs.Faults.{of_backup}
@@ -31,6 +33,6 @@ returns-in-Err-next_second-clause-cause g c =
     let x = (g.D.Disk.state c.args.repo.now) in
     let y = (g.D.Disk.state c.load_base.new.repo) in
     let z = (g.D.Disk.state c.next_second.new.d) in
-    second_stops c.args.stanza.name.now c.args.order.now.kind c.args.stanza.control.now (archive_info_of c.args.stanza.archive.now) (backup_info_of c.args.stanza.backup) x.view.now used
+    second_stops c.args.stanza.name.now c.args.order.now.kind c.args.stanza.control.now (archive_info_of c.args.stanza.archive.now) (backup_info_of c.args.stanza.backup) x.view.now used (backup_info_of c.in-Ok.list) c.in-Ok.ensures.settled
     y.faults z.faults (g.C.Clock.state c.args.clock.now) (g.C.Clock.state c.next_second.new.clock) (Rises x.faults z.faults) (rises_from x.faults y.faults z.faults c.load_base.ensures.looks.later)
-    c.in-Err-next_second.fault c.in-Err-next_second.ensures.cause c.of_backup-in-Err-next_second.result (c.of_backup-in-Err-next_second.ensures ∙ ap of_backup c.of_second.ensures)
+    c.in-Err-next_second.fault (subst (λ (now : Option Content). NoSecond (StatesSecond c.args.stanza.name.now (backup_info_of c.in-Ok.list) now) c.in-Err-next_second.fault y.faults z.faults (g.C.Clock.state c.args.clock.now) (g.C.Clock.state c.next_second.new.clock)) c.load_base.ensures.looks.now c.in-Err-next_second.ensures.cause) c.of_backup-in-Err-next_second.result (c.of_backup-in-Err-next_second.ensures ∙ ap of_backup c.of_second.ensures)

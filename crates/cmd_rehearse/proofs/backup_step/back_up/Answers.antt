@@ -50,7 +50,7 @@ returns-in-Ok-clause-advances g c =
     let n = (g.D.Disk.state c.read_backup.new.repo).view in
     let d = (g.D.Disk.state c.back_up_offline.new.repo).view in
     let s : IsStill a n = still_on a m n (record { now = c.read_archive.ensures.looks.now; time = c.read_archive.ensures.looks.time }) (record { now = c.read_backup.ensures.looks.now; time = c.read_backup.ensures.looks.time }) in
-    let x = taken_well c.args.step.now.kind (take c.args.step.now.take.workers (map g.L.Link.link_state c.args.pool.now.links.items)) c.args.step.now.stanza.now offline_early n d c.in-Ok.field-0 tt _ _ _ _ c.in-Ok.ensures.taken c.in-Ok.ensures.does in
+    let x = taken_well c.args.step.now.kind (take c.args.step.now.take.workers (map g.L.Link.link_state c.args.pool.now.links.items)) c.args.step.now.stanza.now offline_early n d c.in-Ok.field-0 tt _ _ _ _ _ _ c.in-Ok.ensures.taken c.in-Ok.ensures.does in
     (x.0, after_rests c.args.step.now.stanza.now (backed_up x.0) a n d s.time s.now (Ok tt) x.1)
 
 pub returns-clause-advances : goal.returns-clause-advances
@@ -129,5 +129,5 @@ pub returns-in-Ok-clause-taken : goal.returns-in-Ok-clause-taken
 returns-in-Ok-clause-taken g c =
     let looks = c.read_backup.ensures.looks.now ∙ c.read_archive.ensures.looks.now in
     let d = (g.D.Disk.state c.back_up_offline.new.repo).view.now in
-    let x = taken_by _ _ _ _ _ _ c.in-Ok.field-0 c.in-Ok.ensures.taken in
+    let x = taken_by _ _ _ _ _ _ _ _ c.in-Ok.field-0 c.in-Ok.ensures.taken in
     subst (λ (o : Option Content). IsTakenBy c.args.step.now.stanza.now c.args.step.now.kind o d) looks x

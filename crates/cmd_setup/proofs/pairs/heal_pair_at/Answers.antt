@@ -1,9 +1,10 @@
 use Rattle.std.proofs.Common.{subst}
+use Rattle.base_disk.specs.Store.{ChangesOnly}
 use Rattle.base_model.specs.Text.{Text}
 use Rattle.base_model.specs.Values.{archive_info_of}
-use Rattle.repo_pair.specs.Member.{KeepsMembers}
+use Rattle.repo_pair.specs.Member.{IsOfPair, KeepsMembers}
 use Rattle.repo_stanza.proofs.Saves.{archive_name_is}
-use Rattle.cmd_setup.proofs.Heals.{named_heals, named_only, named_value}
+use Rattle.cmd_setup.proofs.Heals.{named_heals, named_only, named_synced, named_value}
 use Rattle.cmd_setup.proofs.pairs.heal_pair_at.Goals as goal
 
 pub heal_pair-requires : goal.heal_pair-requires
@@ -27,3 +28,15 @@ returns-clause-only g c =
 
 pub returns-clause-lasts : goal.returns-clause-lasts
 returns-clause-lasts g c = subst (λ (n : Text). KeepsMembers n (g.D.Disk.state c.args.repo.now).view (g.D.Disk.state c.heal_pair.new.d).view) c.requires c.in_ok-info.ensures.lasts
+
+pub returns-in_err-info-clause-synced : goal.returns-in_err-info-clause-synced
+returns-in_err-info-clause-synced g c = let h = c.heal_pair.ensures in named_synced c.args.stanza.now c.args.name.now c.requires _ _ h.crash h.idle
+
+pub returns-clause-synced : goal.returns-clause-synced
+returns-clause-synced g c = let h = c.heal_pair.ensures in named_synced c.args.stanza.now c.args.name.now c.requires _ _ h.crash h.idle
+
+pub returns-in_err-info-clause-changes : goal.returns-in_err-info-clause-changes
+returns-in_err-info-clause-changes g c = subst (λ (n : Text). ChangesOnly (IsOfPair n) (g.D.Disk.state c.args.repo.now).view (g.D.Disk.state c.heal_pair.new.d).view) c.requires c.heal_pair.ensures.only
+
+pub returns-clause-changes : goal.returns-clause-changes
+returns-clause-changes g c = subst (λ (n : Text). ChangesOnly (IsOfPair n) (g.D.Disk.state c.args.repo.now).view (g.D.Disk.state c.heal_pair.new.d).view) c.requires c.heal_pair.ensures.only

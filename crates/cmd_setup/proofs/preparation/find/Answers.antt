@@ -1,3 +1,5 @@
+use Rattle.base_disk.proofs.Changes.{only_none, only_on, only_rests}
+use Rattle.base_model.proofs.Walking.{rests_synced}
 use Rattle.archive_store.specs.Still.{still_on}
 use Rattle.cmd_setup.proofs.Found.{backup_ends}
 use Rattle.cmd_setup.proofs.Readings.{reading_as}
@@ -30,3 +32,18 @@ returns-in_err-backup-clause-still g c = let h = c.backup_by.ensures.looks in
 pub returns-clause-still : goal.returns-clause-still
 returns-clause-still g c = let h = c.backup_by.ensures.looks in
     reading_as c.args.plan.now.pairs _ _ (λ still. still_on (g.D.Disk.state c.args.repo.now).view (g.D.Disk.state c.archive_by.new.repo).view (g.D.Disk.state c.backup_by.new.repo).view still (record { now = h.now; time = h.time })) c.archive_by.ensures.still
+
+pub returns-in_err-backup-clause-synced : goal.returns-in_err-backup-clause-synced
+returns-in_err-backup-clause-synced g c = λ synced some. let h = c.backup_by.ensures.looks in rests_synced c.args.stanza.now _ _ h.time h.now (c.archive_by.ensures.synced synced some)
+
+pub returns-clause-synced : goal.returns-clause-synced
+returns-clause-synced g c = λ synced some. let h = c.backup_by.ensures.looks in rests_synced c.args.stanza.now _ _ h.time h.now (c.archive_by.ensures.synced synced some)
+
+pub returns-in_err-control-clause-changes : goal.returns-in_err-control-clause-changes
+returns-in_err-control-clause-changes g c = only_none _ (g.D.Disk.state c.args.repo.now).view
+
+pub returns-in_err-backup-clause-changes : goal.returns-in_err-backup-clause-changes
+returns-in_err-backup-clause-changes g c = let h = c.backup_by.ensures.looks in only_on _ _ _ _ c.archive_by.ensures.changes (only_rests _ _ _ h.time h.now)
+
+pub returns-clause-changes : goal.returns-clause-changes
+returns-clause-changes g c = let h = c.backup_by.ensures.looks in only_on _ _ _ _ c.archive_by.ensures.changes (only_rests _ _ _ h.time h.now)

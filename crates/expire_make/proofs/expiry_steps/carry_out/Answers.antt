@@ -1,12 +1,14 @@
 use Rattle.std.proofs.Common.{Some, map, refl}
+use Rattle.std.proofs.lemmas.Result.{on_ok_weaker}
 use Rattle.base_devices.proofs.Places.{ok_both as on_ok_both}
 use Rattle.base_model.specs.Values.{archive_info_of, backup_info_of, entry_of}
 use Rattle.expire_rules.specs.Labels.{labels_of}
 use Rattle.expire_make.specs.Losing.{IsUnlisted, IsUnneeded}
 use Rattle.expire_make.specs.Planning.{keeps_by, list_text}
 use Rattle.expire_make.proofs.Losses.{takes_crash, takes_goes}
-use Rattle.expire_make.proofs.Alike.{always, members_alike}
-use Rattle.expire_make.proofs.Carried.{main_synced, copy_synced, unlisted_as, unneeded_as, gone_as, counts_as}
+use Rattle.expire_make.proofs.Alike.{always, members_alike, members_last}
+use Rattle.expire_make.proofs.Carried.{main_synced, copy_synced, unlisted_as, no_unlisted_as, unneeded_as, gone_as, counts_as}
+use Rattle.expire_make.proofs.Ending.{leaves_of}
 use Rattle.expire_make.proofs.Ways.{saved_moves, lost_moves, gone_moves, gone_steady}
 use Rattle.expire_make.proofs.WaysNow.{saved_now, lost_now, gone_now, gone_all}
 use Rattle.expire_rules.proofs.Joined.{if_ok_on}
@@ -68,3 +70,13 @@ returns-clause-touches g c = gone_only c.args.stanza.now (labels_of (map entry_o
 
 pub returns-clause-alike : goal.returns-clause-alike
 returns-clause-alike g c = always c.forget.result (members_alike c.args.stanza.now (list_text (backup_info_of c.args.plan.now.left)) (labels_of (map entry_of c.args.plan.now.left.backups.items)) (keeps_by c.args.rules.now c.args.plan.now.archive.current (map entry_of c.args.plan.now.left.backups.items)) (g.D.Disk.state c.args.d.now) (g.D.Disk.state c.save_left.new.d) (g.D.Disk.state c.drop_unlisted.new.d) (g.D.Disk.state c.forget.new.d) c.in_ok-save_left.ensures.now_whole (unlisted_as c.args.stanza.now _ _ c.deref.ensures.value (g.D.Disk.state c.save_left.new.d) (g.D.Disk.state c.drop_unlisted.new.d) c.drop_unlisted.ensures.takes) (unneeded_as c.args.stanza.now _ _ c.deref-3.ensures.value c.args.rules.now c.args.plan.now.archive.current (g.D.Disk.state c.drop_unlisted.new.d) (g.D.Disk.state c.forget.new.d) c.forget.ensures.takes))
+
+pub returns-clause-lasts : goal.returns-clause-lasts
+returns-clause-lasts g c = always c.forget.result (members_last c.args.stanza.now (list_text (backup_info_of c.args.plan.now.left)) (labels_of (map entry_of c.args.plan.now.left.backups.items)) (keeps_by c.args.rules.now c.args.plan.now.archive.current (map entry_of c.args.plan.now.left.backups.items)) (g.D.Disk.state c.args.d.now) (g.D.Disk.state c.save_left.new.d) (g.D.Disk.state c.drop_unlisted.new.d) (g.D.Disk.state c.forget.new.d) c.in_ok-save_left.ensures.now_whole (unlisted_as c.args.stanza.now _ _ c.deref.ensures.value (g.D.Disk.state c.save_left.new.d) (g.D.Disk.state c.drop_unlisted.new.d) c.drop_unlisted.ensures.takes) (unneeded_as c.args.stanza.now _ _ c.deref-3.ensures.value c.args.rules.now c.args.plan.now.archive.current (g.D.Disk.state c.drop_unlisted.new.d) (g.D.Disk.state c.forget.new.d) c.forget.ensures.takes) (g.met.D.Disk.now_may_be_left c.save_left.new.d) (g.met.D.Disk.now_may_be_left c.drop_unlisted.new.d) c.in_ok-save_left.ensures.whole)
+
+pub returns-clause-leaves : goal.returns-clause-leaves
+returns-clause-leaves g c = on_ok_weaker c.forget.result (λ gone. leaves_of c.args.stanza.now c.args.rules.now (archive_info_of c.args.plan.now.archive) (backup_info_of c.args.plan.now.left) c.requires.valid c.requires.within (g.D.Disk.state c.args.d.now) (g.D.Disk.state c.save_left.new.d) (g.D.Disk.state c.drop_unlisted.new.d) (g.D.Disk.state c.forget.new.d)
+    c.in_ok-save_left.ensures.now_whole (unlisted_as c.args.stanza.now _ _ c.deref.ensures.value (g.D.Disk.state c.save_left.new.d) (g.D.Disk.state c.drop_unlisted.new.d) c.drop_unlisted.ensures.takes) (unneeded_as c.args.stanza.now _ _ c.deref-3.ensures.value c.args.rules.now c.args.plan.now.archive.current (g.D.Disk.state c.drop_unlisted.new.d) (g.D.Disk.state c.forget.new.d) c.forget.ensures.takes)
+    (no_unlisted_as c.args.stanza.now _ _ c.deref.ensures.value (g.D.Disk.state c.drop_unlisted.new.d) c.in_ok-drop_unlisted.ensures.gone)
+    (gone_as c.args.stanza.now _ _ c.deref-3.ensures.value c.args.rules.now c.args.plan.now.archive.current _ c.args.plan.now.archive.history.items (g.D.Disk.state c.forget.new.d).view.now c.deref-2.ensures.value gone)
+    (gone_only c.args.stanza.now (labels_of (map entry_of c.args.plan.now.left.backups.items)) (g.D.Disk.state c.args.d.now) (g.D.Disk.state c.save_left.new.d) (g.D.Disk.state c.drop_unlisted.new.d) (g.D.Disk.state c.forget.new.d) c.save_left.ensures.only (unlisted_as c.args.stanza.now _ _ c.deref.ensures.value (g.D.Disk.state c.save_left.new.d) (g.D.Disk.state c.drop_unlisted.new.d) c.drop_unlisted.ensures.takes) (keeps_by c.args.rules.now c.args.plan.now.archive.current (map entry_of c.args.plan.now.left.backups.items)) (unneeded_as c.args.stanza.now _ _ c.deref-3.ensures.value c.args.rules.now c.args.plan.now.archive.current (g.D.Disk.state c.drop_unlisted.new.d) (g.D.Disk.state c.forget.new.d) c.forget.ensures.takes))) c.forget.ensures.gone

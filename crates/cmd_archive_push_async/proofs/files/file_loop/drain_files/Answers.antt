@@ -2,12 +2,14 @@ use Rattle.std.proofs.Common.{◌∙◌, Ok, Err, refl, arith}
 use Rattle.base_disk.proofs.Changes.{only_none, only_on}
 use Rattle.cmd_archive_push_async.proofs.Following.{drains_next, drains_so_far, drains_end, drains_none, drains_by, so_far_ends}
 use Rattle.cmd_archive_push_async.proofs.Paired.{pair_same, pair_on}
+use Rattle.cmd_archive_push_async.proofs.Putting.{some_none, some_on}
 use Rattle.cmd_archive_push_async.proofs.files.file_loop.drain_files.Goals as goal
 
 pub loop-name-init : goal.loop-name-init
 loop-name-init g c = record {
   drains = λ f is. drains_none c.args.to.now.stanza.now c.args.to.now.id c.args.to.now.system f _ refl refl _ _;
   few = omega arith;
+  puts_only = some_none c.args.to.now.stanza.now c.args.to.now.id _;
   pair = pair_same c.args.to.now.stanza.now _;
   repo_only = only_none _ _;
   spool_only = only_none _ _;
@@ -36,6 +38,7 @@ loop-name-preserved g c =
           c.in-Ok.more c.with-drained.result c.with-drained.ensures.pushed c.with-drained.ensures.refused
           (drains_by c.args.to.now.stanza.now c.args.to.now.id c.args.to.now.system f _ _ _ _ _ c.store_file.result (Ok c.in-Ok.more) c.in-Ok.is (e.drains f (i.looks.nodes ∙ is)));
       few = omega (arith, i.few, c.in-Ok.ensures.few, c.with-drained.ensures.pushed, c.with-drained.ensures.refused);
+      puts_only = some_on c.args.to.now.stanza.now c.args.to.now.id _ _ _ i.puts_only e.puts_only;
       pair = pair_on c.args.to.now.stanza.now _ _ _ i.pair e.pair;
       repo_only = only_on _ _ _ _ i.repo_only e.repo_only;
       spool_only = only_on _ _ _ _ i.spool_only e.spool_only;
@@ -49,3 +52,6 @@ returns-clause-drains g c = λ f is. drains_end c.args.to.now.stanza.now c.args.
 
 pub returns-in-Err-clause-pair : goal.returns-in-Err-clause-pair
 returns-in-Err-clause-pair g c = pair_on c.args.to.now.stanza.now _ _ _ c.loop-name.invariant.pair c.store_file.ensures.pair
+
+pub returns-in-Err-clause-puts_only : goal.returns-in-Err-clause-puts_only
+returns-in-Err-clause-puts_only g c = some_on c.args.to.now.stanza.now c.args.to.now.id _ _ _ c.loop-name.invariant.puts_only c.store_file.ensures.puts_only

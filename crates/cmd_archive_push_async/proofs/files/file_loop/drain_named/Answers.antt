@@ -6,6 +6,7 @@ use Rattle.cmd_archive_push_async.proofs.Following.{ends_by_spool}
 use Rattle.cmd_archive_push_async.proofs.Put.{spool_cause, halt_as}
 use Rattle.cmd_archive_push_async.proofs.Wholes.{named_drains, unclear_drains, cleared_ends}
 use Rattle.cmd_archive_push_async.proofs.Paired.{pair_same}
+use Rattle.cmd_archive_push_async.proofs.Putting.{some_none}
 use Rattle.cmd_archive_push_async.proofs.files.file_loop.drain_named.Goals as goal
 
 pub returns-in-Ok-clause-drains : goal.returns-in-Ok-clause-drains
@@ -34,3 +35,6 @@ returns-in-Err-clause-cause g c = ends_by_spool _ _ _ _ c.of_spool.result
 
 pub returns-in-Err-clause-pair : goal.returns-in-Err-clause-pair
 returns-in-Err-clause-pair g c = pair_same c.args.to.now.stanza.now _
+
+pub returns-in-Err-clause-puts_only : goal.returns-in-Err-clause-puts_only
+returns-in-Err-clause-puts_only g c = some_none c.args.to.now.stanza.now c.args.to.now.id (g.D.Disk.state c.args.repo.now).view

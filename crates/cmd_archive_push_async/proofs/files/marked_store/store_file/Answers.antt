@@ -8,6 +8,7 @@ use Rattle.cmd_archive_push.specs.LogFile.{IsOpened}
 use Rattle.cmd_archive_push.specs.WalPath.{wal_path}
 use Rattle.cmd_archive_push_async.proofs.Following.{drains_not, look_drains, look_ends, skips_few, later_ends}
 use Rattle.cmd_archive_push_async.proofs.Paired.{pair_same}
+use Rattle.cmd_archive_push_async.proofs.Putting.{some_none}
 use Rattle.cmd_archive_push_async.proofs.files.marked_store.store_file.Goals as goal
 
 pub returns-in_default-clause-drains : goal.returns-in_default-clause-drains
@@ -57,3 +58,9 @@ returns-in_default-clause-pair g c = pair_same c.args.to.now.stanza.now _
 
 pub returns-in-Err-clause-pair : goal.returns-in-Err-clause-pair
 returns-in-Err-clause-pair g c = pair_same c.args.to.now.stanza.now _
+
+pub returns-in_default-clause-puts_only : goal.returns-in_default-clause-puts_only
+returns-in_default-clause-puts_only g c = some_none c.args.to.now.stanza.now c.args.to.now.id (g.D.Disk.state c.args.repo.now).view
+
+pub returns-in-Err-clause-puts_only : goal.returns-in-Err-clause-puts_only
+returns-in-Err-clause-puts_only g c = some_none c.args.to.now.stanza.now c.args.to.now.id (g.D.Disk.state c.args.repo.now).view

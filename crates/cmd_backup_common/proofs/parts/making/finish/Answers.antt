@@ -6,12 +6,13 @@ use Rattle.cmd_backup_common.proofs.Makings.{made_cause}
 use Rattle.cmd_backup_common.proofs.parts.making.finish.Goals as goal
 
 pub returns-in-Ok-clause-made : goal.returns-in-Ok-clause-made
-returns-in-Ok-clause-made g c = record { made = Ok tt; outcome = c.in-Ok.ensures.made; end = Well tt c.args.line refl }
+returns-in-Ok-clause-made g c = record { made = Ok tt; outcome = c.in-Ok.ensures.made.0; stopped = c.in-Ok.ensures.made.1; end = Well tt c.args.line refl }
 
 pub returns-in-Err-clause-made : goal.returns-in-Err-clause-made
 returns-in-Err-clause-made g c = record {
   made = Err c.in-Err.fault;
-  outcome = c.in-Err.ensures.made;
+  outcome = c.in-Err.ensures.made.0;
+  stopped = tt;
   end = Ill c.count_of.result c.in-Err.fault c.of_make.result c.of_make.ensures;
 }
 

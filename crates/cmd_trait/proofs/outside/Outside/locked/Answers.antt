@@ -27,7 +27,7 @@ returns-in_err-ready-clause-did g c =
     let m = g.X.Command.meaning c.args.command.now in
     let laws = g.X.Command.lawful c.args.command.now in
     did_from p m laws _ _ _ c.from_residual-in_err-ready.result (locks_read _ (record { ever_taken = k.ever_taken; refusals = k.refusals; faults = k.faults }) l.refusals l.later)
-    (unprepared p m laws c.args.plan.now c.requires.plan _ _ c.from_residual-in_err-ready.result c.in_err-ready.field-0.0 c.from_residual-in_err-ready.ensures.1 e.quiet (rests_none _) refl e.still e.looks.nodes refl refl refl refl
+    (unprepared p m laws c.args.plan.now c.requires.plan _ _ c.from_residual-in_err-ready.result c.in_err-ready.field-0.0 c.from_residual-in_err-ready.ensures.1 e.quiet e.synced (rests_none _) refl e.leaves e.looks.nodes refl refl refl refl
     (all_later _ _ e.frame.later (omega arith) e.looks.later (omega arith) (omega arith) (omega arith) (omega arith) (omega arith) (omega arith)) _
     (rose_to _ _ _ (λ h. h) (λ h. absurd h) (λ h. h) (λ h. absurd h) (λ h. absurd h) (λ h. absurd h) (λ h. absurd h) (λ h. absurd h) (λ h. absurd h)) e.cause)
 
@@ -43,7 +43,7 @@ returns-clause-did g c =
     let m = g.X.Command.meaning c.args.command.now in
     let laws = g.X.Command.lawful c.args.command.now in
     did_from p m laws _ _ _ c.own_end.result (locks_read _ _ l.refusals l.later)
-    (worked_own p m laws c.args.plan.now c.requires.plan c.requires.staged _ _ _ c.run.result c.own_end.result c.own_end.ensures refl e.looks.nodes e.frame.later e.looks.later e.quiet e.begun e.heals e.healed e.lasts e.still c.run.ensures.ran)
+    (worked_own p m laws c.args.plan.now c.requires.plan c.requires.staged _ _ _ c.run.result c.own_end.result c.own_end.ensures refl e.looks.nodes e.frame.later e.looks.later e.quiet e.begun e.heals e.healed e.lasts e.synced e.leaves c.run.ensures.ran)
 
 pub returns-clause-tree : goal.returns-clause-tree
 returns-clause-tree g c = λ none. let is = c.requires.plan in

@@ -1,6 +1,7 @@
 use Rattle.std.proofs.Common.{◌≡◌, ◌∙◌, ap, false, rules}
 use Rattle.cmd_trait.specs.Code.{place_of}
-use Rattle.cmd_trait.proofs.CallEffects.{did_from, unopened, starved, did_released, alone_brackets, brackets_on, brackets_released}
+use Rattle.cmd_trait.proofs.Bracketing.{alone_brackets, brackets_on, brackets_released}
+use Rattle.cmd_trait.proofs.CallEffects.{did_from, unopened, starved, did_released}
 use Rattle.cmd_trait.proofs.Carried.{unopened_brackets}
 use Rattle.cmd_trait.proofs.outside.Outside.staged.Goals as goal
 

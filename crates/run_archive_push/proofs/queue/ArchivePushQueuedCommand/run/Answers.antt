@@ -18,6 +18,6 @@ returns-clause-ran g c =
     queued_part (place_of c.args.places.now) _ _ refl e.looks.nodes x.path.now x.spool.now x.turns o c.requires.order c.queue_push-ended.result c.queue_end.result c.queue_end.ensures
     (map string_bytes c.deref.result.now) (ap (map string_bytes) c.deref.ensures.value ∙ c.in_ok-arguments.ensures)
     _ (rose_to _ _ _ (λ h. h) (λ h. h) (λ h. h) (λ h. absurd h) (λ h. h) (λ h. absurd h) (λ h. absurd h) (λ h. absurd h) (λ h. absurd h))
-    e.takes e.beside e.stored e.cause
+    e.started e.few e.takes e.beside e.stored e.cause
     (record { spool = e.spool_frame.opened; repo = e.repo_frame.opened; tree = e.looks.opened })
     (all_later _ _ e.repo_frame.later e.spool_frame.later e.looks.later (omega arith) e.later (omega arith) (omega arith) (omega arith) (omega arith))

@@ -14,7 +14,7 @@ returns-clause-ran g c =
     let p = place_of c.args.places.now in
     let known = c.in-Some-Some-Some.control in
     let shows = backup_shows p.stanza _ _ c.args.ready c.requires.ready known c.in-Some-Some-Some.is-0 in
-    offline_ran p _ g.D.Disk.state _ _ _ g.C.Clock.state _ _ _ e.looks.nodes c.offline_order.result known shows c.back_up_offline-made.result _ c.offline_order.ensures.how_is e.beside e.does e.taken
+    offline_ran p _ g.D.Disk.state _ _ _ g.C.Clock.state _ _ _ e.looks.nodes c.offline_order.result known shows c.back_up_offline-made.result _ c.offline_order.ensures.how_is e.beside e.only e.does e.taken
     _ (rose_to _ _ _ (λ h. h) (λ h. absurd h) (λ h. h) (λ h. absurd h) (λ h. absurd h) (λ h. h) (λ h. absurd h) (λ h. absurd h) (λ h. absurd h)) e.cause
     (record { spool = refl; repo = e.frame.opened; tree = e.looks.opened })
     (all_later _ _ e.frame.later (omega arith) e.looks.later (omega arith) (omega arith) e.later (omega arith) (omega arith) (omega arith))
