@@ -27,6 +27,10 @@ use Rattle.program_run.proofs.Lawful.{lawful}
 use Rattle.program_run.proofs.Refused.{never_well}
 use Rattle.program_crashes.specs.Acts.{both, IsCallOf, IsShown, ShowsTurns}
 
+-- with an equal status
+pub answers_as : (arguments : List Text) (b k : World) (n m : ℕ) → m ≡ n → Answers arguments b k n → Answers arguments b k m
+answers_as arguments b k n m same h = subst (Answers arguments b k) (sym same) h
+
 -- ---- a command, by what it does to both disks
 
 abbrev the_call : Text → Command → Bool → Call

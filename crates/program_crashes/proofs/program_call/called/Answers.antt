@@ -1,12 +1,11 @@
-use Rattle.std.proofs.Common.{ℕ, map, string_bytes, subst, sym}
-use Rattle.program_run.specs.Answers.{Answers}
-use Rattle.program_crashes.proofs.Shown.{shown}
+use Rattle.std.proofs.Common.{map, string_bytes}
+use Rattle.program_crashes.proofs.Shown.{answers_as, shown}
 use Rattle.program_crashes.proofs.Going.{shown_went}
 use Rattle.program_crashes.proofs.program_call.called.Goals as goal
 
 pub returns-clause-shown : goal.returns-clause-shown
 returns-clause-shown g c = λ known turns. shown (map string_bytes c.args.arguments.now) _ _ c.code.result known turns
-    (subst (λ (n : ℕ). Answers (map string_bytes c.args.arguments.now) _ _ n) (sym c.code.ensures) c.run.ensures.answers)
+    (answers_as (map string_bytes c.args.arguments.now) _ _ _ c.code.result c.code.ensures c.run.ensures.answers)
 
 pub returns-clause-went : goal.returns-clause-went
 returns-clause-went g c = λ known turns before h.
