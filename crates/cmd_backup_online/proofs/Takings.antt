@@ -25,6 +25,8 @@ use Rattle.repo_text_lemmas.proofs.Manifests.{one_manifest}
 use Rattle.backup_sink.proofs.Ways.{Law}
 use Rattle.repo_stanza.specs.declared.control.Control.{Control}
 use Rattle.repo_stanza.specs.Pairs.{AgreeAt}
+use Rattle.backup_make.specs.Kept.{IsKeptUnlessAbsent}
+use Rattle.backup_make.proofs.Completes.{all_kept}
 use Rattle.backup_make.specs.declared.draft.Draft.{Draft}
 use Rattle.backup_make.specs.declared.fault.MakeFault.{MakeFault}
 use Rattle.backup_make.specs.Draft.{stanza_of, main_of, pair_of, taken_in, old_in, went_with, files_with, IsFree}
@@ -55,10 +57,10 @@ use Rattle.cmd_backup_online.specs.declared.fault.OnlineBackupFault.{OnlineBacku
 use Rattle.cmd_backup_online.specs.Doing.{Received}
 use Rattle.cmd_backup_online.specs.Drafting.{IsDraftFrom}
 use Rattle.cmd_backup_online.specs.Finishing.{of_end}
-use Rattle.cmd_backup_online.specs.Taken.{HasOnlineEntries, IsKeptUnlessAbsent, BacksUpOnline}
+use Rattle.cmd_backup_online.specs.Taken.{HasOnlineEntries, BacksUpOnline}
 use Rattle.cmd_backup_online.specs.Modelled.{ShowsOnline}
 use Rattle.cmd_backup_online.proofs.Bases.{begins_of}
-use Rattle.cmd_backup_online.proofs.Completes.{all_kept, kept_by_used, same_paths}
+use Rattle.cmd_backup_online.proofs.Completes.{kept_by_used, same_paths}
 use Rattle.cmd_backup_online.proofs.Doings.{beside_by_used, based_there, with_account, waits_of, turns_taken}
 
 -- a pair has the manifest's text, where its main member does

@@ -13,11 +13,10 @@ use Rattle.base_model.specs.Repository.{Backup, Stanza, IsSound, IsSoundStanza, 
 use Rattle.base_model.specs.Steps.{Turn, MakeBackup, after, all_of, steps_of}
 use Rattle.base_model.specs.Text.{Text, In}
 use Rattle.base_model.specs.Values.{BackupInfo, FileEntry, Manifest}
-use Rattle.worker_pool.specs.Digests.{IsAbsentBy}
 use Rattle.backup_plan.specs.Filter.{ListedNode, kept, files_of, folders_of}
-use Rattle.backup_plan.specs.Layout.{item_for}
 use Rattle.backup_plan.specs.Listed.{Taken}
 use Rattle.backup_record.specs.Making.{labels_of, backup_with}
+use Rattle.backup_make.specs.Kept.{IsKeptUnlessAbsent}
 use Rattle.backup_make.specs.Online.{Online, label_path, label_entry}
 use Rattle.repo_stanza.specs.declared.control.Control.{Control}
 use Rattle.repo_stanza.specs.Pairs.{AgreeAt}
@@ -46,11 +45,6 @@ pub record AddsOnline (stanza : Text) (turns : List Turn) (b : Backup) (o : Onli
   pub archived : (s : Stanza) → IsSome old → NowRepresents stanza (Some s) old → (t : Stanza)
       → after (Some s) (all_of (steps_of (MakeBackup turns b None) (Some s))) ≡ Some t
       → Archives (id_of cluster) o.part t
-
--- one of these entries is the listed file's, or one of these links reported that the file is absent
-abbrev pub IsKeptUnlessAbsent : List LinkState → List FileEntry → Taken → Type 0
-IsKeptUnlessAbsent links entries f = ((e : FileEntry) × In e entries × (e.path ≡ f.path))
-    ⊎ IsAbsentBy links (item_for f)
 
 -- The disk has the backup's manifest. An entry is that of the label file, or of a listed file: of these, those of files
 -- that are the prior backup's refer to others, and no others do. It is of the whole folder: each file and each folder
