@@ -48,6 +48,18 @@ check_files() {
     grep -q '^pg_data/global/pg_control={' "$folder/backup.manifest" || complain "$1 has no control file"
 }
 
+# check_bundles LABEL: what the manifest states in bundles lies there, in those of the backup that has it, each file with its sum.
+check_bundles() {
+    local sum number at of size
+    sed -n 's/^pg_data\/.*={"bni":\([0-9]*\),"bno":\([0-9]*\),"checksum":"\([0-9a-f]*\)",\("reference":"\([^"]*\)",\)\{0,1\}"size":\([0-9]*\),.*}$/\3 \1 \2 \6 \5/p' \
+        "repo/backup/demo/$1/backup.manifest" >places
+    [ -s places ] || complain "$1 has no file in a bundle"
+    while read -r sum number at size of; do
+        [ "$(dd "if=repo/backup/demo/${of:-$1}/bundle/$number" iflag=skip_bytes,count_bytes "skip=$at" "count=$size" bs=1M status=none | sha1sum)" = "$sum  -" ] ||
+            complain "in bundle $number of ${of:-$1} at $at are other bytes than $1 states"
+    done <places
+}
+
 # check_span LABEL: the segments at which its log starts and stops are archived.
 check_span() {
     local name
@@ -95,7 +107,17 @@ is_listed incr "$label" || complain "info doesn't list $label"
 grep -q '/pg_data/pg_hba\.conf$' left || complain "$label stores a file again whose bytes are the same"
 cmp -s "repo/backup/demo/$label/pg_data/pg_ident.conf" pg/pg_ident.conf || complain "$label leaves a file whose bytes are others"
 labels+=("$label")
-[ "$(printf '%s\n' "${labels[@]}" | sort -u | wc -l)" = 6 ] || complain "two backups have one label: ${labels[*]}"
+# A chain whose small files are stored together, on the one before, and a full backup of its own.
+for kind in incr full diff incr; do
+    back_up "$kind" --repo1-bundle --process-max=3
+    check_files "$label"
+    check_bundles "$label"
+    [ "$kind" != full ] || [ "$(wc -l <places)" -gt 100 ] || complain "the full backup $label has $(wc -l <places) files in bundles"
+    check_span "$label"
+    is_listed "$kind" "$label" || complain "info doesn't list $label"
+    labels+=("$label")
+done
+[ "$(printf '%s\n' "${labels[@]}" | sort -u | wc -l)" = 10 ] || complain "two backups have one label: ${labels[*]}"
 [ "$spans" -ge 12 ] || complain "the manifests tell $spans segments"
 
 # What is refused lists nothing, and the server isn't in a backup afterwards.

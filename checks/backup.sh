@@ -42,6 +42,22 @@ compare() {
     [ -z "$(find "$folder" -type f ! -perm 600)" ] || complain 'a file has another mode than 600'
 }
 
+# bundled LABEL: each file that the manifest states in a bundle has its bytes there, and none of its own; and nothing else is there.
+bundled() {
+    local folder=repo/backup/demo/$1 number at size path sum=0
+    sed -n 's/^pg_data\/\(.*\)={"bni":\([0-9]*\),"bno":\([0-9]*\),"checksum":"[0-9a-f]*","size":\([0-9]*\),"timestamp":[0-9]*}$/\2 \3 \4 \1/p' \
+        "$folder/backup.manifest" >places
+    [ "$(wc -l <places)" -gt 100 ] || complain "$1 has $(wc -l <places) files in bundles"
+    while read -r number at size path; do
+        dd "if=$folder/bundle/$number" iflag=skip_bytes,count_bytes "skip=$at" "count=$size" bs=1M status=none | cmp -s - "pg/$path" ||
+            complain "$path isn't in bundle $number at $at as it is"
+        [ ! -e "$folder/pg_data/$path" ] || complain "$path is stored beside its bundle too"
+        sum=$((sum + size))
+    done <places
+    [ "$(cat "$folder"/bundle/* | wc -c)" = "$sum" ] || complain "the bundles of $1 have other bytes than its files"
+    [ -f "$folder/pg_data/global/pg_control" ] || complain "$1 has no control file of its own"
+}
+
 # is_listed LABEL: info lists it.
 is_listed() {
     "$top/bin/pgbackrest" --stanza=demo --repo1-path="$room/repo" info | grep "full backup: $1$" >/dev/null
@@ -64,6 +80,20 @@ compare "$label"
 [ "$label" != "$first" ] || complain "two backups have the label $label"
 is_listed "$first" && is_listed "$label" || complain 'info lists other backups'
 cmp -s repo/backup/demo/backup.info repo/backup/demo/backup.info.copy || complain "the members of the list's pair differ"
+
+# With bundles each small file has its bytes at the place that the manifest states, and these fill the bundles.
+plain=$label
+sleep 1
+back_up --repo1-bundle --repo1-bundle-size=4MiB
+bundled "$label"
+is_listed "$label" || complain "info doesn't list $label"
+rm -rf new
+"$top/bin/pgbackrest" --stanza=demo --pg1-path="$room/new" --repo1-path="$room/repo" --type=none restore >output 2>errors || complain "the restore of $label ended with $?"
+(cd new && find . -type f ! -path './pg_subtrans/*' ! -path './pg_notify/*' -exec sha1sum {} + | LC_ALL=C sort) >found
+taken -exec sha1sum {} + | LC_ALL=C sort | cmp -s - found || complain "$label is restored as another folder"
+back_up
+compare "$label"
+[ "$plain" != "$label" ] || complain "two backups have the label $label"
 
 # What is refused lists nothing.
 listed >kept
@@ -88,8 +118,6 @@ refuse 28 "ERROR: [028]: 'global/pg_control' is missing
 "
 mv control pg/global/pg_control
 mkdir -p lock
-want 100 "ERROR: [100]: 'repo1-bundle' is not built yet
-" --repo1-bundle backup
 if command -v flock >/dev/null; then
     {
         flock -n 9

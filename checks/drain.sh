@@ -71,4 +71,12 @@ want 0 '' archive-push:async
 [ ! -e "$out/0000000100000000000000F1.ok" ] || complain 'a mark of a file that is not ready is left'
 stored "$last"
 [ ! -e "$out/$last.error" ] || complain 'a refusal is left of a file that is stored'
+
+# A name elsewhere that isn't UTF-8 doesn't matter, and a link in place of pg_wal is followed.
+touch "pg/base/$(printf '\377')"
+mv pg/pg_wal wal
+ln -s "$room/wal" pg/pg_wal
+rm "$out/$last.ok"
+want 0 '' archive-push:async
+stored "$last"
 exit "$wrong"

@@ -120,7 +120,7 @@ grep -q '^  --pg1-path: path; required$' help-get || complain 'the help of archi
 if grep -q '^  --process-max' help-get; then complain "the help of archive-get has a backup's option"; fi
 program version >version
 head -n 1 help | cmp -s - version || complain 'the help and the version tell different versions'
-for form in 'archive-push PATH' 'archive-get NAME PATH'; do
+for form in stanza-upgrade 'archive-push PATH' 'archive-get NAME PATH'; do
     grep -q "^  $form: " help || complain "the help has no $form"
 done
 exit "$wrong"

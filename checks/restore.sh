@@ -19,10 +19,15 @@ restore() {
     want "$status" "$output" --pg1-path="$room/$folder" --type=none "$@" restore
 }
 
+# What a folder holds: each file after its sum and after its time, and each folder.
+list() {
+    (cd "$1" && { find . -type f -exec sha1sum {} + -o -type d -print && find . -type f -exec stat -c '%Y %n' {} +; } | LC_ALL=C sort)
+}
+
 # compare FOLDER OTHER: both hold the same folders and the same files.
 compare() {
-    (cd "$1" && find . -type f -exec sha1sum {} + -o -type d -print | LC_ALL=C sort) >wanted
-    (cd "$2" && find . -type f -exec sha1sum {} + -o -type d -print | LC_ALL=C sort) >found
+    list "$1" >wanted
+    list "$2" >found
     cmp -s wanted found || complain "$2 isn't $1: $(diff wanted found | head -n 5)"
 }
 
@@ -107,9 +112,10 @@ want 0 "INFO: restored backup $label
 " --no-config --pg1-path="$room/unconfigured" restore
 fetches "$room/unconfigured" --no-config --pg1-path="$room/unconfigured" --repo1-path="$room/repo"
 
-# With delta equal files stay, with their times. All others are made equal, and what the backup has not goes.
+# With delta equal files stay and get the backup's times. All others are made equal, and what the backup has not goes.
 cp -a whole older
 touch -d @1577836800 older/PG_VERSION
+was=$(stat -c %i older/PG_VERSION)
 printf '99\n' >older/base/1/PG_VERSION
 printf 'more' >>older/postgresql.conf
 rm -f older/pg_hba.conf
@@ -118,7 +124,7 @@ touch older/strange/x
 restore 0 "INFO: restored backup $label
 " older --delta
 compare whole older
-[ "$(stat -c %Y older/PG_VERSION)" = 1577836800 ] || complain 'an equal file has another time'
+[ "$(stat -c %i older/PG_VERSION)" = "$was" ] || complain 'an equal file was written anew'
 
 # A stored file that is flipped, cut or gone is reported, and there is no control file.
 folder=repo/backup/demo/$label/pg_data

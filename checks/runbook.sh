@@ -43,6 +43,8 @@ ask 'create table orders as select generate_series(1, 100) as n' >/dev/null
 program stanza-create || complain 'no stanza'
 program backup >output 2>errors || complain "no backup: $(cat output errors)"
 first=$(last_label)
+sleep 1.1
+early=$(ask 'select now()')
 
 chmod 500 $repo/archive/main/*/0*
 ask 'create table other as select 1; select pg_switch_wal()' >/dev/null
@@ -180,17 +182,40 @@ ask 'drop table orders' >/dev/null
 typed 0 'A table was dropped' 1
 has "$second"
 switch
-typed 0 'A table was dropped' 2 "s/LABEL/$second/; s/2026.*'/$target'/"
+typed 0 'A table was dropped' 2 "s/2026[^\"]*/$target/"
+grep "^INFO: restored backup $second\$" output >/dev/null || complain "another backup was chosen: $(cat output)"
 until_there 201 'select count(*) from orders'
 sleep 1
 typed 0 'A table was dropped' 3
 rows 201 'the table was carried over'
 [ ! -e srv/restore/main ] || complain 'the copy stays'
 
+# It is dropped again, and found by its position. Then the time before the server was lost, on its first timeline.
+change='A change by its position, or on an earlier timeline'
+segment=$(ask 'select pg_walfile_name(pg_current_wal_lsn())')
+ask 'drop table orders' >/dev/null
+typed 0 "$change" 1 "s/SEGMENT/$segment/"
+dropped=$(sed -n 's/^.* lsn: \([^,]*\),.*COMMIT.*rels:.*/\1/p' output | tail -n 1)
+[ -n "$dropped" ] || complain "no position of the drop: $(cat output)"
+switch
+typed 0 "$change" 2 "s#1/0301A2B8#$dropped#"
+# (its last two lines: the settings of a copy, and the start)
+typed 0 'Restore beside production' 1 '1,2d'
+until_there 201 'select count(*) from orders'
+has 'recovery stopping before WAL location' srv/restore/log
+typed 0 'A table was dropped' 3
+rows 201 'the table was carried over again'
+typed 0 "$change" 3
+has '00000002.history:1'
+typed 0 "$change" 4 "s/2026[^\"]*/$early/"
+has "^INFO: restored backup $first\$"
+typed 0 'Restore beside production' 1 '1,2d'
+until_there 100 'select count(*) from orders'
+typed 0 'Restore beside production' 2
+
 typed 0 'One older backup, and nothing after it' 1 "s/LABEL/$second/"
 await_writes
 rows 200 'the state of an older backup'
-grep recovery_target data/main/postgresql.auto.conf && complain 'the target stays'
 rm -r data/lost
 switch
 
@@ -260,20 +285,32 @@ typed 0 'Restore beside production' 2
 
 # pg_upgrade from 15 to 15, which makes another cluster as every upgrade does.
 typed 0 'An upgrade of PostgreSQL' 1
-as_user systemctl stop postgresql@16-main
+grep '\.ready$' output && complain 'the old server has files that are not archived'
+old=$(last_label)
 mkdir data17
 chown --reference=data/main data17
 as_user "$tools/initdb" -D "$room/data17/main" -U postgres -A trust -E UTF8 --locale=C --no-sync >/dev/null
 (cd data17 && "${as[@]}" "$tools/pg_upgrade" -b "$tools" -B "$tools" -d "$room/etc/main" -D "$room/data17/main" -U postgres -s "$room/socket" >output) ||
     complain "pg_upgrade: $(tail -n 5 data17/output)"
-sed -i "s#$room/data/main#$room/data17/main#; s#^hba_file.*##; s#--stanza=main #--stanza=main17 #" etc/main/postgresql.conf
-chown --reference=data/main conf
-typed 0 'An upgrade of PostgreSQL' 2 "s#/var/lib/postgresql/17/#$room/data17/#; s/5433/5432/"
+sed -i "s#$room/data/main#$room/data17/main#" etc/main/postgresql.conf
+# (its first line, which changes a file of root's)
+PATH=$room/bin:$PATH bash -ec "$(block $page 'An upgrade of PostgreSQL' 2 | sed -n "1s#/var/lib/postgresql/17/#$room/data17/#p")"
+typed 0 'An upgrade of PostgreSQL' 2 1d
+has "INFO: stanza 'main' upgraded to 15-2"
+has 'WARN: no prior backup exists, incr backup has been changed to full'
+has 'db (prior)'
 rows 200 'after an upgrade'
-as_user "$room/bin/pgbackrest" --stanza=main17 info | grep 'full backup: ' >/dev/null || complain 'no backup after the upgrade'
+[ "$(last_label)" != "$old" ] || complain 'no backup after the upgrade'
+program verify >output 2>errors || complain "after the upgrade: $(cat output)"
+typed 0 'An upgrade of PostgreSQL' 3 "s/LABEL/$old/"
+typed 0 'Restore beside production' 1 '1,2d'
+until_there 'f|200' 'select pg_is_in_recovery(), count(*) from orders'
+find data17/main/pg_wal -name 'RECOVERY*' | grep . && complain "the new server's pg_wal was touched"
+typed 0 'Restore beside production' 2
 
+as_user "$room/bin/pgbackrest" --stanza=other --pg1-path="$room/data17/main" --pg1-socket-path="$room/socket" stanza-create >output 2>errors || complain "another stanza: $(cat output)"
 typed 0 'Remove a stanza' 1
 program info >output 2>errors && complain 'the removed stanza is there'
 has 'ERROR: \[021\]'
-[ ! -e $repo/backup/main ] && [ -e $repo/backup/main17 ] || complain 'the wrong folders were removed'
+[ ! -e $repo/backup/main ] && [ -e $repo/backup/other ] || complain 'the wrong folders were removed'
 exit "$wrong"

@@ -8,6 +8,7 @@ use std::io;
 use std::io::{ErrorKind, Write};
 use std::os::fd::AsRawFd;
 use std::os::unix::fs::FileExt;
+use std::time::SystemTime;
 
 // A command has a file open for each of its workers.
 const MOST: usize = 64;
@@ -276,6 +277,20 @@ impl Handles {
             .find(|kept| kept.name.as_str() == name)
         {
             Some(kept) => Ok(kept),
+            None => Err(io::Error::from(ErrorKind::NotFound)),
+        }
+    }
+
+    /// Gives a file this time, by the handle that writes it where it is open. The system has all bytes that were
+    /// appended, so neither a sync nor the closing changes it. A file system that can't hold so late a time sets the
+    /// latest one that it can.
+    pub fn set_time(&self, place: &Place, name: &str, time: SystemTime) -> io::Result<()> {
+        let mut writing = self.writing.iter();
+        if let Some(kept) = writing.find(|kept| kept.name.as_str() == name) {
+            return kept.file.set_modified(time);
+        }
+        match place.open_start(name)? {
+            Some(file) => file.set_modified(time),
             None => Err(io::Error::from(ErrorKind::NotFound)),
         }
     }

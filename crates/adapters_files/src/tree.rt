@@ -6,13 +6,14 @@ use crate::handles::Handles;
 use crate::place::Place;
 use crate::progress::Progress;
 use crate::restore_sync::Restoring;
-use crate::walk::{Listing, nodes_below};
+use crate::walk::{Listing, nodes_below, nodes_of_folder};
 use adapters_process::Faults;
 use base_devices::{DataFolder, DeviceError, FolderEntry, Node, ReadableFile};
 use std::alloc::{AllocError, Global};
 use std::fs::{File, TryLockError};
 use std::io;
 use std::io::ErrorKind;
+use std::time::{Duration, SystemTime, UNIX_EPOCH};
 
 /// A data folder of the system. Its contents are unknown.
 #[derive(Drop)]
@@ -134,6 +135,19 @@ impl DataFolder for RealDataFolder {
             .counted(&self.place.call("listing of", ""), done)
     }
 
+    fn list_folder(
+        &mut self,
+        alloc: Global,
+        folder: &str,
+    ) -> Result<Vec<FolderEntry>, DeviceError> {
+        let done = nodes_of_folder(alloc, &self.place, folder);
+        if let Ok(seen) = &done {
+            self.restore_sync.see(seen);
+        }
+        self.faults
+            .counted(&self.place.call("listing of", folder), done)
+    }
+
     fn read(
         &mut self,
         what: &ReadableFile,
@@ -187,6 +201,12 @@ impl DataFolder for RealDataFolder {
         }
         self.faults
             .counted(&self.place.call("writing to", path), done)
+    }
+
+    fn set_time(&mut self, path: &str, time: u64) -> Result<(), DeviceError> {
+        let done = set_time(&self.place, &self.handles, path, time);
+        self.faults
+            .counted(&self.place.call("setting of the time of", path), done)
     }
 
     fn rename(&mut self, from: &str, to: &str) -> Result<(), DeviceError> {
@@ -246,6 +266,18 @@ fn read_known(
     match handles.read(place, path, at, &mut buf[..room])? {
         Some(0) if room > 0 => Err(io::Error::from(ErrorKind::UnexpectedEof)),
         read => Ok(read),
+    }
+}
+
+fn set_time(place: &Place, handles: &Handles, path: &str, time: u64) -> io::Result<()> {
+    handles.set_time(place, path, second(time)?)
+}
+
+// A second of the system's clock, where it has that.
+fn second(time: u64) -> io::Result<SystemTime> {
+    match UNIX_EPOCH.checked_add(Duration::from_secs(time)) {
+        Some(second) => Ok(second),
+        None => Err(io::Error::from(ErrorKind::InvalidInput)),
     }
 }
 

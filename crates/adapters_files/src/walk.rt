@@ -1,4 +1,4 @@
-// All that is below a folder, in byte order, and the folders directly in one.
+// All that is below a folder, in byte order, and what is directly in one.
 ghost use Rattle.std.specs.Prelude.{◌≡◌, ◌≢◌, [], ◌∷◌, ◌++◌, ℕ, IfOk, string_bytes};
 ghost use Rattle.std.specs.Fs.{metadata_len, file_type, IsFile, IsDir, IsSymlink};
 
@@ -153,6 +153,40 @@ fn add_below(
         Err(e) if e.kind() != ErrorKind::OutOfMemory && within.passes(folder) => Ok(()),
         done => done,
     }
+}
+
+/// The nodes right within a folder below the root, in byte order of their paths; none where it isn't there. On the way to
+/// it no link is followed, except one in place of the log. Nothing is passed over.
+pub fn nodes_of_folder(alloc: Global, place: &Place, folder: &str) -> io::Result<Vec<FolderEntry>> {
+    let mut seen = Vec::new(alloc);
+    if leads_to_folder(place, folder)? {
+        let within = Within::Data(Listing::whole());
+        add_nodes(alloc, place, folder, within, &mut seen)?;
+        seen.sort_by(|a, b| a.path.cmp(&b.path))?;
+    }
+    Ok(seen)
+}
+
+// Whether each element of a path is a folder. The root itself is no folder below it.
+fn leads_to_folder(place: &Place, path: &str) -> io::Result<bool> {
+    for end in 1..path.len() {
+        if let Some((above, rest)) = path.split_at_checked(end) {
+            if rest.starts_with('/') && !is_folder_at(place, above)? {
+                return Ok(false);
+            }
+        }
+    }
+    Ok(!path.is_empty() && is_folder_at(place, path)?)
+}
+
+fn is_folder_at(place: &Place, path: &str) -> io::Result<bool> {
+    let Some(known) = place.look_at(path)? else {
+        return Ok(false);
+    };
+    if known.is_symlink() && path == LOG {
+        return Ok(is_folder(&place.rt, &place.path_of(LOG)?));
+    }
+    Ok(known.is_dir())
 }
 
 // The original leaves a link of this name besides its backups.

@@ -6,4 +6,5 @@ pub mod Owns
 pub mod Looked
 pub mod Listed
 pub mod Bounding
+pub mod Noted
 pub mod Waiting

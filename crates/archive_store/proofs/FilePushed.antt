@@ -1,24 +1,28 @@
 -- The push of a file, as a part of a command.
 use Rattle.std.proofs.Common.{◌≡◌, [], ◌∷◌, Bool, true, false, Option, Some, None, refl, ap, ap₂, ◌∙◌, sym, subst}
-use Rattle.std.specs.Prelude.{IsSome, if◌then◌else◌}
+use Rattle.std.specs.Prelude.{IsSome, IfSome, if◌then◌else◌}
 use Rattle.std.proofs.lemmas.Slice.Eq.{bytes_eq-Decides}
 use Rattle.sha1.specs.Sha1.{sha1}
 use Rattle.base_text.specs.Sum.{IsSum}
 use Rattle.base_text.proofs.Digests.{IsSum-sha1}
 use Rattle.base_devices.specs.Content.{Content}
+use Rattle.base_devices.proofs.Nows.{known_as}
 use Rattle.base_model.specs.declared.wal.ArchiveId.{ArchiveId}
 use Rattle.base_model.specs.declared.wal.ArchiveName.{ArchiveName}
 use Rattle.base_model.specs.declared.wal.ArchiveName.TheVariants.{Segment as Whole, Partial, History, Backup}
-use Rattle.base_model.specs.Text.{Text, ◌⫽◌}
+use Rattle.base_model.specs.Text.{Text, ◌⫽◌, In}
 use Rattle.base_model.specs.Names.{id_text, wal_text}
 use Rattle.base_model.specs.Repository.{Archived, Stanza}
 use Rattle.base_model.specs.Represents.{HasStanza, IsArchivePlace, stored_name}
-use Rattle.base_model.specs.Steps.{Push, push_of, is_archived, is_same_file}
-use Rattle.base_model.proofs.Pushed.{file_of, archived_as, archived_by}
-use Rattle.archive_lookup.specs.Stored.{archived_file, archive_path, HasSum, Stores, StoresNone}
+use Rattle.base_model.specs.Steps.{Push, push_of, is_archived, is_same_file, has_other}
+use Rattle.base_model.specs.Now.{NowRepresents}
+use Rattle.base_model.proofs.Pushed.{at_known, file_of, archived_as, archived_by, no_other}
+use Rattle.archive_lookup.specs.Stored.{archived_file, archive_path, HasSum, Stores, StoresNone, StoresOnly}
 use Rattle.archive_lookup.proofs.Cuts.{divided}
 use Rattle.archive_lookup.proofs.OnePath.{id_lacks, id_of_text, wal_injective}
 use Rattle.archive_lookup.proofs.Owns.{has_own, stored_has}
+use Rattle.archive_store.specs.declared.pushing.Pushed.{Pushed}
+use Rattle.archive_store.specs.declared.pushing.Pushed.TheVariants.{New, Same}
 use Rattle.archive_store.proofs.Got.{held_archived}
 
 -- f stores the file with some sum
@@ -62,14 +66,34 @@ module _ (stanza : Text) (id : ArchiveId) (name : ArchiveName) (place : (sum : T
       let d = divided 47 (id_text x.id) (id_text id) (wal_text x.name) (wal_text name) (id_lacks x.id) (id_lacks id) (sym e) in
       (id_of_text x.id id of.version of.number fits.version fits.number d.0, wal_injective x.name name of.fits fits.fits d.1)
 
+  -- f stores an archived file of its id and name as this one, with the sum of its own bytes
+  stored_as : (f : Content) (s : Stanza) → HasStanza stanza f s → (x : Archived) → In x s.archived → is_same_file a x ≡ true → Stores stanza id name f (sha1 x.bytes)
+  stored_as f s h x at same =
+      let of = h.named x at in
+      let k = alike x of same in
+      let path : stored_name stanza x ≡ archive_path stanza id name (sha1 x.bytes) = ap₂ (λ (k : ArchiveId) (m : ArchiveName). archive_path stanza k m (sha1 x.bytes)) k.0 k.1 in
+      let held : f (stored_name stanza x) ≡ Some x.bytes = (h.archived (stored_name stanza x) x.bytes (file_of stanza x of)).1 (x, at, refl, refl) in
+      subst (λ (o : Option Text). HasSum name o (sha1 x.bytes)) (sym (sym (ap f path) ∙ held)) (has_own name x.bytes)
+
   pub new_push : (f : Content) (s : Stanza) → HasStanza stanza f s → StoresNone stanza id name f → push_of s (archived_file id name bytes) ≡ Push (archived_file id name bytes) ∷ []
   new_push f s h lacks = push_chosen a (is_archived a s.archived) (λ e.
-      let x = archived_as a s.archived e in
-      let of = h.named x.0 x.1 in
-      let same = alike x.0 of x.2 in
-      let path : stored_name stanza x.0 ≡ archive_path stanza id name (sha1 x.0.bytes) = ap₂ (λ (k : ArchiveId) (m : ArchiveName). archive_path stanza k m (sha1 x.0.bytes)) same.0 same.1 in
-      let held : f (stored_name stanza x.0) ≡ Some x.0.bytes = (h.archived (stored_name stanza x.0) x.0.bytes (file_of stanza x.0 of)).1 (x.0, x.1, refl, refl) in
-      lacks (sha1 x.0.bytes) (subst (λ (o : Option Text). HasSum name o (sha1 x.0.bytes)) (sym (sym (ap f path) ∙ held)) (has_own name x.0.bytes)))
+      let x = archived_as a s.archived e in lacks (sha1 x.0.bytes) (stored_as f s h x.0 x.1 x.2))
+
+  -- where f stores it with no other sum, none is archived with another
+  pub unlike : (f : Content) (s : Stanza) → HasStanza stanza f s → ((sum : Text) → Stores stanza id name f sum → sum ≡ sha1 bytes) → has_other (archived_file id name bytes) s.archived ≡ false
+  unlike f s h only = no_other a s.archived (λ x at same. sym (only (sha1 x.bytes) (stored_as f s h x at same)))
+
+  -- as after a push that succeeded
+  pub pushed_unlike : (o : Option Content) (p : Pushed) → (p ≡ New → IfSome o (StoresNone stanza id name)) → (p ≡ Same → IfSome o (λ f. StoresOnly stanza id name f (sha1 bytes)))
+      → (s : Stanza) → IsSome o → NowRepresents stanza (Some s) o → has_other (archived_file id name bytes) s.archived ≡ false
+  pushed_unlike o New new same s some now =
+      let f = known_as o some in
+      let none = at_known (StoresNone stanza id name) o f.0 f.1 (new refl) in
+      unlike f.0 s (now.represents f.0 f.1) (λ sum stores. absurd (none sum stores))
+  pushed_unlike o Same new same s some now =
+      let f = known_as o some in
+      let only = at_known (λ f. StoresOnly stanza id name f (sha1 bytes)) o f.0 f.1 (same refl) in
+      unlike f.0 s (now.represents f.0 f.1) only.only
 
   pub no_push : (f : Content) (s : Stanza) → HasStanza stanza f s → StoresSome stanza id name f → push_of s (archived_file id name bytes) ≡ []
   no_push f s h has =

@@ -12,7 +12,7 @@ use Rattle.base_model.specs.Repository.{Archived, Stanza, Repository, IsSound, I
 use Rattle.base_model.specs.Steps.{Step, Move, Note, Push, Turn, Named, ArchivePushAsync, after, after_all, all_of, steps_of, is_archived, push_of, store_of, stores_of, archived_of}
 use Rattle.base_model.specs.Now.{NowRepresents, NowEffect}
 use Rattle.base_model.proofs.PushDone.{after_some}
-use Rattle.base_model.proofs.Turned.{turn_with, turn_sound}
+use Rattle.base_model.proofs.Turned.{turn_with, turn_sound, store_either}
 use Rattle.base_model.proofs.Waited.{all_after, steps, own, own_all, leads_both}
 use Rattle.archive_lookup.specs.Turns.{IsUnder}
 
@@ -36,7 +36,12 @@ module _ (s : Stanza) (id : ArchiveId) (n : Named) where
       by false = refl
 
   store_leaves : (after_all s (store_of s id n)).history ≡ s.history
-  store_leaves = ap (λ (x : Stanza). x.history) (all_after s (push_of s (archived_of id n)) (Note (record { name = n.name; sum = sha1 n.bytes }) ∷ [])) ∙ push_leaves (archived_of id n)
+  store_leaves = ⊎_elim
+      (λ (e : store_of s id n ≡ []). ap (λ (l : List Step). (after_all s l).history) e)
+      (λ (e : store_of s id n ≡ push_of s (archived_of id n) ++ Note (record { name = n.name; sum = sha1 n.bytes }) ∷ []).
+      ap (λ (l : List Step). (after_all s l).history) e
+      ∙ ap (λ (x : Stanza). x.history) (all_after s (push_of s (archived_of id n)) (Note (record { name = n.name; sum = sha1 n.bytes }) ∷ [])) ∙ push_leaves (archived_of id n))
+      (store_either id n s)
 
 stores_sound : (s : Stanza) (id : ArchiveId) (c : Cluster) (ns : List Named) → IsSoundStanza s → In c s.history → id ≡ id_of c → IsSoundStanza (after_all s (flat_map (λ g. g) (stores_of s id ns)))
 stores_sound s id c [] sound at under = sound

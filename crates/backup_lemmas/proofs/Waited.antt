@@ -1,7 +1,8 @@
 -- A wait for steps of others as a command's way, and what it leaves of a stanza.
-use Rattle.std.proofs.Common.{◌≡◌, inl, Bool, true, false, List, [], ◌∷◌, ◌++◌, map, length, None, refl, sym, ◌∙◌, ap, subst}
+use Rattle.std.proofs.Common.{◌≡◌, ⊎_elim, inl, Bool, true, false, List, [], ◌∷◌, ◌++◌, map, length, None, refl, sym, ◌∙◌, ap, subst}
 use Rattle.std.specs.Prelude.{IsSome, if◌then◌else◌}
 use Rattle.std.specs.List.{flat_map}
+use Rattle.sha1.specs.Sha1.{sha1}
 use Rattle.base_devices.specs.Content.{Content}
 use Rattle.base_devices.specs.Moments.{View}
 use Rattle.base_devices.specs.Crash.{Leaves}
@@ -11,9 +12,10 @@ use Rattle.base_model.specs.Text.{Text}
 use Rattle.base_model.specs.Values.{BackupInfo}
 use Rattle.base_model.specs.Repository.{Archived, Backup, Stanza, Repository, IsSound}
 use Rattle.base_model.specs.Represents.{Represents, backup_value}
-use Rattle.base_model.specs.Steps.{Step, Push, Move, One, Any, Turn, Named, Command, ArchivePushAsync, after, after_all, all_of, steps_of, is_archived, push_of, store_of, stores_of, archived_of, turn_moves}
+use Rattle.base_model.specs.Steps.{Step, Push, Note, Move, One, Any, Turn, Named, Command, ArchivePushAsync, after, after_all, all_of, steps_of, is_archived, push_of, store_of, stores_of, archived_of, turn_moves}
 use Rattle.base_model.specs.Log.{Done, KeepsRepository, RepresentsAfter, Leads}
 use Rattle.base_model.specs.Steady.{IsSteady, EachImage}
+use Rattle.base_model.proofs.Turned.{store_either}
 use Rattle.base_model.proofs.Waited.{all_after, steps as own_steps}
 use Rattle.cmd_types.specs.DisksEffect.{IsPart}
 use Rattle.backup_lemmas.specs.Backups.{Waits}
@@ -93,7 +95,11 @@ push_leaves s a = by (is_archived a s.archived)
     by false = λ t. (refl, refl)
 
 store_leaves : (s : Stanza) (id : ArchiveId) (n : Named) → LeaveList (store_of s id n)
-store_leaves s id n = leave_both (push_of s (archived_of id n)) _ (push_leaves s (archived_of id n)) (λ t. (refl, refl))
+store_leaves s id n = ⊎_elim
+    (λ (e : store_of s id n ≡ []). subst LeaveList (sym e) (λ t. (refl, refl)))
+    (λ (e : store_of s id n ≡ push_of s (archived_of id n) ++ Note (record { name = n.name; sum = sha1 n.bytes }) ∷ []).
+    subst LeaveList (sym e) (leave_both (push_of s (archived_of id n)) (Note (record { name = n.name; sum = sha1 n.bytes }) ∷ []) (push_leaves s (archived_of id n)) (λ t. (refl, refl))))
+    (store_either id n s)
 
 stores_leave : (s : Stanza) (id : ArchiveId) (ns : List Named) → LeaveList (flat_map (λ g. g) (stores_of s id ns))
 stores_leave s id [] = λ t. (refl, refl)

@@ -24,6 +24,10 @@ shown folder = Folder
 shown link = Link
 shown other = Other
 
+-- the path is that of a node right within the folder
+abbrev pub IsWithin : Name → Name → Type 0
+IsWithin within path = (last : Name) × (path ≡ within ++ 47 ∷ last) × ¬ Contains last 47
+
 -- a listing: every node once, in byte order of the paths, each folder on a path among them
 pub record IsTreeListing (nodes : Nodes) (seen : List (Name × Node)) : Type 0 where
   pub each : (path : Name) (node : Node) → Contains seen (path, node)
@@ -31,6 +35,14 @@ pub record IsTreeListing (nodes : Nodes) (seen : List (Name × Node)) : Type 0 w
   pub all : (path : Name) (held : Held) → nodes path ≡ Some held → Contains seen (path, shown held)
   pub folders : (prefix rest : Name) (node : Node) → Contains seen (prefix ++ 47 ∷ rest, node)
       → Contains seen (prefix, Folder)
+  pub order : are_in_order (map (λ s. s.0) seen) ≡ true
+
+-- the nodes right within a folder, each once, in byte order of the paths
+pub record IsFolderListing (nodes : Nodes) (within : Name) (seen : List (Name × Node)) : Type 0 where
+  pub each : (path : Name) (node : Node) → Contains seen (path, node) → IsWithin within path
+      × ((held : Held) × (nodes path ≡ Some held) × (node ≡ shown held))
+  pub all : (path : Name) (held : Held) → IsWithin within path → nodes path ≡ Some held
+      → Contains seen (path, shown held)
   pub order : are_in_order (map (λ s. s.0) seen) ≡ true
 
 -- the path of a known file (PostgreSQL manual, "Database File Layout")
@@ -80,6 +92,14 @@ longer more time node = node
 
 abbrev pub lengthened_file : Name → List ℕ → ℕ → Nodes → Nodes
 lengthened_file path more time f = with_node path (longer more time (f path)) f
+
+-- a file with this time; another node stays
+abbrev pub with_time : ℕ → Option Held → Option Held
+with_time time (Some (file bytes old)) = Some (file bytes time)
+with_time time node = node
+
+abbrev pub timed_file : Name → ℕ → Nodes → Nodes
+timed_file path time f = with_node path (with_time time (f path)) f
 
 -- the node of one path at another, with its time
 abbrev pub moved_node : Name → Name → Nodes → Nodes

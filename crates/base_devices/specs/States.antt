@@ -9,7 +9,7 @@ use Rattle.base_devices.specs.declared.locks.LockAnswer.TheVariants.{Busy}
 use Rattle.base_devices.specs.Cause.{Rises}
 use Rattle.base_devices.specs.Content.{Name, Value, Content, HasBytes, Holds, Changes, IsListing, AreFolders, Reads}
 use Rattle.base_devices.specs.Moments.{View, GrowsBy, LeavesNoMore, SyncsFolders, is_unsynced}
-use Rattle.base_devices.specs.DataFolder.{Nodes, IsTreeListing, IsPlaced, IsFileAt, file_bytes, known_path}
+use Rattle.base_devices.specs.DataFolder.{Nodes, IsTreeListing, IsFolderListing, IsPlaced, IsFileAt, file_bytes, known_path}
 use Rattle.base_devices.specs.Locking.{with_lock}
 
 -- ---- places
@@ -129,6 +129,11 @@ MovesProperly from to old new = IsFileAt old.nodes from → IsPlaced old.nodes t
 -- these are its nodes, where they are known
 abbrev pub ListsTree : DataFolderState → List FolderEntry → Type 0
 ListsTree tree seen = IfSome tree.nodes (λ f. IsTreeListing f (map (λ s. (string_bytes s.path, s.node)) seen))
+
+-- the listing is that of the folder in the tree, where that is known
+abbrev pub ListsWithin : Name → DataFolderState → List FolderEntry → Type 0
+ListsWithin within tree seen =
+    IfSome tree.nodes (λ f. IsFolderListing f within (map (λ s. (string_bytes s.path, s.node)) seen))
 
 -- what a read of a known file into a buffer gives, where that is known
 abbrev pub ReadsFile : DataFolderState → ReadableFile → ℕ → List ℕ → List ℕ → Option ℕ → Type 0

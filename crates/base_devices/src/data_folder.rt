@@ -1,7 +1,7 @@
 // A data folder: nodes below a root.
 ghost use Rattle.std.specs.Prelude.{◌≡◌, ◌≤◌, Option, None, IfOk, OnOk, IfSome, length};
-ghost use Rattle.base_devices.specs.DataFolder.{IsPlaced, IsFileAt, IsBare, with_node, moved_node, ChangesTree, BeginsNew, AppendsFile, BeginsEmpty, with_folder};
-ghost use Rattle.base_devices.specs.States.{DataFolderState, Opens, OnlyReadsFolder, HasFileSize, ListsTree, MovesProperly, ProperInFolder, ReadsFile};
+ghost use Rattle.base_devices.specs.DataFolder.{IsPlaced, IsFileAt, IsBare, with_node, moved_node, ChangesTree, BeginsNew, AppendsFile, BeginsEmpty, with_folder, timed_file};
+ghost use Rattle.base_devices.specs.States.{DataFolderState, Opens, OnlyReadsFolder, HasFileSize, ListsTree, MovesProperly, ProperInFolder, ReadsFile, ListsWithin};
 ghost use Rattle.base_devices.specs.Cause.{HasCause};
 
 use crate::DeviceError;
@@ -52,6 +52,13 @@ pub trait DataFolder {
         ensures looks { OnlyReadsFolder (state self.old) (state self.new) }
         ensures cause { HasCause (state self.old).faults (state self.new).faults result };
 
+    /// The nodes right within a folder, with their paths below the root; none where the folder isn't there. Links aren't
+    /// followed.
+    fn list_folder(&mut self, alloc: Global, folder: &str) -> Result<Vec<FolderEntry>, DeviceError>
+        ensures listing { IfOk result (λ seen. ListsWithin folder.now (state self.old) seen.items) }
+        ensures looks { OnlyReadsFolder (state self.old) (state self.new) }
+        ensures cause { HasCause (state self.old).faults (state self.new).faults result };
+
     /// Bytes of a known file from a place on: None where it isn't a file that is there, 0 at its end.
     fn read(
         &mut self,
@@ -94,6 +101,14 @@ pub trait DataFolder {
     /// Adds bytes at the end of a file.
     fn append(&mut self, path: &str, bytes: &[u8]) -> Result<(), DeviceError>
         ensures nodes { AppendsFile result path.now bytes.now (state self.old).nodes (state self.new).nodes }
+        ensures there { OnOk result (IsFileAt (state self.old).nodes path.now) }
+        ensures proper { IsFileAt (state self.old).nodes path.now → ProperInFolder (state self.old) (state self.new) }
+        ensures opened { (state self.new).opened ≡ (state self.old).opened }
+        ensures cause { HasCause (state self.old).faults (state self.new).faults result };
+
+    /// Gives a file this time.
+    fn set_time(&mut self, path: &str, time: u64) -> Result<(), DeviceError>
+        ensures nodes { ChangesTree result (timed_file path.now time) (state self.old).nodes (state self.new).nodes }
         ensures there { OnOk result (IsFileAt (state self.old).nodes path.now) }
         ensures proper { IsFileAt (state self.old).nodes path.now → ProperInFolder (state self.old) (state self.new) }
         ensures opened { (state self.new).opened ≡ (state self.old).opened }

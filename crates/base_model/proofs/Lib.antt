@@ -17,6 +17,7 @@ pub mod Pushed
 pub mod Segments
 pub mod Logged
 pub mod PushSound
+pub mod Upgraded
 pub mod PushDone
 pub mod Reopened
 pub mod Turned

@@ -1,6 +1,6 @@
 -- One archived file more.
 use Rattle.std.proofs.Common.{◌≡◌, ◌≢◌, ◌⊎◌, ◌↔◌, ⊎_elim, inl, inr, List, [], ◌∷◌, ◌++◌, Option, Some, None, refl, ap, ◌∙◌, sym, subst, Bool, true, false}
-use Rattle.std.specs.Prelude.{IsSome, IfSome, bytes_eq, ◌||◌, if◌then◌else◌}
+use Rattle.std.specs.Prelude.{IsSome, IfSome, bytes_eq, ◌||◌, ◌&&◌, not, if◌then◌else◌}
 use Rattle.std.proofs.lemmas.Slice.Eq.{bytes_eq-Decides}
 use Rattle.sha1.specs.Sha1.{sha1}
 use Rattle.base_text.specs.Sum.{IsSum, sum_text}
@@ -15,7 +15,7 @@ use Rattle.base_model.specs.Text.{Text, In}
 use Rattle.base_model.specs.Names.{archive_name}
 use Rattle.base_model.specs.Repository.{Archived, Stanza}
 use Rattle.base_model.specs.Represents.{Represents, HasStanza, IsArchiveFile, IsArchivePlace, stored_name}
-use Rattle.base_model.specs.Steps.{changed, Push, is_same_file, is_archived, push_of}
+use Rattle.base_model.specs.Steps.{changed, Push, is_same_file, is_archived, has_other, push_of}
 use Rattle.base_model.specs.Log.{IsPairMember, IsPlaceOf}
 use Rattle.base_model.specs.Now.{NowRepresents}
 use Rattle.base_model.specs.Steady.{IsSteady, EachImage}
@@ -73,6 +73,36 @@ archived_by a x (b ∷ files) at same = ⊎_elim (λ (e : x ≡ b). or_left (is_
 pub archived_as : (a : Archived) (files : List Archived) → is_archived a files ≡ true → (x : Archived) × In x files × (is_same_file a x ≡ true)
 archived_as a [] e = cc
 archived_as a (b ∷ files) e = ⊎_elim (λ same. (b, inl refl, same)) (λ later. let x = archived_as a files later in (x.0, inr x.1, x.2)) (or_either (is_same_file a b) (is_archived a files) e)
+
+and_both : (p q : Bool) → (p && q) ≡ true → (p ≡ true) × (q ≡ true)
+and_both true true e = (refl, refl)
+and_both true false e = cc
+and_both false q e = cc
+
+not_true : (p : Bool) → not p ≡ true → p ≡ true → ⊥
+not_true true e k = cc
+not_true false e k = cc
+
+pub not_so : (p : Bool) → (p ≡ true → ⊥) → p ≡ false
+not_so true off = absurd (off refl)
+not_so false off = refl
+
+-- a file of its name with another sum
+pub other_as : (a : Archived) (files : List Archived) → has_other a files ≡ true → (x : Archived) × In x files × (is_same_file a x ≡ true) × (sha1 a.bytes ≢ sha1 x.bytes)
+other_as a [] e = cc
+other_as a (b ∷ files) e = ⊎_elim
+    (λ here. let k = and_both (is_same_file a b) (not (bytes_eq (sha1 a.bytes) (sha1 b.bytes))) here in
+    (b, inl refl, k.0, λ same. not_true (bytes_eq (sha1 a.bytes) (sha1 b.bytes)) k.1 ((bytes_eq-Decides (sha1 a.bytes) (sha1 b.bytes)).1 same)))
+    (λ later. let x = other_as a files later in (x.0, inr x.1, x.2, x.3))
+    (or_either (is_same_file a b && not (bytes_eq (sha1 a.bytes) (sha1 b.bytes))) (has_other a files) e)
+
+-- where each file of its name has its sum, there is no other
+pub no_other : (a : Archived) (files : List Archived) → ((x : Archived) → In x files → is_same_file a x ≡ true → sha1 a.bytes ≡ sha1 x.bytes) → has_other a files ≡ false
+no_other a files alike = not_so (has_other a files) (λ e. let x = other_as a files e in x.3 (alike x.0 x.1 x.2))
+
+-- of a file that isn't archived there is none
+pub new_no_other : (a : Archived) (files : List Archived) → is_archived a files ≡ false → has_other a files ≡ false
+new_no_other a files new = no_other a files (λ x at same. let e : ◌≡◌ {A = Bool} false true = sym new ∙ archived_by a x files at same in cc)
 
 push_chosen : (a : Archived) (archived : Bool) → (archived ≡ true → ⊥) → (if archived then [] else Push a ∷ []) ≡ Push a ∷ []
 push_chosen a true off = absurd (off refl)

@@ -14,13 +14,14 @@ use Rattle.base_model.specs.Pair.{PairIs}
 use Rattle.base_model.specs.Values.{BackupInfo, Manifest}
 use Rattle.base_model.specs.Repository.{Backup, Archived, Drained, Stanza, Repository, id_of, IsSound, IsSoundStanza, AreSound}
 use Rattle.base_model.specs.Represents.{Represents, HasStanza, IsManifestOf, IsPending, backup_value}
-use Rattle.base_model.specs.Steps.{Step, Move, One, Command, ArchivePushAsync, Turn, Named, Note, Push, IsPartOf, IsSomeOf, after, after_all, all_of, steps_of, changed, push_of, store_of, archived_of, is_archived}
+use Rattle.base_model.specs.Steps.{Step, Move, One, Command, ArchivePushAsync, Turn, Named, Note, Push, IsPartOf, IsSomeOf, after, after_all, all_of, steps_of, changed, push_of, store_of, archived_of, is_archived, has_other}
 use Rattle.base_model.specs.Log.{IsDone, Done, RepresentsAfter}
 use Rattle.base_model.specs.Now.{NowRepresents, NowEffect}
 use Rattle.base_model.specs.Steady.{IsSteady, CarriesOn, PassesOnly}
 use Rattle.base_model.proofs.Done.{part_none}
 use Rattle.base_model.proofs.Logged.{IsPart, rests_still, rests_between, one_part}
 use Rattle.base_model.proofs.PushDone.{all_one, after_some}
+use Rattle.base_model.proofs.Pushed.{new_no_other}
 use Rattle.base_model.proofs.PushSound.{pushed}
 use Rattle.base_model.proofs.Segments.{IsPartOfPush, NowPartOfPush}
 
@@ -82,9 +83,10 @@ after_note d s (t ∷ steps) = after_note d (changed t s) steps
 
 -- ---- parts of moves that come one after another
 
-part_more : (done steps rest : List Step) → IsPartOf done (map One steps) → IsPartOf done (map One (steps ++ rest))
-part_more done [] rest p = subst (λ (d : List Step). IsPartOf d (map One rest)) (sym p) (part_none (map One rest))
-part_more done (t ∷ steps) rest p = ⊎_elim (λ (e : done ≡ []). inl e) (λ (q : (more : List Step) × (done ≡ t ∷ more) × IsPartOf more (map One steps)). inr (q.0, q.1, part_more q.0 steps rest q.2)) p
+-- all of them
+ones_part : (steps : List Step) → IsPartOf steps (map One steps)
+ones_part [] = refl
+ones_part (t ∷ steps) = inr (steps, refl, ones_part steps)
 
 -- a part of some steps and a last one
 part_last : (done steps : List Step) (last : Step) → IsPartOf done (map One (steps ++ last ∷ [])) → IsPartOf done (map One steps) ⊎ (done ≡ steps ++ last ∷ [])
@@ -113,6 +115,9 @@ module _ (id : ArchiveId) (n : Named) (s : Stanza) where
   push = push_of s a
 
   -- that, and the note
+  abbrev both : List Step
+  both = push ++ Note d ∷ []
+
   abbrev store : List Step
   store = store_of s id n
 
@@ -125,20 +130,45 @@ module _ (id : ArchiveId) (n : Named) (s : Stanza) where
   ended_all : all_of (moves_of true) ≡ store
   ended_all = ap all_of ended_moves ∙ all_one store
 
-  nothing_or_push : (done : List Step) → IsPartOf done (map One push) → (done ≡ []) ⊎ (done ≡ push)
-  nothing_or_push done p = by (is_archived a s.archived) p
+  -- the store of a file of which no other is archived
+  pub store_both : has_other (archived_of id n) s.archived ≡ false → store_of s id n ≡ push_of s (archived_of id n) ++ Note (record { name = n.name; sum = sha1 n.bytes }) ∷ []
+  store_both off = by (has_other a s.archived) off
     where
-      by : (archived : Bool) → IsPartOf done (map One (if archived then [] else Push a ∷ [])) → (done ≡ []) ⊎ (done ≡ (if archived then [] else Push a ∷ []))
-      by true p = inl p
-      by false p = one_part (Push a) done p
+      by : (other : Bool) → other ≡ false → (if other then [] else both) ≡ both
+      by true e = cc
+      by false e = refl
+
+  -- the store of any file
+  pub store_either : (store_of s id n ≡ []) ⊎ (store_of s id n ≡ push_of s (archived_of id n) ++ Note (record { name = n.name; sum = sha1 n.bytes }) ∷ [])
+  store_either = by (has_other a s.archived)
+    where
+      by : (other : Bool) → ((if other then [] else both) ≡ []) ⊎ ((if other then [] else both) ≡ both)
+      by true = inl refl
+      by false = inr refl
+
+  -- a part of the push is nothing, or the push of a file that is then noted
+  nothing_or_push : (done : List Step) → IsPartOf done (map One push) → (done ≡ []) ⊎ ((store ≡ both) × (done ≡ push))
+  nothing_or_push done p = by (is_archived a s.archived) refl p
+    where
+      by : (archived : Bool) → is_archived a s.archived ≡ archived → IsPartOf done (map One (if archived then [] else Push a ∷ []))
+          → (done ≡ []) ⊎ ((store ≡ both) × (done ≡ (if archived then [] else Push a ∷ [])))
+      by true is p = inl p
+      by false is p = ⊎_elim (λ (e : done ≡ []). inl e) (λ (e : done ≡ Push a ∷ []). inr (store_both (new_no_other a s.archived is), e)) (one_part (Push a) done p)
+
+  -- a part of the store
+  part_of_store : (done : List Step) → IsPartOf done (map One store) → (done ≡ []) ⊎ ((done ≡ push) ⊎ (done ≡ store))
+  part_of_store done p = ⊎_elim
+      (λ (e : store ≡ []). inl (subst (λ (l : List Step). IsPartOf done (map One l)) e p))
+      (λ (e : store ≡ both). ⊎_elim
+      (λ (q : IsPartOf done (map One push)). ⊎_elim (λ (k : done ≡ []). inl k) (λ (k : (store ≡ both) × (done ≡ push)). inr (inl k.1)) (nothing_or_push done q))
+      (λ (q : done ≡ both). inr (inr (q ∙ sym e)))
+      (part_last done push (Note d) (subst (λ (l : List Step). IsPartOf done (map One l)) e p)))
+      store_either
 
   -- what a step of others may have done
   dones : (ended whole : Bool) (done : List Step) → IsDone whole done (moves_of ended) → (done ≡ []) ⊎ ((done ≡ push) ⊎ (done ≡ store))
   dones true true done is = inr (inr (is ∙ ended_all))
-  dones true false done is = ⊎_elim
-      (λ (p : IsPartOf done (map One push)). ⊎_elim (λ (e : done ≡ []). inl e) (λ (e : done ≡ push). inr (inl e)) (nothing_or_push done p))
-      (λ (e : done ≡ store). inr (inr e))
-      (part_last done push (Note d) (subst (λ (m : List Move). IsPartOf done m) ended_moves is))
+  dones true false done is = part_of_store done (subst (λ (m : List Move). IsPartOf done m) ended_moves is)
   dones false true done is = inr (inr (is ∙ append-nil (store ++ []) ∙ append-nil store))
   dones false false done is = ⊎_elim
       (λ (p : IsSomeOf done (store ∷ [])). ⊎_elim (λ (e : done ≡ []). inl e) (λ (q : (rest : List Step) × (done ≡ store ++ rest) × (rest ≡ [])). inr (inr (q.1 ∙ ap (λ (l : List Step). store ++ l) q.2 ∙ append-nil store))) p)
@@ -159,51 +189,60 @@ module _ (id : ArchiveId) (n : Named) (s : Stanza) where
       after_push : IsSound (after (Some s) push)
       after_push = pushed s a true push h c at under (sym (all_one push))
 
-      after_store : IsSound (after (Some s) store)
-      after_store = subst IsSound (sym (after_note d s push)) (note_sound d (after_all s push) (subst IsSound (after_some s push) after_push))
+      after_both : IsSound (after (Some s) both)
+      after_both = subst IsSound (sym (after_note d s push)) (note_sound d (after_all s push) (subst IsSound (after_some s push) after_push))
 
-  store_represents : (stanza : Text) (g : Content) → Represents stanza g (Some (after_all s push)) → Represents stanza g (after (Some s) store)
-  store_represents stanza g h = subst (λ (r : Repository). Represents stanza g r) (sym (after_note d s push)) (note_represents d (after_all s push) stanza g h)
+      after_store : IsSound (after (Some s) store)
+      after_store = ⊎_elim
+          (λ (e : store ≡ []). subst (λ (l : List Step). IsSound (after (Some s) l)) (sym e) h)
+          (λ (e : store ≡ both). subst (λ (l : List Step). IsSound (after (Some s) l)) (sym e) after_both)
+          store_either
+
+  store_represents : (stanza : Text) (g : Content) → store ≡ both → Represents stanza g (Some (after_all s push)) → Represents stanza g (after (Some s) store)
+  store_represents stanza g is h = subst (λ (r : Repository). Represents stanza g r) (sym (ap (λ (l : List Step). after (Some s) l) is ∙ after_note d s push)) (note_represents d (after_all s push) stanza g h)
 
   -- a part of the push is a part of the step of others
   pub push_is_turn : (stanza : Text) (ended : Bool) (g : Content) → IsPartOfPush stanza s (archived_of id n) g → IsPart stanza (ArchivePushAsync (turn_with id n ended ∷ [])) (Some s) g
-  push_is_turn stanza true g p = (p.0, subst (λ (m : List Move). IsPartOf p.0 m) (sym ended_moves) (part_more p.0 push (Note d ∷ []) p.1), p.2)
-  push_is_turn stanza false g p = ⊎_elim
-      (λ (e : p.0 ≡ []). ([], inl (inl refl), subst (λ (l : List Step). Represents stanza g (after (Some s) l)) e p.2))
-      (λ (e : p.0 ≡ push). (
+  push_is_turn stanza ended g p = ⊎_elim
+      (λ (e : p.0 ≡ []). ([], part_none (moves_of ended), subst (λ (l : List Step). Represents stanza g (after (Some s) l)) e p.2))
+      (λ (e : (store ≡ both) × (p.0 ≡ push)). (
         store,
-        inl (inr ([], sym (append-nil store), refl)),
-        store_represents stanza g (subst (λ (r : Repository). Represents stanza g r) (after_some s push) (subst (λ (l : List Step). Represents stanza g (after (Some s) l)) e p.2)),
+        whole_part ended,
+        store_represents stanza g e.0 (subst (λ (r : Repository). Represents stanza g r) (after_some s push) (subst (λ (l : List Step). Represents stanza g (after (Some s) l)) e.1 p.2)),
       ))
       (nothing_or_push p.0 p.1)
+    where
+      whole_part : (e : Bool) → IsPartOf store (moves_of e)
+      whole_part true = subst (λ (m : List Move). IsPartOf store m) (sym ended_moves) (ones_part store)
+      whole_part false = inl (inr ([], sym (append-nil store), refl))
 
-  -- all of it is all of the step of others
-  pub turn_steady : (stanza : Text) (v : View) → IsSteady stanza (Some (after_all s (push_of s (archived_of id n)))) v
+  -- all of it is all of the step of others, where no other file of its name is archived
+  pub turn_steady : (stanza : Text) (v : View) → has_other (archived_of id n) s.archived ≡ false → IsSteady stanza (Some (after_all s (push_of s (archived_of id n)))) v
       → IsSteady stanza (after (Some s) (all_of (steps_of (ArchivePushAsync (turn_with id n true ∷ [])) (Some s)))) v
-  turn_steady stanza v h = subst (λ (r : Repository). IsSteady stanza r v)
-      (sym (ap (λ (l : List Step). after (Some s) l) ended_all ∙ after_note d s push)) (note_steady d (after_all s push) stanza v h)
+  turn_steady stanza v off h = subst (λ (r : Repository). IsSteady stanza r v)
+      (sym (ap (λ (l : List Step). after (Some s) l) (ended_all ∙ store_both off) ∙ after_note d s push)) (note_steady d (after_all s push) stanza v h)
 
   -- what the disk then holds
   abbrev NowDone : Text → Bool → Bool → Option Content → Type 0
   NowDone stanza ended whole new = (done : List Step) × IsDone whole done (moves_of ended) × NowRepresents stanza (after (Some s) done) new
 
-  note_now : (stanza : Text) (new : Option Content) → NowRepresents stanza (Some (after_all s push)) new → NowRepresents stanza (after (Some s) store) new
-  note_now stanza new now = record { represents = λ f is. store_represents stanza f (now.represents f is) }
+  note_now : (stanza : Text) (new : Option Content) → store ≡ both → NowRepresents stanza (Some (after_all s push)) new → NowRepresents stanza (after (Some s) store) new
+  note_now stanza new is now = record { represents = λ f at. store_represents stanza f is (now.represents f at) }
 
   pub turn_now_part : (stanza : Text) (new : Option Content) → NowPartOfPush stanza s (archived_of id n) new
       → (done : List Step) × IsDone false done (steps_of (ArchivePushAsync (turn_with id n false ∷ [])) (Some s)) × NowRepresents stanza (after (Some s) done) new
   turn_now_part stanza new p = ⊎_elim
       (λ (e : p.0 ≡ []). ([], inl (inl refl), subst (λ (l : List Step). NowRepresents stanza (after (Some s) l) new) e p.2))
-      (λ (e : p.0 ≡ push). (
+      (λ (e : (store ≡ both) × (p.0 ≡ push)). (
         store,
         inl (inr ([], sym (append-nil store), refl)),
-        note_now stanza new (subst (λ (r : Repository). NowRepresents stanza r new) (after_some s push) (subst (λ (l : List Step). NowRepresents stanza (after (Some s) l) new) e p.2)),
+        note_now stanza new e.0 (subst (λ (r : Repository). NowRepresents stanza r new) (after_some s push) (subst (λ (l : List Step). NowRepresents stanza (after (Some s) l) new) e.1 p.2)),
       ))
       (nothing_or_push p.0 p.1)
 
-  pub turn_now_whole : (stanza : Text) (new : Option Content) → NowRepresents stanza (Some (after_all s (push_of s (archived_of id n)))) new
+  pub turn_now_whole : (stanza : Text) (new : Option Content) → has_other (archived_of id n) s.archived ≡ false → NowRepresents stanza (Some (after_all s (push_of s (archived_of id n)))) new
       → (done : List Step) × IsDone true done (steps_of (ArchivePushAsync (turn_with id n true ∷ [])) (Some s)) × NowRepresents stanza (after (Some s) done) new
-  turn_now_whole stanza new now = (all_of (moves_of true), refl, subst (λ (l : List Step). NowRepresents stanza (after (Some s) l) new) (sym ended_all) (note_now stanza new now))
+  turn_now_whole stanza new off now = (all_of (moves_of true), refl, subst (λ (l : List Step). NowRepresents stanza (after (Some s) l) new) (sym ended_all) (note_now stanza new (store_both off) now))
 
 -- ---- a step of others with none
 

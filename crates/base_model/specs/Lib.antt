@@ -1,4 +1,5 @@
 pub mod Text
+pub mod StanzaName
 pub mod Dates
 pub mod Names
 pub mod Json

@@ -7,7 +7,7 @@ use Rattle.base_model.specs.Names.{archive_info, backup_info, copy_of}
 use Rattle.base_model.specs.Repository.{Repository, IsSound}
 use Rattle.base_model.specs.Represents.{Represents}
 use Rattle.base_model.specs.Create.{first_archive_text, first_backup_text}
-use Rattle.base_model.specs.Steps.{Command, StanzaCreate, ArchivePush, ArchivePushAsync, ArchivePushDrain, MakeBackup, Expire, Then, Reading, Step, after, steps_of}
+use Rattle.base_model.specs.Steps.{Command, StanzaCreate, StanzaUpgrade, ArchivePush, ArchivePushAsync, ArchivePushDrain, MakeBackup, Expire, Then, Reading, Step, after, steps_of}
 use Rattle.base_model.specs.Log.{IsDone}
 
 -- what the disk holds, where it is known, represents r
@@ -24,6 +24,7 @@ pub record HasNewPairs (stanza : Text) (c : Cluster) (f : Content) : Type 0 wher
 -- what a command asks of the repository that it begins from: one with an expiry, that it is sound
 abbrev pub BeginsFrom : Command → Repository → Type 0
 BeginsFrom (StanzaCreate c) r = Unit {0}
+BeginsFrom (StanzaUpgrade c) r = Unit {0}
 BeginsFrom (ArchivePush n) r = Unit {0}
 BeginsFrom (ArchivePushAsync turns) r = Unit {0}
 BeginsFrom (ArchivePushDrain ns) r = Unit {0}

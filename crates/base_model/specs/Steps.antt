@@ -1,5 +1,5 @@
 -- What commands do to a repository (pgBackRest command reference).
-use Rattle.std.specs.Prelude.{◌≡◌, ◌⊎◌, ◌||◌, Bool, false, not, List, [], ◌∷◌, ◌++◌, map, filter, Option, Some, None, if◌then◌else◌, bytes_eq}
+use Rattle.std.specs.Prelude.{◌≡◌, ◌⊎◌, ◌||◌, ◌&&◌, ◌+◌, nat_eq, Bool, false, not, List, [], ◌∷◌, ◌++◌, length, map, filter, Option, Some, None, if◌then◌else◌, bytes_eq}
 use Rattle.std.specs.Option.{option_map_or}
 use Rattle.std.specs.List.{flat_map}
 use Rattle.sha1.specs.Sha1.{sha1}
@@ -105,6 +105,8 @@ pub record Retention : Type 0 where
 pub data Command : Type 0 where
   -- the cluster that the control files state, where they state one
   StanzaCreate : Option Cluster → Command
+  -- the same; it gets the next number
+  StanzaUpgrade : Option Cluster → Command
   -- the file, which goes under the current id
   ArchivePush : Named → Command
   -- the steps of others that it waited for
@@ -134,9 +136,16 @@ push_of s a = if is_archived a s.archived then [] else Push a ∷ []
 abbrev pub archived_of : ArchiveId → Named → Archived
 archived_of id n = record { id = id; name = n.name; bytes = n.bytes }
 
--- what a drain does with a file: a push, where it isn't archived, and then a note
+-- a file of its id and name is archived with another sum
+abbrev pub has_other : Archived → List Archived → Bool
+has_other a [] = false
+has_other a (b ∷ bs) = (is_same_file a b && not (bytes_eq (sha1 a.bytes) (sha1 b.bytes))) || has_other a bs
+
+-- What a drain does with a file: a push, where it isn't archived, and then a note. Where it is archived with another
+-- sum it does nothing.
 abbrev pub store_of : Stanza → ArchiveId → Named → List Step
-store_of s id n = push_of s (archived_of id n) ++ Note (record { name = n.name; sum = sha1 n.bytes }) ∷ []
+store_of s id n = if has_other (archived_of id n) s.archived then []
+    else push_of s (archived_of id n) ++ Note (record { name = n.name; sum = sha1 n.bytes }) ∷ []
 
 -- the stores of files one after another, a group each
 abbrev pub stores_of : Stanza → ArchiveId → List Named → List (List Step)
@@ -163,6 +172,28 @@ abbrev pub create_moves : Option Cluster → Repository → List Move
 create_moves (Some c) None = One (Create c) ∷ []
 create_moves cluster r = []
 
+-- the two have one system identifier and one version
+abbrev pub is_same_cluster : Cluster → Cluster → Bool
+is_same_cluster c d = nat_eq c.system d.system && nat_eq c.version d.version
+
+-- the stanza's current cluster is this one
+abbrev pub is_current : Cluster → Stanza → Bool
+is_current c s = option_map_or (is_same_cluster c) (at_number (current_number s) s.history) false
+
+-- the cluster under the number that comes next
+abbrev pub next_cluster : Cluster → Stanza → Cluster
+next_cluster c s = record {
+  id = length s.history + 1;
+  system = c.system;
+  version = c.version;
+  control = c.control;
+  catalog = c.catalog;
+}
+
+-- a further cluster, where the current one is another
+abbrev pub upgrade_moves : Cluster → Stanza → List Move
+upgrade_moves c s = if is_current c s then [] else One (Upgrade (next_cluster c s)) ∷ []
+
 -- the moves in a stanza; there are none without one
 abbrev pub in_stanza : (Stanza → List Move) → Repository → List Move
 in_stanza moves None = []
@@ -181,6 +212,8 @@ backup_moves turns b kept s =
 -- the moves of a command on its stanza's repository
 abbrev pub steps_of : Command → Repository → List Move
 steps_of (StanzaCreate cluster) r = create_moves cluster r
+steps_of (StanzaUpgrade cluster) r =
+    in_stanza (λ s. option_map_or (λ (c : Cluster). upgrade_moves c s) cluster []) r
 steps_of (ArchivePush n) r = in_stanza (λ s. under_current (λ id. map One (push_of s (archived_of id n))) s) r
 steps_of (ArchivePushAsync turns) r = in_stanza (λ s. turn_moves s turns) r
 steps_of (ArchivePushDrain files) r =
@@ -189,3 +222,7 @@ steps_of (MakeBackup turns b kept) r = in_stanza (backup_moves turns b kept) r
 steps_of (Expire kept) r = in_stanza (expiry_moves kept) r
 steps_of (Then first next) r = steps_of first r ++ steps_of next (after r (all_of (steps_of first r)))
 steps_of Reading r = []
+
+-- the repository with this as its current cluster
+abbrev pub upgraded : Cluster → Repository → Repository
+upgraded c r = after r (all_of (steps_of (StanzaUpgrade (Some c)) r))

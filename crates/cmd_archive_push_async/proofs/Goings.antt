@@ -13,6 +13,7 @@ use Rattle.base_model.specs.Now.{NowRepresents}
 use Rattle.base_model.specs.Steady.{IsSteady, EachImage}
 use Rattle.base_model.proofs.Done.{part_none}
 use Rattle.base_model.proofs.Steady.{steady_rests, rests_moves}
+use Rattle.archive_lookup.proofs.Noted.{all_keep_notes, note_of}
 use Rattle.cmd_archive_push_async.specs.Storing.{store_steps, stored, IsPartOfStores, NowPartOfStores, IsArchivedIn, GoesByStores}
 use Rattle.cmd_archive_push_async.proofs.Stores.{stored_after, stores_first, stores_after, stays_archived}
 
@@ -66,6 +67,7 @@ module _ (stanza : Text) (id : ArchiveId) where
     moves = λ s steady some. rests_moves stanza (Some s) (IsPartOfStores stanza s id []) a b rests same steady some (λ g h. ([], refl, h));
     ends = λ s steady some g leaves. ([], refl, (steady_rests stanza (Some s) a b rests same steady).represents g leaves);
     held = λ s steady some n at. absurd at;
+    noted = λ s some now n at. absurd at;
   }
 
   pub rests_self : (a : View) → LeavesNoMore a a
@@ -90,6 +92,7 @@ module _ (stanza : Text) (id : ArchiveId) where
     moves = λ s steady some. moves_as stanza (λ g. Represents stanza g (Some s)) (IsPartOfStores stanza s id []) a b (λ g h. ([], refl, h)) (moves s steady some);
     ends = λ s steady some g leaves. let m = moves s steady some in ([], refl, m.leaves b.moment g m.later (omega arith) leaves);
     held = λ s steady some n at. absurd at;
+    noted = λ s some now n at. absurd at;
   }
 
   -- ---- with more files, of which nothing may be done
@@ -102,6 +105,7 @@ module _ (stanza : Text) (id : ArchiveId) where
         (λ g h. stores_first stanza s id files more g (subst (λ (l : List Named). IsPartOfStores stanza s id l g) (append-nil files) h)) (p.moves s steady some);
     ends = λ s steady some g leaves. let x = p.ends s steady some g leaves in (x.0, subst (λ (d : List Step). IsPartOf d (map One (store_steps (stored s id files) id more))) (sym x.1) (part_none (map One (store_steps (stored s id files) id more))), x.2);
     held = p.held;
+    noted = p.noted;
   }
 
   -- ---- one after the other
@@ -136,6 +140,12 @@ module _ (stanza : Text) (id : ArchiveId) where
         (λ (i : In n gs). q.held (stored s id fs) (steady_b s steady some) (p.known some) n i)
         (in_either n fs gs at))
 
+    noted_both : (s : Stanza) → IsSome a.now → NowRepresents stanza (Some s) a.now → (n : Named) → In n (fs ++ gs) → In (note_of n) (stored s id (fs ++ gs)).drained
+    noted_both s some now n at = subst (λ (x : Stanza). In (note_of n) x.drained) (as_both s) (⊎_elim
+        (λ (i : In n fs). all_keep_notes (note_of n) (store_steps (stored s id fs) id gs) (stored s id fs) (p.noted s some now n i))
+        (λ (i : In n gs). q.noted (stored s id fs) (p.known some) (stores_now fs a b p s some now) n i)
+        (in_either n fs gs at))
+
     pub stores_on : GoesByStores stanza id (fs ++ gs) more a c
     stores_on = record {
       known = λ some. q.known (p.known some);
@@ -147,4 +157,5 @@ module _ (stanza : Text) (id : ArchiveId) where
           (λ g h. stores_after stanza s id fs (gs ++ more) g h));
       ends = λ s steady some g leaves. subst (λ (x : Stanza). IsPartOfStores stanza x id more g) (as_both s) (q.ends (stored s id fs) (steady_b s steady some) (p.known some) g leaves);
       held = held_both;
+      noted = noted_both;
     }

@@ -10,6 +10,7 @@ use Rattle.base_model.specs.Steps.{Step, Push, Note, One, Named, IsPartOf, IsSom
 use Rattle.base_model.proofs.Done.{part_none}
 use Rattle.base_model.proofs.Logged.{one_part}
 use Rattle.base_model.proofs.PushDone.{after_some}
+use Rattle.base_model.proofs.Turned.{store_either}
 use Rattle.base_model.proofs.Waited.{all_after}
 use Rattle.cmd_archive_push_async.specs.Storing.{store_steps}
 use Rattle.cmd_archive_push_async.proofs.Stores.{part_first, part_following, part_split, all_is_part, after_following}
@@ -55,8 +56,12 @@ module _ (P : Repository → Type 0) (noted : (d : Drained) (s : Stanza) → P (
       holds = h;
     }
 
-    pushed : P (after (Some s) push) → IsFirst s id (n ∷ fs)
-    pushed h = whole (subst P (sym (after_some s (store_of s id n) ∙ ap (λ (x : Stanza). Some x) (all_after s push (Note note ∷ [])))) (noted note (after_all s push) (subst P (after_some s push) h)))
+    -- the push, and the note
+    abbrev both : List Step
+    both = push ++ Note note ∷ []
+
+    pushed : store_of s id n ≡ both → P (after (Some s) push) → IsFirst s id (n ∷ fs)
+    pushed is h = whole (subst P (sym (after_some s (store_of s id n) ∙ ap (λ (x : Stanza). Some x) (ap (after_all s) is ∙ all_after s push (Note note ∷ [])))) (noted note (after_all s push) (subst P (after_some s push) h)))
 
     more : (done : List Step) → IsFirst s1 id fs → IsFirst s id (n ∷ fs)
     more done x = record {
@@ -66,15 +71,23 @@ module _ (P : Repository → Type 0) (noted : (d : Drained) (s : Stanza) → P (
       holds = subst P (ap (λ (r : Repository). after r x.done) (sym (after_some s (store_of s id n))) ∙ sym (after_following (Some s) (store_of s id n) x.done)) x.holds;
     }
 
-    of_store : (done : List Step) → IsPartOf done (map One (store_of s id n)) → P (after (Some s) done) → IsFirst s id (n ∷ fs)
-    of_store done p h = ⊎_elim
+    of_both : store_of s id n ≡ both → (done : List Step) → IsPartOf done (map One both) → P (after (Some s) done) → IsFirst s id (n ∷ fs)
+    of_both is done p h = ⊎_elim
         (λ (q : IsPartOf done (map One push)). ⊎_elim (λ (e : done ≡ []). nothing (subst (λ (d : List Step). P (after (Some s) d)) e h))
-        (λ (e : done ≡ push). pushed (subst (λ (d : List Step). P (after (Some s) d)) e h)) (nothing_or_push s (archived_of id n) done q))
+        (λ (e : done ≡ push). pushed is (subst (λ (d : List Step). P (after (Some s) d)) e h)) (nothing_or_push s (archived_of id n) done q))
         (λ (q : (rest : List Step) × (done ≡ push ++ rest) × IsPartOf rest (map One (Note note ∷ []))). ⊎_elim
-        (λ (e : q.0 ≡ []). pushed (subst (λ (d : List Step). P (after (Some s) d)) (q.1 ∙ ap (λ (l : List Step). push ++ l) e ∙ append-nil push) h))
-        (λ (e : q.0 ≡ Note note ∷ []). whole (subst (λ (d : List Step). P (after (Some s) d)) (q.1 ∙ ap (λ (l : List Step). push ++ l) e) h))
+        (λ (e : q.0 ≡ []). pushed is (subst (λ (d : List Step). P (after (Some s) d)) (q.1 ∙ ap (λ (l : List Step). push ++ l) e ∙ append-nil push) h))
+        (λ (e : q.0 ≡ Note note ∷ []). whole (subst (λ (d : List Step). P (after (Some s) d)) (q.1 ∙ ap (λ (l : List Step). push ++ l) e ∙ sym is) h))
         (one_part (Note note) q.0 q.2))
         (part_split done push (Note note ∷ []) p)
+
+    of_store : (done : List Step) → IsPartOf done (map One (store_of s id n)) → P (after (Some s) done) → IsFirst s id (n ∷ fs)
+    of_store done p h = ⊎_elim
+        (λ (e : store_of s id n ≡ []).
+        let none : done ≡ [] = subst (λ (l : List Step). IsPartOf done (map One l)) e p in
+        nothing (subst (λ (d : List Step). P (after (Some s) d)) none h))
+        (λ (e : store_of s id n ≡ both). of_both e done (subst (λ (l : List Step). IsPartOf done (map One l)) e p) h)
+        (store_either id n s)
 
   pub first_of : (fs : List Named) (s : Stanza) (id : ArchiveId) (done : List Step) → IsPartOf done (map One (store_steps s id fs)) → P (after (Some s) done) → IsFirst s id fs
   first_of [] s id done p h = record { done = []; some = refl; part = refl; holds = subst (λ (d : List Step). P (after (Some s) d)) p h }

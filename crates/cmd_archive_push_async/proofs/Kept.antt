@@ -28,6 +28,7 @@ use Rattle.base_model.proofs.Turned.{note_represents, turn_sound}
 use Rattle.base_model.proofs.Waited.{all_after}
 use Rattle.archive_lookup.specs.Stored.{archive_path}
 use Rattle.archive_lookup.specs.Turns.{HadReceipt, IsStoredBy}
+use Rattle.archive_lookup.proofs.Noted.{all_keep_notes, note_of}
 use Rattle.base_crash_lists.specs.Trace.{HasReceiptsOf}
 use Rattle.cmd_types.specs.declared.stages.plan.SyncScope.TheVariants.{Whole}
 use Rattle.cmd_types.specs.DisksEffect.{IsPart, DoesPart, DoesWhole, SpoolEffect, DisksEffect}
@@ -36,7 +37,7 @@ use Rattle.archive_spool.proofs.Receipts.{marks_receipts, marks_synced}
 use Rattle.cmd_archive_push_async.specs.declared.files.push_marks.Drained.{Drained as Counted}
 use Rattle.cmd_archive_push_async.specs.Keeping.{IsCurrentId, IsUnderCurrent, GivesStored, reached_of}
 use Rattle.cmd_archive_push_async.specs.Storing.{store_steps, stored, IsPartOfStores, IsArchivedIn, GoesByStores}
-use Rattle.cmd_archive_push_async.proofs.Stores.{IsStore, AreStores, steps_store, after_following, part_split, all_is_part, part_archived, after_done, following_after, in_left}
+use Rattle.cmd_archive_push_async.proofs.Stores.{IsStore, AreStores, stored_after, steps_store, after_following, part_split, all_is_part, part_archived, after_done, following_after, in_left}
 use Rattle.cmd_archive_push_async.proofs.Commands.{StoresAs}
 use Rattle.cmd_archive_push_async.proofs.Goings.{moves_as, stores_steady, stores_now}
 
@@ -74,43 +75,6 @@ module _ (id : ArchiveId) (c : Cluster) (under : id ≡ id_of c) where
       let h = stores_sound fs (after_all s (store_of s id n)) (store_whole s n sound at) (subst (λ (l : List Cluster). In c l) (sym (store_history s n)) at) q.0 q.2 in
       subst (λ (d : List Step). IsSound (after (Some s) d)) (sym q.1) (subst IsSound (ap (λ (r : Repository). after r q.0) (sym (after_some s (store_of s id n))) ∙ sym (after_following (Some s) (store_of s id n) q.0)) h))
       (part_split done (store_of s id n) (store_steps (after_all s (store_of s id n)) id fs) p)
-
--- ---- what was stored is noted
-
-abbrev pub note_of : Named → Drained
-note_of n = record { name = n.name; sum = sha1 n.bytes }
-
-notes_left : (d : Drained) (xs ys : List Drained) → In d xs → In d (xs ++ ys)
-notes_left d [] ys h = absurd h
-notes_left d (z ∷ xs) ys h = ⊎_elim (λ (e : d ≡ z). inl e) (λ k. inr (notes_left d xs ys k)) h
-
-in_end : (d : Drained) (ds : List Drained) → In d (ds ++ d ∷ [])
-in_end d [] = inl refl
-in_end d (e ∷ ds) = inr (in_end d ds)
-
-keeps_notes : (d : Drained) (t : Step) (s : Stanza) → In d s.drained → In d (changed t s).drained
-keeps_notes d (Create c) s at = at
-keeps_notes d (Upgrade c) s at = at
-keeps_notes d (Push a) s at = at
-keeps_notes d (Note e) s at = notes_left d s.drained (e ∷ []) at
-keeps_notes d (AddBackup b) s at = at
-keeps_notes d (Condemn test) s at = at
-keeps_notes d (Forget a) s at = at
-
-pub all_keep_notes : (d : Drained) (steps : List Step) (s : Stanza) → In d s.drained → In d (after_all s steps).drained
-all_keep_notes d [] s at = at
-all_keep_notes d (t ∷ steps) s at = all_keep_notes d steps (changed t s) (keeps_notes d t s at)
-
-noted : (id : ArchiveId) (n : Named) (s : Stanza) → In (note_of n) (after_all s (store_of s id n)).drained
-noted id n s = subst (λ (x : Stanza). In (note_of n) x.drained) (sym (all_after s (push_of s (archived_of id n)) (Note (note_of n) ∷ []))) (in_end (note_of n) (after_all s (push_of s (archived_of id n))).drained)
-
-pub all_noted : (id : ArchiveId) (ns : List Named) (n : Named) (s : Stanza) → In n ns → In (note_of n) (stored s id ns).drained
-all_noted id [] n s at = absurd at
-all_noted id (m ∷ ns) n s at =
-    let s1 = after_all s (store_of s id m) in
-    let rest = store_steps s1 id ns in
-    subst (λ (x : Stanza). In (note_of n) x.drained) (sym (all_after s (store_of s id m) rest))
-    (⊎_elim (λ (e : n ≡ m). all_keep_notes (note_of n) rest s1 (subst (λ (k : Named). In (note_of k) s1.drained) (sym e) (noted id m s))) (λ k. all_noted id ns n s1 k) at)
 
 -- ---- its steps
 
@@ -261,6 +225,9 @@ module _ (stanza : Text) (id : ArchiveId) (files more : List Named) (command : C
       abbrev IsNoted : Bool → ArchiveName → Text → Type 0
       IsNoted whole name sum = (r : Repository) × Reaches q (entry whole ∷ log) r × IsDrained r name sum
 
+      current_now : (x : (s : Stanza) × (begun.repository ≡ Some s) × IsCurrentId s id) → NowRepresents stanza (Some x.0) b.now
+      current_now x = let here = subst (λ (k : Repository). IsSteady stanza k b) x.1 begun.steady in record { represents = λ f is. here.represents f (inl is) }
+
       newly : (whole : Bool) (n : Named) → In n files → IsNoted whole n.name (sha1 n.bytes)
       newly whole n i =
           let x = at_steady begun.repository some begun.steady in (
@@ -270,7 +237,8 @@ module _ (stanza : Text) (id : ArchiveId) (files more : List Named) (command : C
               subst (λ (r : Repository). Reaches q log r) x.1 begun.reached,
               (store_steps x.0 id fs, sym (after_some x.0 (store_steps x.0 id fs)), stores.all whole x.0 x.2),
             ),
-            all_noted id fs n x.0 (in_left n files more i),
+            subst (λ (k : Stanza). In (note_of n) k.drained) (sym (stored_after x.0 id files more))
+                (all_keep_notes (note_of n) (store_steps (stored x.0 id files) id more) (stored x.0 id files) (goes.noted x.0 some (current_now x) n i)),
           )
 
       still : (whole : Bool) (name : ArchiveName) (sum : Text) (r : Repository) → Reaches q log r → IsDrained r name sum → IsNoted whole name sum

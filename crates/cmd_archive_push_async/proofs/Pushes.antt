@@ -1,7 +1,7 @@
 -- The store of one file, from what its push did.
-use Rattle.std.proofs.Common.{◌≡◌, ⊎_elim, inl, inr, ℕ, arith, [], ◌∷◌, ◌++◌, Option, Some, None, Result, Ok, Err, refl, ap, ap₂, ◌∙◌, sym, subst}
+use Rattle.std.proofs.Common.{◌≡◌, ⊎_elim, inl, inr, ℕ, arith, false, List, [], ◌∷◌, ◌++◌, Option, Some, None, Result, Ok, Err, refl, ap, ap₂, ◌∙◌, sym, subst}
 use Rattle.std.specs.Prelude.{IsSome, IfSome, IfOk, IfErr, IsSomeAnd, codes, string_bytes}
-use Rattle.std.proofs.lemmas.List.{append_cancel_left}
+use Rattle.std.proofs.lemmas.List.{append_cancel_left, append-nil}
 use Rattle.sha1.specs.Sha1.{sha1}
 use Rattle.base_text.specs.Sum.{IsSum, sum_text}
 use Rattle.base_text.specs.declared.sum.Sum.{Sum}
@@ -19,7 +19,7 @@ use Rattle.base_model.specs.Text.{Text, ◌⫽◌, In}
 use Rattle.base_model.specs.Names.{archive_folder, archive_text, id_text, segment_folder, segment_text}
 use Rattle.base_model.specs.Repository.{Archived, Stanza}
 use Rattle.base_model.specs.Represents.{Represents, HasStanza, IsArchivePlace, IsArchiveFile, stored_name}
-use Rattle.base_model.specs.Steps.{Named, after_all, push_of}
+use Rattle.base_model.specs.Steps.{Step, Named, after_all, push_of, store_of, has_other}
 use Rattle.base_model.specs.Now.{NowRepresents}
 use Rattle.base_model.specs.Steady.{IsSteady, EachImage}
 use Rattle.base_model.proofs.Created.{put_same}
@@ -34,6 +34,7 @@ use Rattle.archive_store.specs.declared.fault.PushFault.TheVariants.{Archive, So
 use Rattle.archive_store.specs.Pushes.{LeavesPart, LeavesAll}
 use Rattle.archive_store.specs.Pushing.{IsPushedAs, OnPushFinding, PushFromCause}
 use Rattle.archive_store.specs.Still.{IsStill}
+use Rattle.archive_store.proofs.FilePushed.{pushed_unlike}
 use Rattle.archive_store.proofs.Got.{same_place}
 use Rattle.archive_store.proofs.Piecewise.{read_is}
 use Rattle.archive_store.proofs.PushedEach.{part_now, part_moves, all_now, all_steady}
@@ -41,6 +42,7 @@ use Rattle.archive_lookup.specs.Stored.{archived_file, archive_path, HasSum, Sto
 use Rattle.archive_lookup.specs.Causes.{OnFinding, PushCause, IsFileOf, StoresLong}
 use Rattle.archive_lookup.specs.declared.stored.fault.ArchiveFault.{ArchiveFault}
 use Rattle.archive_lookup.specs.declared.stored.fault.ArchiveFault.TheVariants.{HeaderForm, SegmentSize, HeaderMismatch, Ambiguous, Duplicate, NotFound, SegmentDamaged, TooLong, TooMany, Disk, NoMemory}
+use Rattle.archive_lookup.proofs.Noted.{note_of, store_noted}
 use Rattle.archive_lookup.proofs.Owns.{has_own, stored_has}
 use Rattle.cmd_types.specs.declared.stages.halt.Halt.{Halt}
 use Rattle.cmd_types.specs.declared.stages.halt.Halt.TheVariants.{Refused as IsRefused}
@@ -156,6 +158,12 @@ module _ (stanza : Text) (id : ArchiveId) (name : ArchiveName) (bytes : Text) (p
       let only = at_known (λ f. StoresOnly stanza id name f (sha1 x.bytes)) old f.0 f.1 (x.same refl).0 in
       no_other f.0 s (now.represents f.0 f.1) (sha1 bytes) (λ other stores. only.only other stores ∙ ap sha1 (sym x.read.known))
 
+  -- so none is archived with another sum
+  pub pushed_off : (system count : ℕ) (first : Text) (old new : Option Content) (pushed : Pushed) (sum : Sum) → IsPushedAs stanza id name system (Some bytes) first count old new pushed sum
+      → (s : Stanza) → IsSome old → NowRepresents stanza (Some s) old → has_other (archived_file id name bytes) s.archived ≡ false
+  pushed_off system count first old new pushed sum x = pushed_unlike stanza id name place bytes old pushed (λ e. (x.new e).0)
+      (λ e. subst (λ (b : Text). IfSome old (λ f. StoresOnly stanza id name f (sha1 b))) (sym x.read.known) (x.same e).0)
+
   -- a push that is refused for its content is reported so
   pub found_as : (system : ℕ) (o : Option Content) (rose : Type 0) (other : Text → Type 0) → ((kept : Text) → IfSome o (λ f. StoresOnly stanza id name f kept) → other kept)
       → (e : ArchiveFault) (fault : PushFault) (line : Text) → ◌≡◌ {A = Halt PushFault} (IsRefused fault) (of_archive e)
@@ -215,28 +223,40 @@ module _ (stanza : Text) (id : ArchiveId) (name : ArchiveName) (bytes : Text) (p
       moves = moves_part;
       ends = λ s steady some g leaves. let m = moves_part s steady some in m.leaves d.moment g m.later (omega arith) leaves;
       held = λ s steady some m at. absurd at;
+      noted = λ s some now m at. absurd at;
     }
 
     module _ (done : (s : Stanza) → IsSome v.now → NowRepresents stanza (Some s) v.now → NowRepresents stanza (Some (after_all s (push_of s (archived_file id name bytes)))) d.now)
         (steady_after : (s : Stanza) → IsSteady stanza (Some s) v → IsSome v.now → IsSteady stanza (Some (after_all s (push_of s (archived_file id name bytes)))) d)
-        (has : IsSome v.now → (f : Content) → d.now ≡ Some f → HasSum name (f (archive_path stanza id name (sha1 bytes))) (sha1 bytes)) where
+        (has : IsSome v.now → (f : Content) → d.now ≡ Some f → HasSum name (f (archive_path stanza id name (sha1 bytes))) (sha1 bytes))
+        (off : (s : Stanza) → IsSome v.now → NowRepresents stanza (Some s) v.now → has_other (archived_file id name bytes) s.archived ≡ false) where
       abbrev pushed : Stanza → Stanza
       pushed s = after_all s (push_of s (archived_file id name bytes))
 
-      noted : (s : Stanza) (g : Content) → Represents stanza g (Some (pushed s)) → Represents stanza g (Some (stored s id (n ∷ [])))
-      noted s g h = subst (λ (x : Stanza). Represents stanza g (Some x)) (sym (one_stored s id n)) (note_represents (record { name = name; sum = sha1 bytes }) (pushed s) stanza g h)
+      off_steady : (s : Stanza) → IsSteady stanza (Some s) v → IsSome v.now → has_other (archived_file id name bytes) s.archived ≡ false
+      off_steady s steady some = off s some (record { represents = λ f is. steady.represents f (inl is) })
+
+      noted : (s : Stanza) → has_other (archived_file id name bytes) s.archived ≡ false → (g : Content) → Represents stanza g (Some (pushed s)) → Represents stanza g (Some (stored s id (n ∷ [])))
+      noted s alone g h = subst (λ (x : Stanza). Represents stanza g (Some x)) (sym (one_stored s id n alone)) (note_represents (record { name = name; sum = sha1 bytes }) (pushed s) stanza g h)
+
+      is_noted : (s : Stanza) → has_other (archived_file id name bytes) s.archived ≡ false → In (note_of n) (stored s id (n ∷ [])).drained
+      is_noted s alone = subst (λ (l : List Step). In (note_of n) (after_all s l).drained) (sym (append-nil (store_of s id n))) (store_noted s id n alone)
 
       -- where it was
       pub store_done : GoesByStores stanza id (named name bytes ∷ []) [] v d
       store_done = record {
         known = known;
-        now = λ s some now. ([], refl, record { represents = λ f is. noted s f ((done s some now).represents f is) });
+        now = λ s some now. ([], refl, record { represents = λ f is. noted s (off s some now) f ((done s some now).represents f is) });
         moves = moves_part;
-        ends = λ s steady some g leaves. ([], refl, noted s g ((steady_after s steady some).represents g leaves));
+        ends = λ s steady some g leaves. ([], refl, noted s (off_steady s steady some) g ((steady_after s steady some).represents g leaves));
         held = λ s steady some m at. ⊎_elim
             (λ (e : m ≡ n).
             let f = known_as d.now (known some) in
-            subst (λ (k : Named). IsArchivedIn stanza (stored s id (n ∷ [])) id k) (sym e) (has_archived f.0 (stored s id (n ∷ [])) (noted s f.0 ((steady_after s steady some).represents f.0 (inl f.1))) (has some f.0 f.1)))
+            subst (λ (k : Named). IsArchivedIn stanza (stored s id (n ∷ [])) id k) (sym e)
+            (has_archived f.0 (stored s id (n ∷ [])) (noted s (off_steady s steady some) f.0 ((steady_after s steady some).represents f.0 (inl f.1))) (has some f.0 f.1)))
+            (λ (none : ⊥). absurd none) at;
+        noted = λ s some now m at. ⊎_elim
+            (λ (e : m ≡ n). subst (λ (k : Named). In (note_of k) (stored s id (n ∷ [])).drained) (sym e) (is_noted s (off s some now)))
             (λ (none : ⊥). absurd none) at;
       }
 
@@ -260,6 +280,7 @@ module _ (stanza : Text) (id : ArchiveId) (name : ArchiveName) (bytes : Text) (p
       store_done stanza id name bytes place v d part.now.known (part_now stanza id name bytes v d part) (part_moves stanza id name bytes v d part)
       (all_now stanza id name bytes v d part whole) (all_steady stanza id name bytes v d part whole)
       (known_has stanza id name bytes place system count first model v.now d.now pushed sum is answered)
+      (pushed_off stanza id name bytes place system count first v.now d.now pushed sum (subst (λ (o : Option Text). IsPushedAs stanza id name system o first count v.now d.now pushed sum) is answered))
 
 -- what was found leaves the disk unchanged
 found_still : (v d : View) (e : ArchiveFault) (fault : PushFault) → ◌≡◌ {A = Halt PushFault} (IsRefused fault) (of_archive e) → OnFinding e (IsStill v d) → IsStill v d

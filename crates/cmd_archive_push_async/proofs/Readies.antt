@@ -1,10 +1,10 @@
--- What a listing of the data folder says about the files that are ready.
-use Rattle.std.proofs.Common.{◌≡◌, ◌≢◌, ⊎_elim, Bool, true, false, List, [], ◌∷◌, ◌++◌, map, Option, Some, None, refl, ap, ◌∙◌, sym, subst}
+-- What a listing of the server's folder says about the files that are ready.
+use Rattle.std.proofs.Common.{◌≡◌, ◌≢◌, ⊎_elim, Bool, true, false, List, [], ◌∷◌, ◌++◌, map, Option, Some, None, refl, ap, ◌∙◌, sym, subst, append_assoc, rules}
 use Rattle.std.specs.Prelude.{IfSome, IfNone, IsSome, codes, string_bytes}
 use Rattle.std.proofs.lemmas.List.{append_cancel_left, append_cancel_right}
 use Rattle.base_devices.specs.Content.{Name}
 use Rattle.base_devices.specs.Order.{are_in_order}
-use Rattle.base_devices.specs.DataFolder.{Nodes, Held, file, folder, link, other, file_bytes, shown, IsTreeListing}
+use Rattle.base_devices.specs.DataFolder.{Nodes, Held, file, folder, link, other, file_bytes, shown, IsWithin, IsFolderListing}
 use Rattle.base_devices.specs.declared.data_folder.Node.{Node}
 use Rattle.base_devices.specs.declared.data_folder.FolderEntry.{FolderEntry}
 use Rattle.base_model.specs.declared.wal.ArchiveName.{ArchiveName}
@@ -12,9 +12,12 @@ use Rattle.base_model.specs.Names.{wal_text}
 use Rattle.base_model.specs.Represents.{IsWalName}
 use Rattle.base_model.specs.Text.{In}
 use Rattle.archive_lookup.specs.Listing.{Picks}
+use Rattle.archive_lookup.specs.Paths.{Lacks}
+use Rattle.archive_lookup.proofs.Cuts.{lacks_append}
 use Rattle.archive_lookup.proofs.OnePath.{wal_injective}
 use Rattle.archive_lookup.proofs.Orders.{from_map, in_of, contains_of, in_map}
 use Rattle.archive_lookup.proofs.Picked.{picked, met, picked_order}
+use Rattle.archive_store.proofs.PathLies.{lacks_not, wal_slash}
 use Rattle.cmd_archive_push_async.specs.Ready.{ready_path, IsReady, AreReady, is_file, ShowsReady, PassesReady}
 
 abbrev pub pair_of : FolderEntry → Name × Node
@@ -44,17 +47,30 @@ one_name : (m n : ArchiveName) → IsWalName m → IsWalName n → ready_path m 
 one_name m n p q e = wal_injective m n p q (append_cancel_right (wal_text m) (wal_text n) (codes ".ready")
     (append_cancel_left (codes "pg_wal/archive_status/") (wal_text m ++ codes ".ready") (wal_text n ++ codes ".ready") e))
 
-module _ (f : Nodes) (seen : List FolderEntry) (names : List ArchiveName) (listing : IsTreeListing f (map pair_of seen)) (picks : Picks ShowsReady PassesReady seen names) where
+-- where the server says which files are ready
+abbrev pub ready_folder : Name
+ready_folder = codes "pg_wal/archive_status"
+
+ready_slash : Lacks 47 (codes ".ready")
+ready_slash = search rules
+
+-- that of a file lies right within the folder
+ready_lies : (name : ArchiveName) → IsWithin ready_folder (ready_path name)
+ready_lies name =
+    let last = wal_text name ++ codes ".ready" in
+    (last, append_assoc ready_folder (47 ∷ []) last, lacks_not 47 last (lacks_append 47 (wal_text name) (codes ".ready") (wal_slash name) ready_slash))
+
+module _ (f : Nodes) (seen : List FolderEntry) (names : List ArchiveName) (listing : IsFolderListing f ready_folder (map pair_of seen)) (picks : Picks ShowsReady PassesReady seen names) where
   each_ready : (name : ArchiveName) → In name names → IsReady f name
   each_ready name at =
       let x = picked ShowsReady PassesReady seen names picks name at in
-      let h = listing.each (string_bytes x.0.path) x.0.node (contains_of (map pair_of seen) (pair_of x.0) (in_map pair_of seen x.0 x.1)) in
+      let h = (listing.each (string_bytes x.0.path) x.0.node (contains_of (map pair_of seen) (pair_of x.0) (in_map pair_of seen x.0 x.1))).1 in
       subst (λ (o : Option Held). IsSome (file_bytes o)) (sym (sym (ap f x.2.path) ∙ h.1)) (file_shown x.0.node h.0 h.2 x.2.file)
 
   all_ready : (name : ArchiveName) → IsWalName name → IsReady f name → In name names
   all_ready name fits ready =
       let h = shown_file (f (ready_path name)) ready in
-      let x = from_map pair_of seen (ready_path name, shown h.0) (in_of (map pair_of seen) (ready_path name, shown h.0) (listing.all (ready_path name) h.0 h.1)) in
+      let x = from_map pair_of seen (ready_path name, shown h.0) (in_of (map pair_of seen) (ready_path name, shown h.0) (listing.all (ready_path name) h.0 (ready_lies name) h.1)) in
       let path : string_bytes x.0.path ≡ ready_path name = sym (ap (λ (p : Name × Node). p.0) x.2) in
       let node : is_file x.0.node ≡ true = ap is_file (sym (ap (λ (p : Name × Node). p.1) x.2)) ∙ h.2 in
       ⊎_elim (λ (passes : PassesReady x.0). absurd (passes name fits node path))
@@ -68,9 +84,9 @@ module _ (f : Nodes) (seen : List FolderEntry) (names : List ArchiveName) (listi
     order = picked_order ShowsReady PassesReady (λ (x : FolderEntry). string_bytes x.path) ready_path (λ x y h. sym h.path) seen names picks (ap are_in_order (sym (map_twice seen)) ∙ listing.order);
   }
 
-pub known_ready : (o : Option Nodes) (found seen : List FolderEntry) (names : List ArchiveName) → seen ≡ found → IfSome o (λ f. IsTreeListing f (map (λ s. (string_bytes s.path, s.node)) found)) → Picks ShowsReady PassesReady seen names → IfSome o (λ f. AreReady f names)
-known_ready None found seen names same listing picks = tt
-known_ready (Some f) found seen names same listing picks = are_ready f found names listing (subst (λ (l : List FolderEntry). Picks ShowsReady PassesReady l names) same picks)
+pub known_ready : (o : Option Nodes) (within : Name) (found seen : List FolderEntry) (names : List ArchiveName) → within ≡ ready_folder → seen ≡ found → IfSome o (λ f. IsFolderListing f within (map (λ s. (string_bytes s.path, s.node)) found)) → Picks ShowsReady PassesReady seen names → IfSome o (λ f. AreReady f names)
+known_ready None within found seen names folder_is same listing picks = tt
+known_ready (Some f) within found seen names folder_is same listing picks = are_ready f found names (subst (λ (w : Name). IsFolderListing f w (map pair_of found)) folder_is listing) (subst (λ (l : List FolderEntry). Picks ShowsReady PassesReady l names) same picks)
 
 -- ---- one node
 

@@ -8,9 +8,11 @@ use Rattle.base_model.specs.declared.wal.ArchiveId.{ArchiveId}
 use Rattle.base_model.specs.Text.{Text, In}
 use Rattle.base_model.specs.Repository.{Archived, Stanza, Repository}
 use Rattle.base_model.specs.Represents.{Represents}
-use Rattle.base_model.specs.Steps.{Step, Create, Upgrade, Push, Note, AddBackup, Condemn, Forget, One, Named, IsPartOf, after, after_all, changed, step, push_of, store_of, archived_of, is_archived}
+use Rattle.base_model.specs.Steps.{Step, Create, Upgrade, Push, Note, AddBackup, Condemn, Forget, One, Named, IsPartOf, after, after_all, changed, step, push_of, store_of, archived_of, is_archived, has_other}
 use Rattle.base_model.proofs.Done.{part_none}
 use Rattle.base_model.proofs.PushDone.{after_some}
+use Rattle.base_model.proofs.Pushed.{new_no_other}
+use Rattle.base_model.proofs.Turned.{store_both, store_either}
 use Rattle.base_model.proofs.Waited.{all_after}
 use Rattle.cmd_archive_push_async.specs.Storing.{store_steps, stored, IsPartOfStores}
 
@@ -118,11 +120,16 @@ push_stores : (a : Archived) (archived : Bool) → AreStores (if archived then [
 push_stores a true = tt
 push_stores a false = (tt, tt)
 
+store_stores : (s : Stanza) (id : ArchiveId) (n : Named) → AreStores (store_of s id n)
+store_stores s id n = ⊎_elim
+    (λ (e : store_of s id n ≡ []). subst AreStores (sym e) tt)
+    (λ (e : store_of s id n ≡ push_of s (archived_of id n) ++ Note (record { name = n.name; sum = sha1 n.bytes }) ∷ []). subst AreStores (sym e)
+    (stores_all (push_of s (archived_of id n)) (Note (record { name = n.name; sum = sha1 n.bytes }) ∷ []) (push_stores (archived_of id n) (is_archived (archived_of id n) s.archived)) (tt, tt)))
+    (store_either id n s)
+
 pub steps_store : (s : Stanza) (id : ArchiveId) (fs : List Named) → AreStores (store_steps s id fs)
 steps_store s id [] = tt
-steps_store s id (n ∷ fs) = stores_all (store_of s id n) (store_steps (after_all s (store_of s id n)) id fs)
-    (stores_all (push_of s (archived_of id n)) (Note (record { name = n.name; sum = sha1 n.bytes }) ∷ []) (push_stores (archived_of id n) (is_archived (archived_of id n) s.archived)) (tt, tt))
-    (steps_store (after_all s (store_of s id n)) id fs)
+steps_store s id (n ∷ fs) = stores_all (store_of s id n) (store_steps (after_all s (store_of s id n)) id fs) (store_stores s id n) (steps_store (after_all s (store_of s id n)) id fs)
 
 -- what is archived stays so while files are stored
 pub stays_archived : (a : Archived) (s : Stanza) (id : ArchiveId) (fs : List Named) → In a s.archived → In a (stored s id fs).archived
@@ -146,12 +153,18 @@ module _ (s : Stanza) (id : ArchiveId) (n : Named) where
   abbrev note : Step
   note = Note (record { name = n.name; sum = sha1 n.bytes })
 
-  pub one_steps : store_steps s id (n ∷ []) ≡ push_of s (archived_of id n) ++ Note (record { name = n.name; sum = sha1 n.bytes }) ∷ []
-  one_steps = append-nil (push ++ note ∷ [])
+  pub one_steps : has_other (archived_of id n) s.archived ≡ false → store_steps s id (n ∷ []) ≡ push_of s (archived_of id n) ++ Note (record { name = n.name; sum = sha1 n.bytes }) ∷ []
+  one_steps off = append-nil (store_of s id n) ∙ store_both id n s off
 
-  pub one_stored : stored s id (n ∷ []) ≡ changed (Note (record { name = n.name; sum = sha1 n.bytes })) (after_all s (push_of s (archived_of id n)))
-  one_stored = ap (after_all s) one_steps ∙ all_after s push (note ∷ [])
+  pub one_stored : has_other (archived_of id n) s.archived ≡ false → stored s id (n ∷ []) ≡ changed (Note (record { name = n.name; sum = sha1 n.bytes })) (after_all s (push_of s (archived_of id n)))
+  one_stored off = ap (after_all s) (one_steps off) ∙ all_after s push (note ∷ [])
 
   -- a part of its push is a part of its store
   pub one_part : (done : List Step) → IsPartOf done (map One (push_of s (archived_of id n))) → IsPartOf done (map One (store_steps s id (n ∷ [])))
-  one_part done p = subst (λ (l : List Step). IsPartOf done (map One l)) (sym one_steps) (part_first done push (note ∷ []) p)
+  one_part done p = by (is_archived (archived_of id n) s.archived) refl
+    where
+      by : (archived : Bool) → is_archived (archived_of id n) s.archived ≡ archived → IsPartOf done (map One (store_steps s id (n ∷ [])))
+      by true e =
+          let none : done ≡ [] = subst (λ (b : Bool). IsPartOf done (map One (if b then [] else Push (archived_of id n) ∷ []))) e p in
+          subst (λ (d : List Step). IsPartOf d (map One (store_steps s id (n ∷ [])))) (sym none) (part_none (map One (store_steps s id (n ∷ []))))
+      by false e = subst (λ (l : List Step). IsPartOf done (map One l)) (sym (one_steps (new_no_other (archived_of id n) s.archived e))) (part_first done push (note ∷ []) p)

@@ -33,7 +33,7 @@ pub record AreReady (f : Nodes) (names : List ArchiveName) : Type 0 where
   pub all : (name : ArchiveName) → IsWalName name → IsReady f name → In name names
   pub order : are_in_order (map ready_path names) ≡ true
 
--- ---- of one node of a listing
+-- ---- of one node of the folder's listing
 
 -- the node is a file
 abbrev pub is_file : Node → Bool

@@ -1,5 +1,5 @@
 -- What the stores of files one after another do to a repository: each file is pushed, where it isn't archived, and
--- noted.
+-- noted, where it isn't archived with another sum.
 use Rattle.std.specs.Prelude.{◌≡◌, List, ◌++◌, map, Option, Some, IsSome}
 use Rattle.std.specs.List.{flat_map}
 use Rattle.sha1.specs.Sha1.{sha1}
@@ -41,7 +41,7 @@ pub record IsArchivedIn (stanza : Text) (s : Stanza) (id : ArchiveId) (n : Named
   pub sum : sha1 file.bytes ≡ sha1 n.bytes
 
 -- The repository changes by the stores of files, and then by a part of those of some more: in what the disk holds, and
--- in all that a crash leaves at each moment. At its end all that is left has the files whole.
+-- in all that a crash leaves at each moment. At its end all that is left has the files whole, and each file is noted.
 pub record GoesByStores (stanza : Text) (id : ArchiveId) (files more : List Named) (old new : View) : Type 0 where
   pub known : IsSome old.now → IsSome new.now
   pub now : (s : Stanza) → IsSome old.now → NowRepresents stanza (Some s) old.now
@@ -52,3 +52,5 @@ pub record GoesByStores (stanza : Text) (id : ArchiveId) (files more : List Name
       → IsPartOfStores stanza (stored s id files) id more g
   pub held : (s : Stanza) → IsSteady stanza (Some s) old → IsSome old.now → (n : Named) → In n files
       → IsArchivedIn stanza (stored s id files) id n
+  pub noted : (s : Stanza) → IsSome old.now → NowRepresents stanza (Some s) old.now → (n : Named) → In n files
+      → In (record { name = n.name; sum = sha1 n.bytes }) (stored s id files).drained

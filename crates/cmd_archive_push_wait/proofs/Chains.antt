@@ -1,6 +1,6 @@
 -- Steps of others one after the other, and looks at the spool between them.
-use Rattle.std.proofs.Common.{◌≡◌, ⊎_elim, ◌≤◌, ℕ, List, [], ◌∷◌, ◌++◌, Option, Some, None, refl, sym, ap, ◌∙◌, subst, arith, Bool, true, false, append_assoc}
-use Rattle.std.specs.Prelude.{IfSome, IsSome}
+use Rattle.std.proofs.Common.{◌≡◌, ⊎_elim, ◌≤◌, ℕ, List, [], ◌∷◌, ◌++◌, Option, Some, refl, sym, ap, ◌∙◌, subst, arith, Bool, true, false, append_assoc}
+use Rattle.std.specs.Prelude.{IsSome}
 use Rattle.std.proofs.Math.Bool.{and-true}
 use Rattle.std.proofs.lemmas.List.{map-append, append-nil}
 use Rattle.base_devices.specs.Content.{Content}
@@ -13,7 +13,7 @@ use Rattle.base_model.specs.Text.{Text, In}
 use Rattle.base_model.specs.Repository.{Repository}
 use Rattle.base_model.specs.Represents.{IsWalName}
 use Rattle.base_model.specs.Steps.{Turn, Named}
-use Rattle.base_model.specs.Log.{Done, Keeps, KeepsSpool, Reaches, HasReceipt, IsDrained}
+use Rattle.base_model.specs.Log.{Done, Keeps, Reaches, HasReceipt, IsDrained}
 use Rattle.sha1.specs.Sha1.{sha1}
 use Rattle.archive_lookup.specs.Stored.{ChangesArchive}
 use Rattle.archive_store.specs.Still.{rests_none}

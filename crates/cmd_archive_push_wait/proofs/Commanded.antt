@@ -1,10 +1,9 @@
 -- archive-push in the background: what is read, what it is in the log, and why it ends.
-use Rattle.std.proofs.Common.{◌≡◌, inl, inr, ◌≤◌, ℕ, List, [], Option, Some, None, Result, Ok, Err, refl, sym, ap, ◌∙◌, subst, Bool, true, false}
+use Rattle.std.proofs.Common.{◌≡◌, inl, inr, ℕ, Option, Some, None, Err, refl, sym, ap, ◌∙◌, subst, Bool, true, false}
 use Rattle.std.specs.Prelude.{IfSome}
 use Rattle.sha1.specs.Sha1.{sha1}
 use Rattle.base_text.specs.Sum.{IsSum}
 use Rattle.base_text.proofs.Digests.{IsSum-sha1}
-use Rattle.base_devices.specs.Cause.{Rises}
 use Rattle.base_devices.specs.Moments.{View}
 use Rattle.base_devices.specs.DataFolder.{Nodes}
 use Rattle.base_model.specs.declared.wal.ArchiveName.{ArchiveName}

@@ -1,7 +1,7 @@
 -- How a wait ends: what is counted, what the disks keep, and why.
 use Rattle.std.proofs.Common.{◌≡◌, inl, inr, ◌≤◌, ◌+◌, ℕ, String, List, Option, Some, None, refl, sym, ◌∙◌, subst, arith, Bool, true, false}
 use Rattle.std.specs.declared.alloc.Global.{Global}
-use Rattle.std.specs.Prelude.{IfSome, IsSome, IsSomeAnd, string_bytes}
+use Rattle.std.specs.Prelude.{IfSome, IsSomeAnd, string_bytes}
 use Rattle.base_text.specs.Sum.{IsSum}
 use Rattle.base_devices.specs.Cause.{Rises}
 use Rattle.base_devices.specs.Content.{Content, Name}
@@ -19,14 +19,14 @@ use Rattle.cmd_types.specs.declared.stages.object.Object.{Object}
 use Rattle.cmd_types.specs.declared.stages.object.Object.TheVariants.{Repo, Spool, TheDataFolder, Server, Others, Clock, Locks, Config, Output}
 use Rattle.cmd_types.specs.Halts.{HaltCause, Never, Only, halt_of}
 use Rattle.cmd_types.specs.Risen.{Rose, none, rose_in}
-use Rattle.archive_lookup.specs.Turns.{Turned, Account, ProcessesState}
+use Rattle.archive_lookup.specs.Turns.{Account, ProcessesState}
 use Rattle.archive_spool.specs.declared.spool_query.Asked.{Asked}
-use Rattle.archive_spool.specs.declared.spool_query.Asked.TheVariants.{Done, NotYet as Nothing, Reported as Refusal}
+use Rattle.archive_spool.specs.declared.spool_query.Asked.TheVariants.{NotYet as Nothing, Reported as Refusal}
 use Rattle.archive_spool.specs.Asking.{Answers, IsLong, IsMarkName}
 use Rattle.archive_wait.specs.TurnsDone.{Counts, TurnsDone}
 use Rattle.cmd_archive_push_wait.specs.declared.fault.QueueFault.{QueueFault}
 use Rattle.cmd_archive_push_wait.specs.declared.fault.QueueFault.TheVariants.{SegmentMissing, TooLong, Reported, NotYet}
-use Rattle.cmd_archive_push_wait.specs.Causes.{Call, IsLongMark, IsMarkedSo, IsStarted, QueueCause, LongCause, MarkedSo, OnAccount, WasStarted}
+use Rattle.cmd_archive_push_wait.specs.Causes.{Call, IsLongMark, IsStarted, QueueCause, LongCause, MarkedSo, OnAccount, WasStarted}
 use Rattle.cmd_archive_push_wait.specs.Leaving.{HadTurn, IsAcknowledged, IsSilent, Shows}
 use Rattle.cmd_archive_push_wait.proofs.Chains.{went_any}
 use Rattle.cmd_archive_push_wait.proofs.Waiting.{HasCleared, HasLooked, Waiting, first_stored, first_waiting, first_went, looked_went, silent_of, turn_failed, turn_long, turn_refused, turn_silent, turn_stored}

@@ -1,9 +1,7 @@
 -- What a look at the spool leaves.
-use Rattle.std.proofs.Common.{rules, ◌≡◌, ◌++◌, ◌∷◌, [], ⊎_elim, inl, inr, ◌≤◌, ℕ, Bool, true, false, Option, Some, None, Result, Ok, Err, refl, ap, ◌∙◌, sym, subst, arith, append_assoc}
-use Rattle.std.specs.Prelude.{IfSome, IfErr, IsErrOf, IsSome, IsSomeAnd, IsTrue, codes, option_map, string_bytes}
-use Rattle.base_devices.specs.Cause.{Rises}
+use Rattle.std.proofs.Common.{rules, ◌≡◌, ◌++◌, ◌∷◌, [], ⊎_elim, inl, inr, Bool, true, false, Option, Some, None, refl, ◌∙◌, sym, subst, arith, append_assoc}
+use Rattle.std.specs.Prelude.{IfSome, IsSome, IsSomeAnd, IsTrue, codes, option_map}
 use Rattle.base_devices.specs.Content.{Content, Name, Value, Holds, LiesDirectlyIn, is_below, put}
-use Rattle.base_devices.specs.Crash.{Leaves}
 use Rattle.base_devices.specs.Moments.{View, LeavesNoMore, SyncsFolders, is_unsynced}
 use Rattle.base_devices.proofs.Nows.{known_as}
 use Rattle.base_disk.specs.declared.fault.StoreFault.{StoreFault}

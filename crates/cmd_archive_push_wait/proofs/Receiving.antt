@@ -1,12 +1,12 @@
 -- What is received of a call states why its file isn't acknowledged.
-use Rattle.std.proofs.Common.{◌≡◌, ◌⊎◌, ⊎_elim, inl, inr, List, Option, Some, None, subst}
+use Rattle.std.proofs.Common.{◌≡◌, ◌⊎◌, ⊎_elim, inl, inr, Option, Some, None, subst}
 use Rattle.std.specs.Prelude.{IfSome, IsSome, string_bytes}
 use Rattle.base_model.specs.Text.{In}
 use Rattle.archive_lookup.specs.Turns.{Turned, Account}
 use Rattle.archive_spool.specs.declared.spool_query.Asked.TheVariants.{NotYet as Nothing, Reported as Refusal}
 use Rattle.cmd_archive_push_wait.specs.declared.fault.QueueFault.{QueueFault}
 use Rattle.cmd_archive_push_wait.specs.declared.fault.QueueFault.TheVariants.{SegmentMissing, TooLong, Reported, NotYet}
-use Rattle.cmd_archive_push_wait.specs.Causes.{Call, IsLongMark, IsMarkedSo, QueueCause, MarkedSo, OnAccount, WasStarted}
+use Rattle.cmd_archive_push_wait.specs.Causes.{Call, IsLongMark, IsMarkedSo, QueueCause, WasStarted}
 use Rattle.cmd_archive_push_wait.specs.Received.{HasStarted, ReceivedCause, IsOneSo, WentBy, received_of}
 use Rattle.cmd_archive_push_wait.specs.Leaving.{IsSilent, Shows}
 

@@ -1,15 +1,12 @@
 -- A wait as a command of the log, from any disks.
-use Rattle.std.proofs.Common.{◌≡◌, inr, List, [], ◌∷◌, ◌++◌, Option, Some, refl, sym, subst, Bool, true, false}
-use Rattle.std.specs.Prelude.{IsSome}
-use Rattle.std.specs.List.{flat_map}
+use Rattle.std.proofs.Common.{◌≡◌, inr, List, [], ◌∷◌, Option, refl, sym, subst, Bool, true, false}
 use Rattle.base_devices.specs.Content.{Content}
 use Rattle.base_devices.specs.Moments.{View}
 use Rattle.base_model.specs.Text.{Text}
 use Rattle.base_model.specs.Repository.{Repository}
 use Rattle.base_model.specs.Steps.{Step, Move, One, Any, Command, ArchivePushAsync, IsPartOf, all_of, steps_of}
-use Rattle.base_model.specs.Log.{Done, IsDone, Keeps, KeepsRepository, KeepsSpool, Reaches, RepresentsAfter}
+use Rattle.base_model.specs.Log.{Done, IsDone, Keeps, KeepsRepository, Reaches}
 use Rattle.base_model.specs.Now.{NowEffect}
-use Rattle.base_model.specs.Steady.{KeepsOn}
 use Rattle.cmd_types.specs.declared.stages.plan.SyncScope.TheVariants.{Looked}
 use Rattle.cmd_types.specs.DisksEffect.{Reached, to_end, turned_back, stopped, Leads, Passes, PassesReceipts, Takes}
 use Rattle.archive_lookup.specs.Turns.{Account}
@@ -36,14 +33,17 @@ module _ (stanza : Text) (command : Command) where
   reaches_part : (whole : Bool) (q : Repository) (log : List Done) (r : Repository) → Reaches q (entry whole ∷ log) r → Reaches q (entry false ∷ log) r
   reaches_part whole q log r x = (x.0, x.1, (x.2.0, x.2.1, done_part whole x.0 x.2.0 x.2.2))
 
+  repository_part : (whole : Bool) (q : Repository) (log : List Done) (a : View) → KeepsRepository stanza q (entry whole ∷ log) a → KeepsRepository stanza q (entry false ∷ log) a
+  repository_part whole q log a k = record {
+    fixed = k.fixed;
+    places = k.places;
+    represents = λ f leaves. let x = k.represents f leaves in
+        record { repository = x.repository; reached = reaches_part whole q log x.repository x.reached; sound = x.sound; represents = x.represents };
+  }
+
   keeps_part : (whole : Bool) (q : Repository) (log : List Done) (a s : View) → Keeps stanza q (entry whole ∷ log) a s → Keeps stanza q (entry false ∷ log) a s
   keeps_part whole q log a s k = record {
-    repository = record {
-      fixed = k.repository.fixed;
-      places = k.repository.places;
-      represents = λ f leaves. let x = k.repository.represents f leaves in
-          record { repository = x.repository; reached = reaches_part whole q log x.repository x.reached; sound = x.sound; represents = x.represents };
-    };
+    repository = repository_part whole q log a k.repository;
     receipts = record {
       fixed = k.receipts.fixed;
       receipts = λ f leaves name sum fits has. let x = k.receipts.receipts f leaves name sum fits has in (x.0, reaches_part whole q log x.0 x.1, x.2);
@@ -59,6 +59,7 @@ module _ (whole : Bool) (old : Option Account) (k : Account) (a b s t : View) (p
   leads : Leads k.stanza waits (all_ended (turns_of p.turned)) a s b t
   leads = record {
     now = p.repository.does;
+    repository = p.repository.carries;
     spool_known = p.spool.known;
     keeps = λ known q log some keeps. record {
       repository = p.repository.carries.keeps q log some keeps.repository;
@@ -69,6 +70,7 @@ module _ (whole : Bool) (old : Option Account) (k : Account) (a b s t : View) (p
   part_leads : Leads k.stanza waits false a s b t
   part_leads = record {
     now = now_part k.stanza waits (all_ended (turns_of p.turned)) a.now b.now leads.now;
+    repository = record { keeps = λ q log some keeps. repository_part k.stanza waits (all_ended (turns_of p.turned)) q log b (leads.repository.keeps q log some keeps) };
     spool_known = leads.spool_known;
     keeps = λ known q log some keeps. keeps_part k.stanza waits (all_ended (turns_of p.turned)) q log b t (leads.keeps known q log some keeps);
   }

@@ -1,8 +1,7 @@
 -- A wait for a file: steps of others that left no mark of it, and the one that did.
-use Rattle.std.proofs.Common.{◌≡◌, ⊎_elim, inl, inr, ◌≤◌, ℕ, List, [], ◌∷◌, ◌++◌, String, Option, Some, None, refl, sym, ap, ◌∙◌, subst, arith, Bool, true, false}
+use Rattle.std.proofs.Common.{◌≡◌, ⊎_elim, inl, inr, ℕ, List, [], ◌∷◌, ◌++◌, String, Option, Some, None, refl, sym, ap, ◌∙◌, subst, arith, Bool, true, false}
 use Rattle.std.specs.declared.alloc.Global.{Global}
-use Rattle.std.specs.Prelude.{◌<◌, ◌^◌, IfSome, IsSome, IsSomeAnd, length, string_bytes}
-use Rattle.std.specs.Str.{is_utf8}
+use Rattle.std.specs.Prelude.{◌<◌, IfSome, IsSome, IsSomeAnd, length, string_bytes}
 use Rattle.base_text.specs.Sum.{IsSum}
 use Rattle.base_devices.specs.Content.{Content, Name, Value}
 use Rattle.base_devices.specs.Moments.{View, is_unsynced}
@@ -17,7 +16,7 @@ use Rattle.base_model.specs.Log.{Done as Entry, Keeps, Reaches, HasReceipt, IsDr
 use Rattle.base_model.proofs.Pushed.{in_either, at_known}
 use Rattle.archive_lookup.specs.Stored.{ChangesArchive}
 use Rattle.archive_lookup.specs.Turns.{Turned, Account, GoesOnBy, HadReceipt, IsStoredBy, refusal_name}
-use Rattle.archive_spool.specs.declared.spool_query.Asked.TheVariants.{Done, NotYet, Reported}
+use Rattle.archive_spool.specs.declared.spool_query.Asked.TheVariants.{NotYet, Reported}
 use Rattle.archive_spool.specs.Asking.{Answers, IsLong, IsMarkName}
 use Rattle.archive_spool.specs.Marks.{GivesMarks, receipt_text, refusal_text}
 use Rattle.archive_wait.specs.TurnsDone.{TurnsDone}

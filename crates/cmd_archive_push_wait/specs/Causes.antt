@@ -1,11 +1,10 @@
 -- Why a file that is queued for other processes isn't acknowledged.
-use Rattle.std.specs.Prelude.{◌≡◌, ◌⊎◌, ◌<◌, ◌++◌, ◌∷◌, [], ◌^◌, ℕ, true, List, length, Option, Some, IfSome, IsSome, option_map, string_bytes}
+use Rattle.std.specs.Prelude.{◌≡◌, ◌⊎◌, ◌<◌, ◌++◌, ◌∷◌, [], ◌^◌, ℕ, true, List, length, Option, IfSome, IsSome, option_map, string_bytes}
 use Rattle.base_devices.specs.Content.{Content}
 use Rattle.base_devices.specs.Moments.{View}
 use Rattle.base_model.specs.declared.wal.ArchiveName.{ArchiveName}
 use Rattle.base_model.specs.Text.{Text, In}
 use Rattle.archive_lookup.specs.Turns.{Turned, Account, ProcessesState}
-use Rattle.archive_spool.specs.declared.spool_query.Asked.{Asked}
 use Rattle.archive_spool.specs.declared.spool_query.Asked.TheVariants.{NotYet as Nothing, Reported as Refusal}
 use Rattle.archive_spool.specs.Asking.{Answers, IsLong, IsMarkName}
 use Rattle.archive_wait.specs.TurnsDone.{Counts, TurnsDone}

@@ -8,7 +8,7 @@ use Rattle.base_model.specs.declared.wal.ArchiveName.{ArchiveName}
 use Rattle.base_model.specs.Text.{Text, ◌⫽◌, In}
 use Rattle.base_model.specs.Names.{archive_folder, receipt_name}
 use Rattle.base_model.specs.Repository.{Repository}
-use Rattle.base_model.specs.Steps.{Turn, ArchivePushAsync}
+use Rattle.base_model.specs.Steps.{ArchivePushAsync}
 use Rattle.base_model.specs.Log.{Done as Entry, Keeps, Reaches, HasReceipt, IsDrained}
 use Rattle.archive_lookup.specs.Stored.{ChangesArchive}
 use Rattle.archive_lookup.specs.Turns.{Turned, Account, GoesOn, OnTurn, GoesByTurn, GivesReceipts, IsStoredBy, LeavesMarks, refusal_name}

@@ -9,6 +9,7 @@ use Rattle.base_devices.specs.Moments.{View}
 use Rattle.base_model.specs.declared.clusters.Cluster.{Cluster}
 use Rattle.base_model.specs.declared.labels.BackupKind.{BackupKind}
 use Rattle.base_model.specs.declared.labels.BackupKind.TheVariants.{Full}
+use Rattle.base_model.specs.declared.labels.Choices.{Choices}
 use Rattle.base_model.specs.declared.labels.Label.{Label}
 use Rattle.base_model.specs.Fields.{at_number}
 use Rattle.base_model.specs.InfoFiles.{IsLabel, IsBackupInfo, IsBackupText}
@@ -106,7 +107,7 @@ module _ (online : Bool) (stanza : Text) (o : OfflineOrder) (seen : List ListedN
         equal = later.equal;
         same = later.same;
         choices = later.planned;
-        delta = sym later.delta;
+        delta = sym (ap (λ (k : Choices). k.delta) later.choices);
         law = law;
       }
 
@@ -155,7 +156,7 @@ offline_with stanza o list old second equal listing d by same online seen takes 
   list_is = by.list_is;
   next = by.next;
   current = by.current;
-  delta = by.delta;
+  choices = by.choices;
   equal = equal;
   same = same ∙ sym (length-map listing.files.items taken_of) ∙ ap (λ (l : Listing). length (map taken_of l.files.items)) (sym by.listing_is);
   planned = by.planned;

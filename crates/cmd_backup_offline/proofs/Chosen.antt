@@ -165,7 +165,7 @@ own_entry w f (Bundle number item) e not is = copied_own f (Some (record { numbe
 own_entry w f Last e not is = copied_own f None (end_at w.ends (last_job_number w) 0) e is
 
 -- and that of one that was left to some
-left_by : (w : BackupRun) (f : Taken) (o : Option FileEntry) (e : FileEntry) → option_map (left_entry w.prior f) o ≡ Some e → (e.time ≡ f.time) × (e.reference ≢ None)
+pub left_by : (w : BackupRun) (f : Taken) (o : Option FileEntry) (e : FileEntry) → option_map (left_entry w.prior f) o ≡ Some e → (e.time ≡ f.time) × (e.reference ≢ None)
 left_by w f None e is = absurd (let x : ◌≡◌ {A = Option FileEntry} None (Some e) = is in cc)
 left_by w f (Some x) e is =
     let same : e ≡ left_entry w.prior f x = left_is w f (Some x) e x refl is in

@@ -1,5 +1,5 @@
 -- Links that are left after digest jobs, and what they read.
-use Rattle.std.proofs.Common.{◌≡◌, inl, inr, ◌<◌, ◌^◌, ◌+◌, ℕ, Bool, true, false, List, [], ◌++◌, length, Option, Some, None, sym, ap, ◌∙◌, subst, arith, slice_get, length-append, string_bytes}
+use Rattle.std.proofs.Common.{◌≡◌, inl, inr, ◌<◌, ◌^◌, ◌+◌, ℕ, Bool, true, false, List, [], ◌∷◌, ◌++◌, length, Option, Some, None, sym, ap, ◌∙◌, subst, arith, slice_get, length-append, string_bytes}
 use Rattle.std.specs.Prelude.{IfSome, OnOk, Result, Ok, Err}
 use Rattle.std.proofs.lemmas.Option.{slice_get_within}
 use Rattle.base_devices.specs.Content.{Content}
@@ -28,7 +28,7 @@ use Rattle.cmd_backup_common.specs.Beginning.{AreLost}
 use Rattle.cmd_backup_common.specs.Causes.{Before, CauseBy}
 use Rattle.cmd_backup_common.specs.Making.{MakeCause}
 use Rattle.cmd_backup_common.proofs.Links.{Comes, where_back, where_done, unread_used}
-use Rattle.cmd_backup_offline.specs.Equal.{IsEqual, IsChanged, IsSame, IsNew, IsEntryBy, CannotDigest}
+use Rattle.cmd_backup_offline.specs.Equal.{IsEqual, IsChanged, IsMarked, AreMarked, IsSame, IsNew, IsEntryBy, CannotDigest}
 
 -- ---- by the first links
 
@@ -74,6 +74,16 @@ module _ (used now : List LinkState) (comes : Comes used now) where
   changed_used old f (inl h) = inl h
   changed_used old f (inr (e, is, inl x)) = inr (e, is, inl (x.0, x.1, digested_used (item_for f) x.0 x.1 x.2, x.3))
   changed_used old f (inr (e, is, inr x)) = inr (e, is, inr (absent_used (item_for f) x))
+
+  marked_used : (old : List FileEntry) (f : Taken) (m : Bool) → IsMarked now old f m → IsMarked used old f m
+  marked_used old f true h = equal_used old f h
+  marked_used old f false h = changed_used old f h
+
+  pub all_marked_used : (old : List FileEntry) (fs : List Taken) (ms : List Bool) → AreMarked now old fs ms → AreMarked used old fs ms
+  all_marked_used old [] [] h = tt
+  all_marked_used old [] (m ∷ ms) h = absurd h
+  all_marked_used old (f ∷ fs) [] h = absurd h
+  all_marked_used old (f ∷ fs) (m ∷ ms) h = (marked_used old f m h.0, all_marked_used old fs ms h.1)
 
   same_used : (delta : Bool) (old : List FileEntry) (f : Taken) → IsSame now delta old f → IsSame used delta old f
   same_used true old f h = equal_used old f h

@@ -3,6 +3,7 @@ pub mod Bases
 pub mod Left
 pub mod Marks
 pub mod Chosen
+pub mod Laid
 pub mod Folder
 pub mod Lying
 pub mod Touchings

@@ -7,7 +7,6 @@ use Rattle.base_devices.specs.Moments.{View, LeavesNoMore}
 use Rattle.base_devices.specs.States.{ClockState, ShowsSecond}
 use Rattle.base_model.specs.declared.clusters.ArchiveInfo as rust_archive_info
 use Rattle.base_model.specs.declared.clusters.BackupInfo as rust_backup_info
-use Rattle.base_model.specs.declared.labels.Choices.{Choices}
 use Rattle.base_model.specs.declared.labels.BackupKind.{BackupKind}
 use Rattle.base_model.specs.declared.labels.BackupKind.TheVariants.{Full, Diff, Incr}
 use Rattle.base_model.specs.declared.labels.Label.{Label}
@@ -23,7 +22,9 @@ use Rattle.base_model.specs.Values.{BackupInfo, FileEntry, Manifest, archive_inf
 use Rattle.repo_text_lemmas.proofs.Lists.{one_list}
 use Rattle.repo_text_lemmas.proofs.Manifests.{one_manifest}
 use Rattle.backup_sink.proofs.Ways.{Law}
+use Rattle.backup_plan.specs.declared.values.Choice.{Choice}
 use Rattle.backup_plan.specs.Filter.{ListedNode, kept, files_of}
+use Rattle.backup_plan.specs.Layout.{layout}
 use Rattle.backup_record.specs.Making.{list_with}
 use Rattle.repo_stanza.specs.declared.control.Control.{Control}
 use Rattle.repo_stanza.specs.Judging.{Validates, IsOf}
@@ -75,11 +76,13 @@ use Rattle.base_model.specs.ManifestText.{IsManifestText}
 use Rattle.repo_manifest.specs.Keeping.{manifest_text}
 use Rattle.worker_pool.specs.Payloads.{AllRead}
 use Rattle.backup_plan.specs.Listed.{Taken}
-use Rattle.cmd_backup_offline.specs.Equal.{IsEntryBy}
+use Rattle.cmd_backup_offline.specs.Bundling.{IsLaidBy}
+use Rattle.cmd_backup_offline.specs.Equal.{AreMarked, IsEntryBy}
 use Rattle.cmd_backup_offline.specs.Folder.{ShowsFrom}
 use Rattle.cmd_backup_offline.proofs.Chosen.{chosen, entries_of}
+use Rattle.cmd_backup_offline.proofs.Laid.{laid_of}
 use Rattle.cmd_backup_offline.proofs.Folder.{all_held}
-use Rattle.cmd_backup_offline.proofs.Left.{entry_used, kept_used}
+use Rattle.cmd_backup_offline.proofs.Left.{entry_used, kept_used, all_marked_used}
 use Rattle.cmd_backup_offline.proofs.Lying.{lies_there}
 
 -- ---- where it is refused before
@@ -226,6 +229,14 @@ module _ (stanza : Text) (o : OfflineOrder) (seen : List ListedNode) (list : Bac
             let entry = entries_of first o.settings.delta w (taken_in draft) (taken_in draft) draft.plan.choices.items (λ f i. i) files e (subst (λ (es : List FileEntry). In e es) files_are at) in
             subst (λ (es : List FileEntry). IsEntryBy first o.settings.delta es (files_of (kept false seen)) e) (later.old_is ∙ from.old_is)
             (subst (λ (ts : List Taken). IsEntryBy first o.settings.delta (old_in draft) ts e) later.takes.files entry);
+        equal = p.equal;
+        marked = λ delta. subst (λ (es : List FileEntry). AreMarked first es (files_of (kept false seen)) p.equal) (later.old_is ∙ from.old_is)
+            (subst (λ (ts : List Taken). AreMarked first (old_in draft) ts p.equal) later.takes.files (p.marked delta));
+        laid = λ e at.
+            let entry = laid_of w (taken_in draft) draft.plan.choices.items e (subst (λ (es : List FileEntry). In e es) files_are at) in
+            subst (λ (es : List FileEntry). IsLaidBy (layout o.settings es (files_of (kept false seen)) p.equal).choices (files_of (kept false seen)) e) (later.old_is ∙ from.old_is)
+            (subst (λ (ts : List Taken). IsLaidBy (layout o.settings (old_in draft) ts p.equal).choices ts e) later.takes.files
+            (subst (λ (cs : List Choice). IsLaidBy cs (taken_in draft) e) p.planned entry));
       }
 
   -- whatever else the disk held, it has the backup
@@ -265,7 +276,7 @@ module _ (stanza : Text) (o : OfflineOrder) (seen : List ListedNode) (list : Bac
             (subst (λ (n : ℕ). ShowsTimes second n clock last) (sym (ap (λ (m : Manifest). m.stop) makes.manifest_is)) (times_shown second makes.stop clock mid last shown stops));
         prior = x.1.prior ∙ later.prior;
         line = line_is ∙ ap (λ (l : Label). offline_lines o.kind (base_in o.kind list) l) (sym x.1.label);
-        delta = ap (λ (k : Choices). k.delta) x.1.choices ∙ later.delta;
+        choices = x.1.choices ∙ later.choices;
         read = left_by_used first links comes stanza a.now x.0 (subst (λ (n : Option Content). IsReadOrLeft links stanza n x.0) same (subst (λ (s : Text). IsReadOrLeft links s b.now x.0) later.stanza_is x.1.read));
         entries = has_entries makes x.1.label;
         refers = λ s some represents. x.1.refers s (back some) (subst (λ (k : Text). NowRepresents k (Some s) b.now) (sym later.stanza_is) (subst (λ (n : Option Content). NowRepresents stanza (Some s) n) (sym same) represents));
@@ -299,6 +310,9 @@ module _ (used now : List LinkState) (comes : Comes used now) (stanza : Text) (a
     manifest = h.manifest;
     held = λ some. h.held (subst (λ (n : Option Content). IsSome n) (sym same) some);
     each = λ e at. entry_used used now comes o.settings.delta (old_files h.base) (files_of (kept false seen)) e (h.each e at);
+    equal = h.equal;
+    marked = λ delta. all_marked_used used now comes (old_files h.base) (files_of (kept false seen)) h.equal (h.marked delta);
+    laid = h.laid;
     all = λ t at. kept_used used now comes h.manifest.files t (h.all t at);
     folders = h.folders;
     wal = h.wal;
@@ -316,7 +330,7 @@ module _ (used now : List LinkState) (comes : Comes used now) (stanza : Text) (a
     times = m.times;
     prior = m.prior;
     line = m.line;
-    delta = m.delta;
+    choices = m.choices;
     read = left_by_used used now comes stanza a.now m.backup (subst (λ (n : Option Content). IsReadOrLeft now stanza n m.backup) same m.read);
     entries = entries_by_used o seen list m.backup m.entries;
     refers = λ s some represents. m.refers s (subst (λ (n : Option Content). IsSome n) (sym same) some) (subst (λ (n : Option Content). NowRepresents stanza (Some s) n) (sym same) represents);
@@ -339,7 +353,7 @@ made_later stanza o list seen used old new clock mid last on lines m = record {
   times = times_within m.backup.entry.start m.backup.entry.stop clock clock mid last (omega arith) on m.times;
   prior = m.prior;
   line = m.line;
-  delta = m.delta;
+  choices = m.choices;
   read = m.read;
   entries = m.entries;
   refers = m.refers;

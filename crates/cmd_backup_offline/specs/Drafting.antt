@@ -40,7 +40,7 @@ pub record IsOfflineBy (stanza : Text) (o : OfflineOrder) (list : BackupInfo) (o
   pub list_is : list_in d ≡ list
   pub next : IsNext second list
   pub current : at_number list.current list.history ≡ Some d.cluster
-  pub delta : d.choices.delta ≡ o.settings.delta
+  pub choices : d.choices ≡ record { bundle = o.settings.bundle; delta = o.settings.delta }
   pub planned : d.plan.choices.items ≡ (layout o.settings (old_in d) (taken_in d) equal).choices
 
 -- Its files have marks, which with delta say of which of them these links reported the digest of the entry, and it
@@ -64,7 +64,7 @@ pub record IsOfflineOf (online : Bool) (stanza : Text) (o : OfflineOrder) (seen 
   pub list_is : list_in d ≡ list
   pub next : IsNext second list
   pub current : at_number list.current list.history ≡ Some d.cluster
-  pub delta : d.choices.delta ≡ o.settings.delta
+  pub choices : d.choices ≡ record { bundle = o.settings.bundle; delta = o.settings.delta }
   pub equal : List Bool
   pub same : length equal ≡ length (taken_in d)
   pub planned : d.plan.choices.items ≡ (layout o.settings (old_in d) (taken_in d) equal).choices

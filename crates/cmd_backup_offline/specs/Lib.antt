@@ -1,6 +1,7 @@
 pub mod Faults
 pub mod Texts
 pub mod Equal
+pub mod Bundling
 pub mod Folder
 pub mod Basing
 pub mod Drafting

@@ -1,5 +1,5 @@
 -- How a backup of any kind is made, from what was read. Own.
-use Rattle.std.specs.Prelude.{◌≡◌, ◌⊎◌, ℕ, false, List, Option, None, Some, IfSome, IsSome}
+use Rattle.std.specs.Prelude.{◌≡◌, ◌⊎◌, ℕ, Bool, true, false, List, Option, None, Some, IfSome, IsSome}
 use Rattle.std.specs.FinMap.{get}
 use Rattle.base_devices.specs.Content.{Content}
 use Rattle.base_devices.specs.Links.{LinkState}
@@ -19,6 +19,7 @@ use Rattle.worker_pool.specs.declared.dispatch.fault.Lost.{Lost}
 use Rattle.worker_pool.specs.Payloads.{AllRead}
 use Rattle.worker_pool.specs.Left.{IsLeft}
 use Rattle.backup_plan.specs.Filter.{ListedNode, kept, files_of, folders_of}
+use Rattle.backup_plan.specs.Layout.{layout}
 use Rattle.backup_plan.specs.Listed.{Taken}
 use Rattle.backup_record.specs.Making.{backup_with, labels_of, list_with}
 use Rattle.cmd_types.specs.Current.{HasValue}
@@ -35,7 +36,8 @@ use Rattle.cmd_backup_common.specs.Making.{MakeCause}
 use Rattle.cmd_backup_offline.specs.declared.order.OfflineOrder.{OfflineOrder}
 use Rattle.cmd_backup_offline.specs.Basing.{base_in, base_label, old_files, ReadsBase}
 use Rattle.cmd_backup_offline.specs.Drafting.{IsDraftedBy, StopCause}
-use Rattle.cmd_backup_offline.specs.Equal.{IsEntryBy}
+use Rattle.cmd_backup_offline.specs.Bundling.{IsLaidBy}
+use Rattle.cmd_backup_offline.specs.Equal.{AreMarked, IsEntryBy}
 use Rattle.cmd_backup_offline.specs.Folder.{ShowsFrom}
 use Rattle.cmd_backup_offline.specs.Texts.{offline_lines}
 
@@ -57,8 +59,8 @@ abbrev pub RefersTo : Stanza → Backup → Type 0
 RefersTo s b = (l : Label) → In l b.entry.references → IsAncestor s.backups l b × IsListed s.backups l
 
 -- The disk has the backup's manifest. Of its entries those of files that are the prior backup's refer to others, and no
--- others do. It is of the whole folder: each file and each folder of the listing that a backup takes is in it, except
--- for files that were absent when they were to be read.
+-- others do; files that are stored together by the order lie in one bundle. It is of the whole folder: each file and
+-- each folder of the listing that a backup takes is in it, except for files that were absent when they were to be read.
 pub record HasEntries (stanza : Text) (o : OfflineOrder) (seen : List ListedNode) (list : BackupInfo)
     (links : List LinkState) (old new : Option Content) (b : Backup) : Type 0 where
   pub base : Option Manifest
@@ -67,6 +69,12 @@ pub record HasEntries (stanza : Text) (o : OfflineOrder) (seen : List ListedNode
   pub held : IsSome old → IfSome new (λ f. PairIs IsManifestText f (manifest_name stanza b.entry.label) manifest)
   pub each : (e : FileEntry) → In e manifest.files
       → IsEntryBy links o.settings.delta (old_files base) (files_of (kept false seen)) e
+  -- of which files links reported the digest of the prior backup's
+  pub equal : List Bool
+  pub marked : o.settings.delta ≡ true → AreMarked links (old_files base) (files_of (kept false seen)) equal
+  -- each lies as the order's settings lay the files out
+  pub laid : (e : FileEntry) → In e manifest.files → IsLaidBy
+      (layout o.settings (old_files base) (files_of (kept false seen)) equal).choices (files_of (kept false seen)) e
   pub all : (f : Taken) → In f (files_of (kept false seen)) → IsKeptUnlessAbsent links manifest.files f
   pub folders : manifest.folders ≡ folders_of (kept false seen)
   -- no part of the log belongs to it
@@ -97,7 +105,7 @@ pub record IsMade (stanza : Text) (o : OfflineOrder) (list : BackupInfo) (seen :
   pub times : ShowsTimes backup.entry.start backup.entry.stop clock new_clock
   pub prior : backup.entry.prior ≡ base_label o.kind list
   pub line : lines ≡ offline_lines o.kind (base_in o.kind list) backup.entry.label
-  pub delta : backup.choices.delta ≡ o.settings.delta
+  pub choices : backup.choices ≡ record { bundle = o.settings.bundle; delta = o.settings.delta }
   pub read : IsReadOrLeft links stanza old backup
   pub entries : HasEntries stanza o seen list links old new backup
   pub refers : (s : Stanza) → IsSome old → NowRepresents stanza (Some s) old → RefersTo s backup

@@ -20,6 +20,8 @@
 //!   the digest that this manifest has. So the control file is always stored. Each entry has the listed time. Each
 //!   listed file has an entry, unless a link reported that it is absent, and the folders are those of the listing. The
 //!   manifest has no part of the log, and the list states the sizes that add up from it.
+//! - At Ok each file whose bytes are the backup's own lies as the order's settings lay the files out (`IsLaidBy`): in a
+//!   bundle, or at its own name. The files before it in the order of paths, and their sizes, give it its bundle.
 //! - At Ok, whatever the disk held, the list that was validated is there with the backup after its backups. The manifest
 //!   lies in both members of its pair, and the bytes of each file that isn't an earlier backup's lie at their place.
 //!   Both members of both pairs are alike in all that a crash leaves.

@@ -11,4 +11,5 @@ pub mod Causes
 pub mod Texts
 pub mod Tasks
 pub mod Running
+pub mod Touching
 pub mod Halting

@@ -1,5 +1,5 @@
 -- What the parts of a running server's backup leave of its devices: words over these, before and after. Own.
-use Rattle.std.specs.Prelude.{◌≡◌, ◌≤◌, ◌⊎◌, ◌++◌, ℕ, List, map, true, Option, option_map, IfSome, Result, String, string_bytes, is_ok}
+use Rattle.std.specs.Prelude.{◌≡◌, ◌≤◌, ◌⊎◌, ◌++◌, ℕ, List, map, true, option_map, IfSome, Result, Ok, String, string_bytes, is_ok}
 use Rattle.std.specs.declared.alloc.Global.{Global}
 use Rattle.base_crash_lists.specs.Beside.{StaysBeside}
 use Rattle.base_devices.specs.declared.data_folder.FolderEntry as rust_seen
@@ -15,10 +15,11 @@ use Rattle.backup_plan.specs.Views.{seen_of}
 use Rattle.backup_make.specs.declared.backup_close.Closed.{Closed}
 use Rattle.backup_make.specs.declared.draft.Draft.{Draft}
 use Rattle.backup_make.specs.declared.online.Online as rust_online
+use Rattle.backup_make.specs.Closing.{PublishesAt}
 use Rattle.backup_make.specs.Draft.{main_of}
 use Rattle.backup_make.specs.Made.{LeavesAlike}
 use Rattle.backup_make.specs.Online.{online_of}
-use Rattle.backup_make.specs.Staged.{closed_draft, closed_ends, closed_online}
+use Rattle.backup_make.specs.Staged.{closed_draft, closed_ends, closed_online, fetched_draft}
 use Rattle.server_talk.specs.declared.backups.begun.Begun.{Begun}
 use Rattle.server_talk.specs.Telling.{starting, stopping}
 use Rattle.cmd_types.specs.declared.stages.halt.Halt.{Halt}
@@ -69,6 +70,10 @@ abbrev pub GathersOn : {L S T D : Type 0} → ServerTask → (L → LinkState) �
 GathersOn task of pool folder tree state before after =
     IsGathered task.basis.stanza.now task.basis.order (folder tree).nodes (backup_info_of task.next.list)
     (basis_files task.basis) (links_in of pool) pool.lost.items (state before).view (state after).view
+
+-- its draft begins in this second
+abbrev pub BeginsAt : ℕ → Gathered → Type 0
+BeginsAt second g = (fetched_draft g.fetched).start ≡ second
 
 -- no more than some of it does
 abbrev pub GivesUpOn : {T D : Type 0} → ServerTask → (T → DataFolderState) → T → (D → DiskState) → D → D → Type 0
@@ -129,6 +134,10 @@ abbrev pub PublishesWith : String Global → Closed → DiskState → DiskState 
     → Type 0
 PublishesWith lines c old new result =
     Publishes (string_bytes lines) (closed_draft c) (closed_online c) (closed_ends c) old.view new.view result
+
+-- it was published with the second in which it was closed
+abbrev pub PublishesClosed : Closed → DiskState → DiskState → Type 0
+PublishesClosed c old new = PublishesAt c (Ok tt) old new
 
 -- both members of the backup pair are alike
 abbrev pub PublishesAlike : Closed → DiskState → DiskState → Type 0

@@ -38,12 +38,15 @@ MarksTask task result others first last repo spool old new =
     repo.view (spool old).view (spool new).view
 
 -- a backup more is made, of what the folder of the running server showed and of what the server reported
-abbrev pub TakesTask : {L S V A D : Type 0} → OnlineTask → (L → LinkState) → Pool L S → DataFolderState
-    → (V → ConnectionState) → V → V → (A → ProcessesState) → A → A → (D → DiskState) → D → D → Outcome → Type 0
-TakesTask task of pool tree connection server new_server others first last state before after outcome =
+abbrev pub TakesTask : {L S V A D C : Type 0} → OnlineTask → (L → LinkState) → Pool L S → DataFolderState
+    → (V → ConnectionState) → V → V → (A → ProcessesState) → A → A → (D → DiskState) → D → D
+    → (C → ClockState) → C → C → Outcome → Type 0
+TakesTask task of pool tree connection server new_server others one other state before after clock first last
+    outcome =
     OnFinished outcome (BacksUpOnline task.stanza.name.now task.stanza.control.now task.order.later tree.nodes
     (received_task task (connection server) (connection new_server)) (used_in task.order.later.take of pool)
-    (others first).account (others last).account (state before).view.now (state after).view.now)
+    (others one).account (others other).account (state before).view.now (state after).view.now
+    (clock first) (clock last))
 
 -- what there is before it, what the server reported and what there is at its end
 abbrev pub asked_task : {L S : Type 0} → OnlineTask → (L → LinkState) → Pool L S → ProcessesState → ProcessesState

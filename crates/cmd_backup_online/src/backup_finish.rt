@@ -3,14 +3,15 @@ ghost use Rattle.std.specs.Prelude.{◌≡◌, ◌≤◌, Some, IfOk, IfErr, IfS
 ghost use Rattle.base_devices.specs.States.{CallsProperly};
 ghost use Rattle.base_model.specs.InfoFiles.{IsLabel};
 ghost use Rattle.base_model.specs.ManifestText.{IsWalPart};
-ghost use Rattle.backup_make.specs.Closing.{StagesLabel};
+ghost use Rattle.backup_make.specs.Closing.{StagesLabel, StopsShown};
 ghost use Rattle.backup_make.specs.Draft.{IsFree};
 ghost use Rattle.backup_make.specs.Made.{LeavesList};
 ghost use Rattle.backup_make.specs.Online.{IsOnline, online_of};
 ghost use Rattle.backup_make.specs.Staged.{IsClosed, IsClosedOf, IsFetched, closed_draft, fetched_draft};
+ghost use Rattle.backup_make.specs.Touched.{TouchesBackup};
 ghost use Rattle.archive_wait.specs.Stored.{HoldsPart};
 ghost use Rattle.cmd_backup_online.specs.Halting.{EndHalts, PublishHalts, WaitHalts};
-ghost use Rattle.cmd_backup_online.specs.Running.{KeepsBeside, PublishesAlike, PublishesWith, TurnsWithin, WentOn};
+ghost use Rattle.cmd_backup_online.specs.Running.{KeepsBeside, PublishesAlike, PublishesClosed, PublishesWith, TurnsWithin, WentOn};
 
 use crate::fault::{OnlineBackupFault, of_backup, of_wait};
 use archive_lookup::OtherProcesses;
@@ -38,8 +39,10 @@ pub(crate) fn end_backup<'a, D: Disk, C: Clock>(
     requires label { IsLabel label.now }
     ensures closed { IfOk result IsClosed }
     ensures of { IfOk result (IsClosedOf fetched.entry (Some (online_of online))) }
+    ensures shows { IfOk result (StopsShown (C.state clock.old) (C.state clock.new)) }
     ensures staged { OnOk result (StagesLabel fetched.entry (online_of online) (D.state repo.old) (D.state repo.new)) }
     ensures unlisted { LeavesList (fetched_draft fetched.entry) (D.state repo.old).view (D.state repo.new).view }
+    ensures only { TouchesBackup (fetched_draft fetched.entry) (D.state repo.old) (D.state repo.new) }
     ensures beside { KeepsBeside (fetched_draft fetched.entry).stanza.now (D.state repo.old) (D.state repo.new) }
     ensures frame { CallsProperly (D.state repo.old) (D.state repo.new) }
     ensures least { (C.state clock.old).least ≤ (C.state clock.new).least }
@@ -101,7 +104,9 @@ pub(crate) fn conclude<D: Disk>(
     requires label { IsLabel label.now }
     requires label_is { label.now ≡ (closed_draft closed).label }
     ensures publishes { PublishesWith lines closed.entry (D.state repo.old) (D.state repo.new) result }
+    ensures stops { OnOk result (PublishesClosed closed.entry (D.state repo.old) (D.state repo.new)) }
     ensures alike { OnOk result (PublishesAlike closed.entry (D.state repo.old) (D.state repo.new)) }
+    ensures only { TouchesBackup (closed_draft closed.entry) (D.state repo.old) (D.state repo.new) }
     ensures beside { KeepsBeside (closed_draft closed.entry).stanza.now (D.state repo.old) (D.state repo.new) }
     ensures frame { CallsProperly (D.state repo.old) (D.state repo.new) }
     ensures cause { IfErr result (PublishHalts closed.entry (D.state repo.old) (D.state repo.new)) }

@@ -27,6 +27,7 @@
 //!   of the backup pair are alike.
 //! - At Ok the backup is based on the one of them that its kind asks for, and is a full one without one; the lines
 //!   state its label, and that it became full.
+//! - At Ok it began in the second of its label. The clock showed that second and the one in which it stopped.
 //! - At Ok the disk has its manifest, where it was known. Except for the label file, an entry refers to another backup
 //!   exactly where the prior's manifest has its file with the listed size and, without delta, the listed time. With
 //!   delta it does where a link reported the digest that this manifest has. So the control file is always stored. Each
@@ -34,8 +35,12 @@
 //! - At Ok each file of the listing that a backup takes has an entry in that manifest, or a link reported that the file
 //!   is absent. The manifest's folders are those of the listing that a backup takes. What is listed of the backup,
 //!   besides the backups that it refers to, is what the manifest states, or follows from it, as its sizes.
+//! - At Ok each listed file whose bytes are the backup's own lies as the order's settings lay the files out
+//!   (`IsLaidBy`), as in a stopped server's backup.
 //! - At Ok the server was sent one talk, whose last message is the end. Where a talk began and the backup is refused,
 //!   the last that was sent is the end, unless the connection failed or memory ran out.
+//! - Whatever the repository holds, it changes nothing but names in the folder of its label, the backup pair, and what
+//!   others change in the archive, where their steps are known. Its label states a later second than each that was listed.
 //! - It waits for this many steps at most, keeps to its stanza, only reads the data folder, and the least second that
 //!   the clock may show doesn't fall. Each refusal has its cause in what was there before, in what the server reported,
 //!   and, where a segment isn't archived, in what the repository holds; each object that failed counted it.

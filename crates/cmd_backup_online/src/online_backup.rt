@@ -8,6 +8,7 @@ ghost use Rattle.cmd_setup.specs.Readies.{IsArchiveOf, IsBackupOf};
 ghost use Rattle.cmd_backup_online.specs.Halting.{OnlineHalts};
 ghost use Rattle.cmd_backup_online.specs.Running.{StaysIn, LeavesServer, SendsTalk, TurnsWithin};
 ghost use Rattle.cmd_backup_online.specs.Tasks.{DoesTask, MarksTask, TakesTask};
+ghost use Rattle.cmd_backup_online.specs.Touching.{TouchesIn};
 
 use crate::backup_finish::{NeededLog, conclude, end_backup, wait};
 use crate::fault::{OnlineBackupFault, of_offline};
@@ -61,7 +62,12 @@ pub fn back_up_online<
     ensures marks { MarksTask task.entry result A.state processes.old processes.new
         (D.state repo.old) S.state spool.old spool.new }
     ensures taken { IfOk result (TakesTask task.entry L.link_state pool.old (T.state tree.old)
-        V.state server.old server.new A.state processes.old processes.new D.state repo.old repo.new) }
+        V.state server.old server.new A.state processes.old processes.new D.state repo.old repo.new
+        C.state clock.old clock.new) }
+
+    // Whatever the repository holds, nothing changes but names of this backup, the pair of the list, and what others
+    // change in the archive, where their steps are known.
+    ensures only { TouchesIn task.entry.stanza.name.now (A.state processes.new) D.state repo.old repo.new }
     ensures beside { StaysIn task.entry.stanza.name.now (A.state processes.new) D.state repo.old repo.new }
     ensures spool_beside { StaysIn task.entry.stanza.name.now (A.state processes.new) S.state spool.old spool.new }
 

@@ -1,6 +1,6 @@
 // What comes before the server is asked.
 ghost use Rattle.std.specs.Prelude.{◌≡◌, ◌≤◌, ◌<◌, ◌^◌, length, vec_len, IfOk, IfErr, OnOk};
-ghost use Rattle.base_devices.specs.States.{OnlyReads};
+ghost use Rattle.base_devices.specs.States.{OnlyReads, ShowsSecond};
 ghost use Rattle.base_model.specs.InfoFiles.{IsArchiveInfo, IsBackupInfo};
 ghost use Rattle.base_model.specs.Values.{archive_info_of, backup_info_of};
 ghost use Rattle.repo_stanza.specs.Judging.{IsOf};
@@ -84,6 +84,7 @@ pub(crate) fn prepare<D: Disk, C: Clock, L: Link, U>(
     ensures room { IfOk result (λ p. length (backup_info_of p.next.list).backups < most_backups) }
     ensures base { IfOk result (PreparesBase order.now stanza.entry (D.state repo.old)) }
     ensures next { IfOk result (λ p. IsNext p.next.second (backup_info_of p.next.list)) }
+    ensures shows { IfOk result (λ p. ShowsSecond p.next.second (C.state clock.old) (C.state clock.new)) }
     ensures left { OnOk result (LeavesUsed order.now.take L.link_state pool.old pool.new) }
     ensures few { OnOk result (vec_len pool.new.links < 2 ^ 32) }
     ensures ready { OnOk result (AreReady (links_in L.link_state pool.new)) }

@@ -9,7 +9,8 @@ ghost use Rattle.base_crash_lists.specs.Beside.{StaysBeside};
 ghost use Rattle.cmd_backup_common.specs.Seconds.{IsNext};
 ghost use Rattle.cmd_backup_offline.specs.Basis.{MayBeBasis};
 ghost use Rattle.cmd_backup_online.specs.Halting.{GatherHalts};
-ghost use Rattle.cmd_backup_online.specs.Running.{GathersOn, GivesUpOn};
+ghost use Rattle.cmd_backup_online.specs.Running.{BeginsAt, GathersOn, GivesUpOn};
+ghost use Rattle.cmd_backup_online.specs.Touching.{TouchesNext};
 
 use crate::listing::list_folder;
 use crate::order::ServerTask;
@@ -52,7 +53,9 @@ pub(crate) fn gather<'a, D: Disk, T: DataFolder, C: Clock, L: Link, U: Scheduler
     requires ready { AreReady (links_in L.link_state pool.old) }
     ensures gathered { IfOk result (GathersOn task.entry L.link_state pool.old T.state tree.old
         D.state repo.old repo.new) }
+    ensures begins { IfOk result (BeginsAt task.entry.next.second) }
     ensures unlisted { OnErr result (GivesUpOn task.entry T.state tree.old D.state repo.old repo.new) }
+    ensures only { TouchesNext task.entry D.state repo.old repo.new }
     ensures beside { StaysBeside task.entry.basis.stanza.now (D.state repo.old).view (D.state repo.new).view }
     ensures frame { CallsProperly (D.state repo.old) (D.state repo.new) }
     ensures looks { OnlyReadsFolder (T.state tree.old) (T.state tree.new) }

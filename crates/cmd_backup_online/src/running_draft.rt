@@ -11,6 +11,7 @@ ghost use Rattle.backup_make.specs.Draft.{IsDraft, IsFree, jobs_in};
 ghost use Rattle.backup_make.specs.Made.{LeavesList};
 ghost use Rattle.backup_make.specs.Staged.{IsFetched, fetched_draft};
 ghost use Rattle.backup_make.specs.Storing.{FetchingFails, StagesDraft};
+ghost use Rattle.backup_make.specs.Touched.{TouchesBackup};
 ghost use Rattle.cmd_backup_common.specs.Seconds.{IsNext};
 ghost use Rattle.cmd_backup_offline.specs.Basis.{AreLinesOf, MayBeBasis};
 ghost use Rattle.cmd_backup_offline.specs.Drafting.{IsPlannedBy};
@@ -104,6 +105,7 @@ pub(crate) fn fetch_running<'a, D: Disk, L: Link, U: Scheduler>(
     ensures fetched { IfOk result IsFetched }
     ensures staged { IfOk result (StagesDraft draft.entry.draft L.link_state pool.old (D.state d.new)) }
     ensures unlisted { LeavesList draft.entry.draft (D.state d.old).view (D.state d.new).view }
+    ensures only { TouchesBackup draft.entry.draft (D.state d.old) (D.state d.new) }
     ensures beside { StaysBeside draft.entry.draft.stanza.now (D.state d.old).view (D.state d.new).view }
     ensures frame { CallsProperly (D.state d.old) (D.state d.new) }
     ensures left { OnOk result (LeavesLinksAfter (jobs_in draft.entry.draft) L.link_state pool.old pool.new) }

@@ -13,7 +13,8 @@ ghost use Rattle.cmd_types.specs.declared.stages.halt.Halt.TheVariants.{NoMemory
 ghost use Rattle.cmd_backup_offline.specs.Basis.{MayBeBasis};
 ghost use Rattle.cmd_backup_online.specs.Faults.{of_backup};
 ghost use Rattle.cmd_backup_online.specs.Halting.{StopHalts, TalkHalts};
-ghost use Rattle.cmd_backup_online.specs.Running.{GivesUpOn, LeavesTalk, ReportsBoth, SendsStop, SendsTalk, StopsBetween, TalkGathers};
+ghost use Rattle.cmd_backup_online.specs.Running.{BeginsAt, GivesUpOn, LeavesTalk, ReportsBoth, SendsStop, SendsTalk, StopsBetween, TalkGathers};
+ghost use Rattle.cmd_backup_online.specs.Touching.{TouchesNext};
 
 use crate::fault::{OnlineBackupFault, of_backup, of_talk};
 use crate::online_read::{Gathered, gather};
@@ -107,12 +108,14 @@ pub(crate) fn talk<
     requires ready { AreReady (links_in L.link_state pool.old) }
     ensures gathered { IfOk result (TalkGathers task.entry L.link_state pool.old T.state tree.old
         D.state repo.old repo.new) }
+    ensures begins { IfOk result (λ p. BeginsAt task.entry.next.second p.0) }
     ensures online { IfOk result (λ p. IsOnline (online_of p.1)) }
     ensures known { IfOk result (λ p. ReportsBoth task.entry.system (V.state server.old) (V.state server.new) p.1) }
     ensures sent { OnOk result (SendsTalk task.entry.order (V.state server.old) (V.state server.new)) }
     ensures place { OnOk result ((V.state server.new).place ≡ task.entry.order.socket.now) }
     ensures ended { IfErr result (LeavesTalk (V.state server.old) (V.state server.new)) }
     ensures unlisted { OnErr result (GivesUpOn task.entry T.state tree.old D.state repo.old repo.new) }
+    ensures only { TouchesNext task.entry D.state repo.old repo.new }
     ensures beside { StaysBeside task.entry.basis.stanza.now (D.state repo.old).view (D.state repo.new).view }
     ensures frame { CallsProperly (D.state repo.old) (D.state repo.new) }
     ensures looks { OnlyReadsFolder (T.state tree.old) (T.state tree.new) }

@@ -9,7 +9,7 @@ use Rattle.archive_store.specs.Still.{IsStill, still_self}
 use Rattle.expire_rules.specs.declared.rules.Rules.{Rules}
 use Rattle.expire_make.specs.Expiry.{IsTouchedBy}
 use Rattle.expire_make.specs.Losing.{MayExpire}
-use Rattle.expire_make.proofs.Touching.{touches_still, touches_on}
+use Rattle.expire_make.proofs.Touching.{touches_now, touches_still, touches_on}
 use Rattle.cmd_expire.specs.Changing.{ChangesBoth, Expires, Frame, ThenExpires}
 use Rattle.cmd_expire.proofs.Moments.{some_moment, moment_from}
 
@@ -60,6 +60,7 @@ module _ (stanza : Text) (least : ℕ) (Outside : Frame) (laws : IsFrame Outside
     may_be = h.may_be;
     listed = λ f archive list is has. joined (IsTouchedBy stanza rules h.moment archive list) (h.touches.listed f archive list is has);
     unlisted = λ f is no. laws.on these a b c first (laws.of these b c (only_rests these b c (h.touches.unlisted f is no).time (h.touches.unlisted f is no).now));
+    expired = touches_now stanza rules h.moment b c h.touches;
   }
     where
       joined : (those : Name → Type 0) → ChangesOnly those b c → Outside (λ n. these n ⊎ those n) a c
@@ -82,6 +83,7 @@ module _ (stanza : Text) (least : ℕ) (Outside : Frame) (laws : IsFrame Outside
     may_be = h.may_be;
     listed = λ f archive list is has. after (λ n. these n ⊎ IsTouchedBy stanza rules h.moment archive list n) (h.listed f archive list is has);
     unlisted = λ f is no. after these (h.unlisted f is no);
+    expired = h.expired;
   }
     where
       after : (those : Name → Type 0) → Outside those b c → Outside those a c

@@ -1,22 +1,19 @@
 -- A backup with an expiry after it is one command of the log.
 use Rattle.std.proofs.Common.{◌≡◌, List, [], ◌∷◌, ◌++◌, Some, None, refl, ap, ◌∙◌, sym, subst, append_assoc, Bool, true, false}
-use Rattle.std.specs.Prelude.{Option, IsSome}
-use Rattle.std.proofs.lemmas.List.{append-nil}
+use Rattle.std.specs.Prelude.{IsSome}
 use Rattle.base_devices.specs.Content.{Content}
 use Rattle.base_devices.specs.Moments.{View}
 use Rattle.base_model.specs.Text.{Text}
 use Rattle.base_model.specs.Repository.{Backup, Stanza, Repository, IsSound}
 use Rattle.base_model.specs.Represents.{Represents}
 use Rattle.base_model.specs.Steps.{Step, Move, One, Turn, Retention, Command, MakeBackup, Expire, AddBackup, IsPartOf, after, after_all, all_of, changed, expiry_moves, turn_moves, steps_of}
-use Rattle.base_model.specs.Log.{Done, IsDone, Leads, Reaches, KeepsSpool}
+use Rattle.base_model.specs.Log.{Done, IsDone, Leads, Reaches}
 use Rattle.base_model.specs.Now.{NowRepresents, NowEffect}
 use Rattle.base_model.specs.Steady.{IsSteady}
-use Rattle.base_model.proofs.Done.{part_none}
 use Rattle.base_model.proofs.PushDone.{after_some}
 use Rattle.base_model.proofs.Waited.{all_following, part_prefix, part_following, after_following, all_after}
 use Rattle.cmd_types.specs.declared.stages.plan.SyncScope.TheVariants.{Whole}
-use Rattle.cmd_types.specs.DisksEffect.{Reached, to_end, turned_back, stopped, OnAll, IsPart, DoesPart, DoesWhole, RunsPart, RunsWhole, DisksEffect, SpoolEffect, turns_of}
-use Rattle.cmd_types.proofs.Lifted.{none_as}
+use Rattle.cmd_types.specs.DisksEffect.{Reached, to_end, turned_back, stopped, OnAll, IsPart, DoesPart, DoesWhole, RunsPart, DisksEffect, SpoolEffect}
 use Rattle.expire_make.proofs.Receipts.{expiry_spool}
 use Rattle.expire_make.proofs.Ways.{moves_on, moves_as}
 use Rattle.cmd_expire.specs.FollowUp.{StaysSound}

@@ -1,5 +1,5 @@
 -- By which moment the rules may be read.
-use Rattle.std.proofs.Common.{◌≡◌, inl, inr, ℕ, zero, refl, arith}
+use Rattle.std.proofs.Common.{inl, inr, ℕ, zero, refl, arith}
 use Rattle.std.specs.Prelude.{◌≤◌}
 use Rattle.base_devices.specs.States.{ClockState}
 use Rattle.expire_rules.specs.declared.rules.FullRule.{FullRule}

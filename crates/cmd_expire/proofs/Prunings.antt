@@ -1,19 +1,14 @@
 -- The list of expire, what it does where it is refused or the clock fails, and what it is in the log.
-use Rattle.std.proofs.Common.{◌≡◌, inl, Bool, true, false, Option, Some, None, refl}
-use Rattle.std.specs.Prelude.{IfOk, IfSome, IsErrAnd, OnOk, Result, Ok, Err}
-use Rattle.base_devices.specs.Content.{Content}
+use Rattle.std.proofs.Common.{◌≡◌, inl, Bool, true, false, refl}
+use Rattle.std.specs.Prelude.{IfOk, IsErrAnd, OnOk, Result, Ok, Err}
 use Rattle.base_devices.specs.Moments.{View}
 use Rattle.base_devices.specs.States.{ClockState}
-use Rattle.base_model.specs.declared.clusters.ArchiveInfo as rust_archive_info
-use Rattle.base_model.specs.declared.clusters.BackupInfo as rust_backup_info
 use Rattle.base_model.specs.Steps.{Expire}
 use Rattle.base_model.specs.Text.{Text}
-use Rattle.base_model.specs.Values.{ArchiveInfo, BackupInfo, archive_info_of, backup_info_of}
-use Rattle.repo_stanza.specs.Judging.{Validates}
 use Rattle.archive_store.specs.Still.{rests_none, still_self}
 use Rattle.expire_rules.specs.declared.rules.Rules.{Rules}
 use Rattle.expire_make.specs.Expiry.{retention}
-use Rattle.expire_make.specs.Planning.{BackupPairLasts, HasList}
+use Rattle.expire_make.specs.Planning.{BackupPairLasts}
 use Rattle.expire_make.proofs.Touching.{touches_none}
 use Rattle.expire_make.proofs.Whole.{keeps_needed}
 use Rattle.cmd_types.specs.declared.stages.halt.Halt.{Halt}
@@ -23,20 +18,12 @@ use Rattle.cmd_types.specs.declared.stages.plan.SyncScope.TheVariants.{Whole}
 use Rattle.cmd_types.specs.Reached.{OnFinished, reached_by, back_if, fails_early}
 use Rattle.cmd_types.specs.DisksEffect.{to_end, turned_back, stopped, On, one, RepoEffect}
 use Rattle.cmd_types.proofs.Doing.{rests_part, rests_does}
-use Rattle.cmd_setup.specs.Readies.{IsArchiveOf, IsBackupOf}
 use Rattle.cmd_expire.specs.declared.fault.FollowUpFault.{FollowUpFault}
 use Rattle.cmd_expire.specs.declared.fault.ExpireCommandFault.{ExpireCommandFault}
 use Rattle.cmd_expire.specs.FollowUp.{Follows}
 use Rattle.cmd_expire.specs.Faults.{expire_early}
 use Rattle.cmd_expire.specs.Pruning.{ShowsMoment, IsExpiryBy, IsExpired, Prunes}
 use Rattle.cmd_expire.proofs.Moments.{some_moment}
-
--- the values that were read validate to this list
-pub has_list : (stanza : Text) (now : Option Content) (archive : rust_archive_info.ArchiveInfo) (backup list : rust_backup_info.BackupInfo)
-    → IsArchiveOf stanza now archive → IsBackupOf stanza now backup → Validates (archive_info_of archive) (backup_info_of backup) (backup_info_of list)
-    → IfSome now (λ f. HasList stanza f (archive_info_of archive) (backup_info_of list))
-has_list stanza None archive backup list a b settles = tt
-has_list stanza (Some f) archive backup list a b settles = record { backup = backup_info_of backup; pairs = record { archive = a.0; backup = b.0 }; settles = settles }
 
 -- ---- where nothing was done
 

@@ -8,7 +8,7 @@ use Rattle.base_model.specs.Values.{ArchiveInfo, BackupInfo}
 use Rattle.expire_rules.specs.declared.rules.Rules.{Rules}
 use Rattle.expire_make.specs.Expiry.{IsTouchedBy, Touches, TouchesNow}
 use Rattle.expire_make.specs.Losing.{MayExpire}
-use Rattle.expire_make.specs.Planning.{HasList}
+use Rattle.repo_stanza.specs.Judging.{HasList}
 use Rattle.cmd_expire.specs.Pruning.{IsMoment, IsMomentIn}
 
 -- What an expiry by these rules may change, after every answer and at each moment; least is the least second that the
@@ -52,6 +52,8 @@ pub record ChangesBoth (stanza : Text) (rules : Rules) (least : ℕ) (Outside : 
       → Outside (λ n. these n ⊎ IsTouchedBy stanza rules moment archive list n) old new
   pub unlisted : (f : Content) → between ≡ Some f
       → ((archive : ArchiveInfo) (list : BackupInfo) → ¬ HasList stanza f archive list) → Outside these old new
+  -- of what the disk held then the expiry has changed no more than it may, also of what the command may change
+  pub expired : TouchesNow stanza rules moment between new.now
 
 -- the same, where there are rules
 abbrev pub ThenExpires : Option Rules → Text → ℕ → Frame → (Name → Type 0) → View → View → Type 0

@@ -41,6 +41,8 @@ use Rattle.cmd_backup_offline.specs.Causes.{OfflineCause}
 use Rattle.expire_make.specs.declared.fault.ExpireFault.{ExpireFault}
 use Rattle.expire_make.specs.declared.fault.ExpireFault.TheVariants as expiries
 use Rattle.expire_make.specs.Fault.{IsFinding, ExpireCause}
+use Rattle.restore_choice.specs.declared.choice.Choice.TheVariants.{Last}
+use Rattle.restore_choice.specs.Choosing.{unbounded}
 use Rattle.cmd_restore.specs.declared.fault.RestoreCommandFault.{RestoreCommandFault}
 use Rattle.cmd_restore.specs.Causes.{RestoreCommandCause}
 use Rattle.cmd_restore.specs.Restoring.{Before as BeforeRestore}
@@ -141,8 +143,8 @@ expire_fails stanza now rose expiries.NoMemory h = tt
 
 -- ---- the last backup, and its restore
 
-pub recover_fails : (stanza : Text) (b : BeforeRestore) (now : Option Content) (F : Object → Type 0) → b.stanza ≡ stanza → b.set ≡ None → b.repo ≡ now → (h : Halt RestoreCommandFault) → HaltCause (RestoreCommandCause b) F h → HaltCause (StepCause stanza now) F (of_restore h)
-recover_fails stanza b now F is set repo (Refused e) h = record { before = b; stanza_is = is; set_is = set; repo_is = repo; cause = h }
+pub recover_fails : (stanza : Text) (b : BeforeRestore) (now : Option Content) (F : Object → Type 0) → b.stanza ≡ stanza → b.choice ≡ Last unbounded → b.repo ≡ now → (h : Halt RestoreCommandFault) → HaltCause (RestoreCommandCause b) F h → HaltCause (StepCause stanza now) F (of_restore h)
+recover_fails stanza b now F is set repo (Refused e) h = record { before = b; stanza_is = is; choice_is = set; repo_is = repo; cause = h }
 recover_fails stanza b now F is set repo (Failed object) h = h
 recover_fails stanza b now F is set repo NoMemory h = tt
 

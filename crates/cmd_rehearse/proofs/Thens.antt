@@ -6,7 +6,7 @@ use Rattle.base_devices.specs.Moments.{View}
 use Rattle.base_model.specs.Text.{Text}
 use Rattle.base_model.specs.Repository.{Repository, IsSound}
 use Rattle.base_model.specs.Represents.{Represents}
-use Rattle.base_model.specs.Steps.{Step, Command, StanzaCreate, ArchivePush, ArchivePushAsync, ArchivePushDrain, MakeBackup, Expire, Then, Reading, IsPartOf, after, all_of, steps_of}
+use Rattle.base_model.specs.Steps.{Step, Command, StanzaCreate, StanzaUpgrade, ArchivePush, ArchivePushAsync, ArchivePushDrain, MakeBackup, Expire, Then, Reading, IsPartOf, after, all_of, steps_of}
 use Rattle.base_model.specs.Log.{IsDone}
 use Rattle.base_model.specs.Now.{NowRepresents, NowEffect, BeginsFrom}
 use Rattle.base_model.specs.Steady.{IsSteady}
@@ -19,6 +19,7 @@ use Rattle.cmd_rehearse.specs.Advancing.{StaysSound}
 -- each command begins from a sound repository
 pub begins_sound : (command : Command) (r : Repository) → IsSound r → BeginsFrom command r
 begins_sound (StanzaCreate c) r sound = tt
+begins_sound (StanzaUpgrade c) r sound = tt
 begins_sound (ArchivePush n) r sound = tt
 begins_sound (ArchivePushAsync turns) r sound = tt
 begins_sound (ArchivePushDrain ns) r sound = tt

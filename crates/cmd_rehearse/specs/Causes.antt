@@ -32,6 +32,8 @@ use Rattle.cmd_backup_offline.specs.declared.order.OfflineOrder.{OfflineOrder}
 use Rattle.cmd_backup_offline.specs.Basing.{base_label, BaseCause}
 use Rattle.cmd_backup_offline.specs.Causes.{OfflineCause}
 use Rattle.expire_make.specs.Fault.{IsFinding}
+use Rattle.restore_choice.specs.declared.choice.Choice.TheVariants.{Last}
+use Rattle.restore_choice.specs.Choosing.{unbounded}
 use Rattle.cmd_restore.specs.declared.fault.RestoreCommandFault.{RestoreCommandFault}
 use Rattle.cmd_restore.specs.Causes.{RestoreCommandCause}
 use Rattle.cmd_restore.specs.Restoring.{Before as BeforeRestore}
@@ -88,7 +90,7 @@ pub record IsRefusedBackup (stanza : Text) (now : Option Content) (fault : Offli
 pub record IsRefusedRestore (stanza : Text) (now : Option Content) (fault : RestoreCommandFault) : Type 0 where
   pub before : BeforeRestore
   pub stanza_is : before.stanza ≡ stanza
-  pub set_is : before.set ≡ None
+  pub choice_is : before.choice ≡ Last unbounded
   pub repo_is : before.repo ≡ now
   pub cause : RestoreCommandCause before fault
 

@@ -10,6 +10,8 @@ use Rattle.archive_lookup.specs.declared.stored.files.Stored.{Stored}
 use Rattle.archive_lookup.specs.Stored.{AreStored}
 use Rattle.expire_rules.specs.Condemned.{condemned_labels}
 use Rattle.expire_make.specs.Expiry.{listed}
+use Rattle.restore_choice.specs.declared.choice.Choice.TheVariants.{Last}
+use Rattle.restore_choice.specs.Choosing.{unbounded}
 use Rattle.cmd_restore.specs.Restoring.{Before, Recovers}
 use Rattle.cmd_verify.specs.Verifying.{IsVerified, EndsWithNone}
 use Rattle.cmd_types.specs.declared.stages.halt.Halt.{Halt}
@@ -70,7 +72,7 @@ IsKnownBehind lines found other = ⊥
 pub record IsRestoredLast (stanza : Text) (repo : Option Content) (nodes : Option Nodes) : Type 0 where
   pub before : Before
   pub stanza_is : before.stanza ≡ stanza
-  pub set_is : before.set ≡ None
+  pub choice_is : before.choice ≡ Last unbounded
   pub repo_is : before.repo ≡ repo
   pub lines : Text
   pub recovers : Recovers before nodes lines

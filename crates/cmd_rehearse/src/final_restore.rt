@@ -1,7 +1,7 @@
 // Restores the last backup over a damaged data folder, and verifies the repository.
 ghost use Rattle.std.specs.Prelude.{◌≡◌, true, IfOk, IfErr, OnOk};
 ghost use Rattle.base_devices.specs.States.{OnlyReads};
-ghost use Rattle.options_table.specs.Values.{is_stanza};
+ghost use Rattle.base_model.specs.StanzaName.{is_stanza};
 ghost use Rattle.worker_pool.specs.Pools.{links_in};
 ghost use Rattle.worker_pool.specs.Run.{AreReady};
 ghost use Rattle.cmd_verify.specs.Verifying.{IsVerified, EndsWithNone};
@@ -17,12 +17,14 @@ use crate::backup_totals::{Amount, Counted, count_last};
 use crate::fault::{StepFault, of_all, of_examine, of_restore};
 use crate::links::deal_links;
 use crate::order::RehearseOrder;
+use crate::stanza_setup::read_archive;
 use archive_lookup::all;
 use base_devices::{DataFolder, Disk, Link, Scheduler};
 use base_sample::spoil_cluster;
 use cmd_restore::{RecoverOrder, RecoveryType, restore_backup};
 use cmd_types::{Halt, Object, Outcome, halted};
 use cmd_verify::verify_stanza;
+use restore_choice::{Bounds, Choice};
 use std::alloc::Global;
 use worker_pool::Pool;
 
@@ -33,6 +35,12 @@ pub(crate) struct RehearsalEnd {
     pub restored: Amount,
     pub found: Outcome,
 }
+
+// The last backup, whichever that is.
+const ANY: Bounds = Bounds {
+    deadline: None,
+    timeline: None,
+};
 
 // Restores the last backup by its digests, by links of its own: the others aren't needed any more. No recovery is asked
 // for.
@@ -50,17 +58,28 @@ fn restore_last<D: Disk, T: DataFolder, L: Link, U: Scheduler>(
     ensures folder { StaysOpen (T.state tree.old) (T.state tree.new) }
     ensures cause { IfErr result (EndHalt D.state T.state order.now repo.old repo.new tree.old tree.new) }
 {
+    let archive = read_archive(alloc, repo, order.stanza)?;
     let backup = read_backup(alloc, repo, order.stanza)?;
     let _others = deal_links(alloc, pool, order.take.workers)?;
     let recover = RecoverOrder {
         data_folder: order.take.data_folder,
         repository: order.take.repository,
-        set: None,
+        choice: Choice::Last(ANY),
         workers: order.take.workers,
         delta: true,
         recovery: RecoveryType::Nothing,
     };
-    match restore_backup(alloc, repo, tree, pool, order.stanza, &recover, &backup) {
+    let restored = restore_backup(
+        alloc,
+        repo,
+        tree,
+        pool,
+        order.stanza,
+        &recover,
+        &archive,
+        &backup,
+    );
+    match restored {
         Ok(_) => Ok(()),
         Err(halt) => Err(of_restore(halt)),
     }

@@ -1,7 +1,7 @@
 // Rehearses a sample cluster's whole life.
 ghost use Rattle.std.specs.Prelude.{◌≡◌, ◌≤◌, ◌++◌, ◌⊎◌, true, IfOk, IfErr, IfSome, string_bytes};
 ghost use Rattle.base_devices.specs.States.{CallsProperly};
-ghost use Rattle.options_table.specs.Values.{is_stanza};
+ghost use Rattle.base_model.specs.StanzaName.{is_stanza};
 ghost use Rattle.base_sample.specs.Having.{IsEmpty};
 ghost use Rattle.base_crash_lists.specs.Beside.{StaysBeside};
 ghost use Rattle.worker_pool.specs.Run.{AreReady};

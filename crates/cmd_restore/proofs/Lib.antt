@@ -1,8 +1,6 @@
 pub mod Statuses
-mod Halts
 mod Fetch
 mod Listings
 mod Links
-mod Chosen
 mod Causing
 mod Giving

@@ -46,11 +46,11 @@ module _ (path : Text) where
 -- why it isn't open, where a server doesn't run
 pub not_running : (delta : Bool) (seen : List Shown) → ¬ IsListed seen server_path → (e : RestoreCommandFault) → HoldingCause delta seen e → SeenCause delta seen e
 not_running delta seen off faults.SetForm h = absurd h
-not_running delta seen off faults.NoBackup h = absurd h
-not_running delta seen off (faults.SetMissing label) h = absurd h
+not_running delta seen off faults.TargetForm h = absurd h
+not_running delta seen off (faults.Unchosen fault) h = absurd h
 not_running delta seen off faults.Running h = absurd h
 not_running delta seen off (faults.NotEmpty path) h = (off, h)
-not_running delta seen off (faults.ManifestDamaged label main copy) h = absurd h
+not_running delta seen off (faults.ManifestDamaged fault) h = absurd h
 not_running delta seen off (faults.WorkersLost lost) h = absurd h
 not_running delta seen off (faults.Unread path) h = absurd h
 not_running delta seen off (faults.FileDamaged path known found) h = absurd h
@@ -90,15 +90,15 @@ opened delta (Some f) seen listing (inr x) = inr (x.0, there f seen listing vers
 -- why it is refused
 pub seen_cause : (delta : Bool) (nodes : Option Nodes) (seen : List Shown) → IfSome nodes (λ f. IsTreeListing f seen) → (e : RestoreCommandFault) → SeenCause delta seen e → FolderCause delta nodes e
 seen_cause delta nodes seen listing faults.SetForm h = absurd h
-seen_cause delta nodes seen listing faults.NoBackup h = absurd h
-seen_cause delta nodes seen listing (faults.SetMissing label) h = absurd h
+seen_cause delta nodes seen listing faults.TargetForm h = absurd h
+seen_cause delta nodes seen listing (faults.Unchosen fault) h = absurd h
 seen_cause delta None seen listing faults.Running h = tt
 seen_cause delta (Some f) seen listing faults.Running h = there f seen listing server_path h.0 h.1
 seen_cause delta None seen listing (faults.NotEmpty path) h = tt
 seen_cause delta (Some f) seen listing (faults.NotEmpty path) h =
     let first = h.1.0 in
     (not_there f seen listing server_path (λ node i. h.0 (node, i)), first_of f seen listing (string_bytes path) first.0 first.1 first.2, λ on. not_there f seen listing version_path (λ node i. h.1.1 on (node, i)))
-seen_cause delta nodes seen listing (faults.ManifestDamaged label main copy) h = absurd h
+seen_cause delta nodes seen listing (faults.ManifestDamaged fault) h = absurd h
 seen_cause delta nodes seen listing (faults.WorkersLost lost) h = absurd h
 seen_cause delta nodes seen listing (faults.Unread path) h = absurd h
 seen_cause delta nodes seen listing (faults.FileDamaged path known found) h = absurd h

@@ -3,19 +3,22 @@ use Rattle.std.specs.Prelude.{IfSome}
 use Rattle.base_model.specs.declared.labels.Label.{Label}
 use Rattle.base_model.specs.Values.{Manifest}
 use Rattle.cmd_restore.specs.declared.fault.RestoreCommandFault.{RestoreCommandFault}
-use Rattle.cmd_restore.specs.declared.fault.RestoreCommandFault.TheVariants.{SetForm, NoBackup, SetMissing, Running, NotEmpty, ManifestDamaged, WorkersLost, Unread, FileDamaged}
-use Rattle.cmd_restore.specs.Choosing.{OnList, ChooseCause}
+use Rattle.cmd_restore.specs.declared.fault.RestoreCommandFault.TheVariants.{SetForm, TargetForm, Unchosen, Running, NotEmpty, ManifestDamaged, WorkersLost, Unread, FileDamaged}
+use Rattle.restore_choice.specs.declared.fault.ChoiceFault.{ChoiceFault}
+use Rattle.restore_choice.specs.declared.fault.DamagedManifest.{DamagedManifest}
+use Rattle.restore_choice.specs.Choosing.{ChooseCause}
+use Rattle.restore_choice.specs.Loading.{HasManifest, LoadCause}
+use Rattle.cmd_restore.specs.Choosing.{OnList}
 use Rattle.cmd_restore.specs.Filling.{FillCause}
-use Rattle.cmd_restore.specs.Loading.{HasManifest, LoadCause}
 use Rattle.cmd_restore.specs.Looking.{IsOpen, FolderCause}
 use Rattle.cmd_restore.specs.Restoring.{Before, Chooses}
 
--- the repository's list has no backup that can be chosen
-abbrev pub ListCause : Before → RestoreCommandFault → Type 0
-ListCause b fault = IfSome b.repo (λ f. OnList b.stanza f (λ v. ChooseCause b.set v fault))
+-- no backup of the repository's list is chosen
+abbrev pub ListCause : Before → ChoiceFault → Type 0
+ListCause b fault = IfSome b.repo (λ f. OnList b.stanza f (λ v. ChooseCause b.stanza b.choice f v fault))
 
 -- a label is chosen, and the folder may be restored into, but the label's manifest can't be read
-abbrev pub ManifestCause : Before → RestoreCommandFault → Type 0
+abbrev pub ManifestCause : Before → DamagedManifest → Type 0
 ManifestCause b fault =
     (label : Label) × Chooses b label × IfSome b.nodes (IsOpen b.options.delta) × LoadCause b.stanza label b.repo fault
 
@@ -28,11 +31,11 @@ FilesCause b fault =
 -- why a restore is refused
 abbrev pub RestoreCommandCause : Before → RestoreCommandFault → Type 0
 RestoreCommandCause b SetForm = ⊥
-RestoreCommandCause b NoBackup = ListCause b NoBackup
-RestoreCommandCause b (SetMissing label) = ListCause b (SetMissing label)
+RestoreCommandCause b TargetForm = ⊥
+RestoreCommandCause b (Unchosen fault) = ListCause b fault
 RestoreCommandCause b Running = FolderCause b.options.delta b.nodes Running
 RestoreCommandCause b (NotEmpty path) = FolderCause b.options.delta b.nodes (NotEmpty path)
-RestoreCommandCause b (ManifestDamaged label main copy) = ManifestCause b (ManifestDamaged label main copy)
+RestoreCommandCause b (ManifestDamaged fault) = ManifestCause b fault
 RestoreCommandCause b (WorkersLost lost) = FilesCause b (WorkersLost lost)
 RestoreCommandCause b (Unread path) = FilesCause b (Unread path)
 RestoreCommandCause b (FileDamaged path known found) = FilesCause b (FileDamaged path known found)

@@ -23,7 +23,7 @@ use Rattle.cmd_restore.specs.Causes.{RestoreCommandCause}
 abbrev pub before_by : Text → RecoverOrder → DiskState → DataFolderState → List LinkState → Before
 before_by stanza order repo tree links = record {
   stanza = stanza;
-  set = order.set;
+  choice = order.choice;
   repo = repo.view.now;
   nodes = tree.nodes;
   used = take order.workers links;

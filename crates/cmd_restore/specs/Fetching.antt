@@ -1,16 +1,19 @@
 -- How a restored server fetches the log (pgBackRest command reference, "Restore Command", option "type"; PostgreSQL
 -- manual, "restore_command" and "Parameter Names and Values").
-use Rattle.std.specs.Prelude.{ℕ, Bool, ◌==◌, ◌&&◌, ◌||◌, nat_le, [], ◌∷◌, ◌++◌, codes, Option, Some, None, option_map, if◌then◌else◌}
+use Rattle.std.specs.Prelude.{ℕ, Bool, ◌==◌, ◌&&◌, ◌||◌, nat_le, List, [], ◌∷◌, ◌++◌, map, codes, string_bytes, Option, Some, None, option_map, if◌then◌else◌}
 use Rattle.std.specs.List.{list_any}
-use Rattle.base_model.specs.Restored.{Recovery}
-use Rattle.base_model.specs.Restored.Recovery.{ToTheEnd, Nothing}
+use Rattle.restore_make.specs.Recovered.{LogFetch, Recovery}
+use Rattle.restore_make.specs.Recovered.Recovery.{FromArchive as Recovers, Nothing}
 use Rattle.base_model.specs.Text.{Text}
 use Rattle.restore_make.specs.Options.{Options}
+use Rattle.cmd_restore.specs.declared.order.Timeline.{Timeline}
+use Rattle.cmd_restore.specs.declared.order.LogRecovery as rust_recovery
 use Rattle.cmd_restore.specs.declared.order.RecoveryType as rust
 use Rattle.cmd_restore.specs.declared.order.RecoveryType.TheVariants as of_rust
 use Rattle.cmd_restore.specs.declared.order.FetchArguments as rust_arguments
 use Rattle.cmd_restore.specs.declared.order.Configuration as rust_configuration
 use Rattle.cmd_restore.specs.declared.order.Configuration.TheVariants as configurations
+use Rattle.cmd_restore.specs.Targets.{RecoveryEnd, end_of, settings_of, is_standby}
 
 -- which configuration the arguments name: they don't say; none, by `--no-config`; or the one at a path
 pub data Configuration : Type 0 where
@@ -25,9 +28,16 @@ pub record FetchArguments : Type 0 where
   pub pg1_path : Option Text
   pub repo1_path : Option Text
 
--- no recovery; or one to the end of the archive, whose files are fetched by these arguments
+-- a recovery: by which arguments the archive's files are fetched, where it ends, along which timeline, and with which
+-- settings of one's own
+pub record LogRecovery : Type 0 where
+  pub fetch : FetchArguments
+  pub end : RecoveryEnd
+  pub timeline : Option Timeline
+  pub own : List Text
+
 pub data RecoveryType : Type 0 where
-  Default : (arguments : FetchArguments) → RecoveryType
+  FromArchive : LogRecovery → RecoveryType
   Without : RecoveryType
 
 abbrev pub configuration_of : rust_configuration.Configuration → Configuration
@@ -42,9 +52,17 @@ arguments_of a = record {
   repo1_path = option_map (λ p. p.now) a.repo1_path;
 }
 
+abbrev pub log_recovery : rust_recovery.LogRecovery → LogRecovery
+log_recovery r = record {
+  fetch = arguments_of r.fetch;
+  end = end_of r.end;
+  timeline = r.timeline;
+  own = map string_bytes r.own.now;
+}
+
 abbrev pub recovery_type : rust.RecoveryType → RecoveryType
 recovery_type of_rust.Nothing = Without
-recovery_type (of_rust.Default arguments) = Default (arguments_of arguments)
+recovery_type (of_rust.FromArchive recovery) = FromArchive (log_recovery recovery)
 
 -- a byte that a shell takes as it is: a letter, a digit, one of / . _ - %, or one of a longer character
 abbrev pub is_plain : ℕ → Bool
@@ -80,21 +98,30 @@ fetch_text stanza a = codes "pgbackrest" ++ config_text a.config ++ path_text (c
     ++ path_text (codes " --repo1-path=") a.repo1_path ++ codes " --stanza=" ++ stanza
     ++ codes " archive-get %f \"%p\""
 
+-- how the log is fetched by this command, with these settings
+abbrev pub fetched_by : LogRecovery → Text → List Text → LogFetch
+fetched_by r command settings = record { command = command; settings = settings; standby = is_standby r.end }
+
 abbrev pub recovery_by : Text → RecoveryType → Recovery
-recovery_by stanza (Default arguments) = ToTheEnd (fetch_text stanza arguments)
+recovery_by stanza (FromArchive r) =
+    Recovers (fetched_by r (fetch_text stanza r.fetch) (settings_of r.end r.timeline r.own))
 recovery_by stanza Without = Nothing
 
 -- how the backup is to be restored
 abbrev pub options_by : Text → Bool → RecoveryType → Options
 options_by stanza delta recovery = record { delta = delta; recovery = recovery_by stanza recovery }
 
--- ---- the same in two steps
+-- ---- the same in three steps
 
--- the command by which a restored server fetches the log, and what it does first
+-- the command by which a restored server fetches the log, the settings of its recovery, and what it does first
 abbrev pub fetch_of : Text → RecoveryType → Text
-fetch_of stanza (Default arguments) = fetch_text stanza arguments
+fetch_of stanza (FromArchive r) = fetch_text stanza r.fetch
 fetch_of stanza Without = []
 
-abbrev pub recovery_with : RecoveryType → Text → Recovery
-recovery_with (Default arguments) fetch = ToTheEnd fetch
-recovery_with Without fetch = Nothing
+abbrev pub settings_for : RecoveryType → List Text
+settings_for (FromArchive r) = settings_of r.end r.timeline r.own
+settings_for Without = []
+
+abbrev pub recovery_with : RecoveryType → Text → List Text → Recovery
+recovery_with (FromArchive r) fetch settings = Recovers (fetched_by r fetch settings)
+recovery_with Without fetch settings = Nothing

@@ -1,8 +1,8 @@
 pub mod Words
+pub mod Targets
 pub mod Fetching
 pub mod Choosing
 pub mod Looking
-pub mod Loading
 pub mod Filling
 pub mod Ends
 pub mod Texts

@@ -5,22 +5,24 @@ use Rattle.base_devices.specs.Links.{LinkState}
 use Rattle.base_devices.specs.DataFolder.{Nodes}
 use Rattle.base_model.specs.declared.labels.Label.{Label}
 use Rattle.base_model.specs.Repository.{Backup, Stanza}
-use Rattle.base_model.specs.Restored.{IsRestored}
+use Rattle.restore_make.specs.Recovered.{IsRestored}
 use Rattle.base_model.specs.Text.{Text}
 use Rattle.base_model.specs.Values.{Manifest}
 use Rattle.worker_pool.specs.Payloads.{AllRead}
 use Rattle.restore_make.specs.Options.{Options}
 use Rattle.restore_make.specs.Finished.{IsFinished, AreKnown}
-use Rattle.cmd_restore.specs.Choosing.{OnList, IsChosen, IsChosenOf}
-use Rattle.cmd_restore.specs.Loading.{HasManifest}
+use Rattle.restore_choice.specs.declared.choice.Choice.{Choice}
+use Rattle.restore_choice.specs.Choosing.{IsChosen, IsChosenOf}
+use Rattle.restore_choice.specs.Loading.{HasManifest}
+use Rattle.cmd_restore.specs.Choosing.{OnList}
 use Rattle.cmd_restore.specs.Looking.{IsOpen}
 use Rattle.cmd_restore.specs.Texts.{restored_line}
 
--- what comes before: the repository and the data folder, the label that is asked for, the links that are used, and how
+-- what comes before: the repository and the data folder, which backup is chosen, the links that are used, and how
 -- the backup is to be restored
 pub record Before : Type 0 where
   pub stanza : Text
-  pub set : Option Label
+  pub choice : Choice
   pub repo : Option Content
   pub nodes : Option Nodes
   pub used : List LinkState
@@ -28,7 +30,7 @@ pub record Before : Type 0 where
 
 -- the label is chosen from the repository's list
 abbrev pub Chooses : Before → Label → Type 0
-Chooses b label = IfSome b.repo (λ f. OnList b.stanza f (λ v. IsChosen b.set v label))
+Chooses b label = IfSome b.repo (λ f. OnList b.stanza f (λ v. IsChosen b.stanza b.choice f v label))
 
 -- The folder could be restored into, and has now all that a manifest of the chosen label states, as the used links read
 -- it or as delta kept it, with the settings of the recovery, and nothing else. The one line states the label.
@@ -41,11 +43,11 @@ pub record Recovers (b : Before) (now_nodes : Option Nodes) (lines : Text) : Typ
   pub has : IfSome b.repo (HasManifest b.stanza label manifest)
   pub finished : IfSome now_nodes (IsFinished b.stanza b.used b.options manifest b.nodes)
 
--- The folder has now the restored tree of one of the stanza's backups, the one that was asked for or the last, where
--- all used links read the repository f, and with delta the folder's files too. The one line states its label.
+-- The folder has now the restored tree of the chosen one of the stanza's backups, where all used links read the
+-- repository f, and with delta the folder's files too. The one line states its label.
 pub record GivesBackup (s : Stanza) (b : Before) (f : Content) (now_nodes : Option Nodes) (lines : Text) : Type 0 where
   pub backup : Backup
-  pub is : IsChosenOf b.set s.backups backup
+  pub is : IsChosenOf b.choice s backup
   pub line : lines ≡ restored_line backup.entry.label
   pub restored : (tree : Content) → AllRead tree f b.used → AreKnown b.options backup b.nodes tree
       → IfSome now_nodes (IsRestored backup b.options.recovery)

@@ -1,43 +1,30 @@
 // Why a restore is refused.
-ghost use Rattle.std.specs.Prelude.{◌≡◌, IfOk};
-ghost use Rattle.base_model.specs.InfoFiles.{IsLabel};
-ghost use Rattle.cmd_types.specs.Halts.{HaltCause};
-ghost use Rattle.cmd_restore.specs.Choosing.{ShowsMissing};
+ghost use Rattle.std.specs.Prelude.{◌≡◌};
+ghost use Rattle.cmd_restore.specs.Choosing.{of_choice, of_load};
 ghost use Rattle.cmd_restore.specs.Filling.{of_fill};
-ghost use Rattle.cmd_restore.specs.Loading.{IsOtherLabel, ShowsDamage, ShowsForeign, ShowsPair, FailsPair};
 
-use base_model::Label;
 use base_text::Sum;
 use cmd_types::{Halt, Object};
-use repo_info::MemberFault;
-use repo_names::label_text;
-use repo_pair::InfoFault;
+use restore_choice::{ChoiceFault, DamagedManifest};
 use restore_make::FillFault;
-use std::alloc::{AllocError, Global};
 
 /// Why a restore is refused, in the order in which refusals come.
 #[derive(Debug, Drop)]
 pub enum RestoreCommandFault {
     /// The value of the option `set` is no backup's label.
     SetForm,
-    /// The stanza has no backup.
-    NoBackup,
-    /// The stanza has no backup of the label that is asked for.
-    SetMissing {
-        label: String,
-    },
+    /// The value of the option `target` has no form of its type.
+    TargetForm,
+    /// No backup is chosen.
+    Unchosen(ChoiceFault),
     /// The data folder has a server's `postmaster.pid`.
     Running,
     /// The data folder holds something; `path` is the first of it.
     NotEmpty {
         path: String,
     },
-    /// Neither member of the manifest can be read.
-    ManifestDamaged {
-        label: String,
-        main: MemberFault,
-        copy: MemberFault,
-    },
+    /// Neither member of the chosen backup's manifest can be read.
+    ManifestDamaged(DamagedManifest),
     /// All of these workers were lost.
     WorkersLost {
         lost: u32,
@@ -54,74 +41,25 @@ pub enum RestoreCommandFault {
     },
 }
 
-/// The refusal of a label that isn't listed.
-pub(crate) fn missing(alloc: Global, label: &Label) -> Halt<RestoreCommandFault>
-    requires { IsLabel label.now }
-    ensures { HaltCause (ShowsMissing label.now) (λ _. ⊥) result }
+/// Which refusal of a restore it is that no backup is chosen.
+pub(crate) fn of_choice(halt: Halt<ChoiceFault>) -> Halt<RestoreCommandFault>
+    ensures { result ≡ of_choice halt }
 {
-    match label_text(alloc, label) {
-        Ok(label) => Halt::Refused(RestoreCommandFault::SetMissing { label }),
-        Err(_) => Halt::NoMemory,
+    match halt {
+        Halt::Refused(fault) => Halt::Refused(RestoreCommandFault::Unchosen(fault)),
+        Halt::Failed(object) => Halt::Failed(object),
+        Halt::NoMemory => Halt::NoMemory,
     }
 }
 
-// The refusal of a manifest whose members have these faults.
-fn damaged(
-    alloc: Global,
-    label: &Label,
-    main: MemberFault,
-    copy: MemberFault,
-) -> Halt<RestoreCommandFault>
-    requires { IsLabel label.now }
-    ensures { HaltCause (ShowsDamage label.now main copy) (λ _. ⊥) result }
+/// Which refusal of a restore it is that the chosen backup's manifest isn't read.
+pub(crate) fn of_load(halt: Halt<DamagedManifest>) -> Halt<RestoreCommandFault>
+    ensures { result ≡ of_load halt }
 {
-    match label_text(alloc, label) {
-        Ok(label) => Halt::Refused(RestoreCommandFault::ManifestDamaged { label, main, copy }),
-        Err(_) => Halt::NoMemory,
-    }
-}
-
-// The fault of a member that states another label.
-fn other_label(alloc: Global) -> Result<MemberFault, AllocError>
-    ensures { IfOk result IsOtherLabel }
-{
-    Ok(MemberFault::Form {
-        section: String::from_str(alloc, "backup")?,
-        key: String::from_str(alloc, "backup-label")?,
-    })
-}
-
-// The two faults of a pair that states another label.
-fn other_labels(alloc: Global) -> Result<(MemberFault, MemberFault), AllocError>
-    ensures main { IfOk result (λ two. IsOtherLabel two.0) }
-    ensures copy { IfOk result (λ two. IsOtherLabel two.1) }
-{
-    let main = other_label(alloc)?;
-    let copy = other_label(alloc)?;
-    Ok((main, copy))
-}
-
-/// The refusal of a manifest that states another label than this one.
-pub(crate) fn foreign(alloc: Global, label: &Label) -> Halt<RestoreCommandFault>
-    requires { IsLabel label.now }
-    ensures { HaltCause (ShowsForeign label.now) (λ _. ⊥) result }
-{
-    match other_labels(alloc) {
-        Ok((main, copy)) => damaged(alloc, label, main, copy),
-        Err(_) => Halt::NoMemory,
-    }
-}
-
-/// Why the manifest of this label isn't read.
-pub(crate) fn of_pair(alloc: Global, label: &Label, fault: InfoFault) -> Halt<RestoreCommandFault>
-    requires { IsLabel label.now }
-    ensures { HaltCause (ShowsPair label.now fault) (FailsPair fault) result }
-{
-    match fault {
-        InfoFault::Missing => damaged(alloc, label, MemberFault::Absent, MemberFault::Absent),
-        InfoFault::Damaged { main, copy } => damaged(alloc, label, main, copy),
-        InfoFault::Disk => Halt::Failed(Object::Repo),
-        InfoFault::NoMemory => Halt::NoMemory,
+    match halt {
+        Halt::Refused(fault) => Halt::Refused(RestoreCommandFault::ManifestDamaged(fault)),
+        Halt::Failed(object) => Halt::Failed(object),
+        Halt::NoMemory => Halt::NoMemory,
     }
 }
 

@@ -3,7 +3,7 @@ ghost use Rattle.std.specs.Prelude.{◌≡◌, ◌≤◌, ◌<◌, ◌^◌, [], 
 ghost use Rattle.base_devices.specs.DataFolder.{IsTreeListing};
 ghost use Rattle.base_model.specs.ManifestText.{IsManifest};
 ghost use Rattle.base_model.specs.Values.{manifest_of};
-ghost use Rattle.options_table.specs.Values.{is_stanza};
+ghost use Rattle.base_model.specs.StanzaName.{is_stanza};
 ghost use Rattle.worker_pool.specs.Pools.{links_in};
 ghost use Rattle.worker_pool.specs.Run.{AreReady};
 ghost use Rattle.restore_steps.specs.Clearing.{seen_of};
@@ -12,7 +12,7 @@ ghost use Rattle.cmd_restore.specs.Ends.{leaves_folder};
 ghost use Rattle.cmd_restore.specs.Putting.{PutsFiles, PutHalts, FillsBy, FillHalts};
 
 use crate::fault::{RestoreCommandFault, of_fill};
-use crate::log_fetch::{fetch_of, recovery_by};
+use crate::log_fetch::{fetch_of, recovery_by, settings_for};
 use crate::order::RecoverOrder;
 use crate::worker_start::{count_of, start_workers};
 use base_devices::{DataFolder, FolderEntry, Link, Scheduler};
@@ -90,9 +90,12 @@ pub(crate) fn fill<T: DataFolder, L: Link, U: Scheduler>(
     let Ok(fetch) = fetch_of(alloc, asked.stanza, &order.recovery) else {
         return Err(Halt::NoMemory);
     };
+    let Ok(settings) = settings_for(alloc, &order.recovery) else {
+        return Err(Halt::NoMemory);
+    };
     let options = RestoreOptions {
         delta: order.delta,
-        recovery: recovery_by(&order.recovery, &fetch),
+        recovery: recovery_by(&order.recovery, &fetch, &settings),
     };
     start_workers(alloc, pool, order)?;
     put_files(alloc, asked, &options, pool, tree)

@@ -1,10 +1,12 @@
 // How a restored server fetches the log.
-ghost use Rattle.std.specs.Prelude.{◌≡◌, ◌++◌, IfOk, OnOk, option_map, codes};
+ghost use Rattle.std.specs.Prelude.{◌≡◌, ◌++◌, map, IfOk, OnOk, option_map, codes};
 ghost use Rattle.restore_make.specs.Options.{recovery_of};
-ghost use Rattle.cmd_restore.specs.Fetching.{is_plain, doubled_byte, quoted_byte, quoted, config_text, path_text, fetch_text, configuration_of, arguments_of, recovery_type, recovery_with, fetch_of};
+ghost use Rattle.cmd_restore.specs.Fetching.{is_plain, doubled_byte, quoted_byte, quoted, config_text, path_text, fetch_text, configuration_of, arguments_of, recovery_type, recovery_with, fetch_of, settings_for};
+ghost use Rattle.cmd_restore.specs.Targets.{end_of, is_standby, lines_in};
 
-use crate::order::{Configuration, FetchArguments, RecoveryType};
-use restore_make::Recovery;
+use crate::order::{Configuration, FetchArguments, RecoveryEnd, RecoveryType};
+use crate::target_lines::settings_of;
+use restore_make::{LogFetch, Recovery};
 use std::alloc::{AllocError, Global};
 
 // Whether the shell takes the byte as it is.
@@ -104,16 +106,49 @@ pub(crate) fn fetch_of(
 {
     match recovery {
         RecoveryType::Nothing => Ok(Vec::new(alloc)),
-        RecoveryType::Default(arguments) => fetch_command(alloc, stanza, arguments),
+        RecoveryType::FromArchive(recovery) => fetch_command(alloc, stanza, &recovery.fetch),
     }
 }
 
-/// How the server is to recover, by that command.
-pub(crate) fn recovery_by<'a>(recovery: &RecoveryType<'_>, fetch: &'a [u8]) -> Recovery<'a>
-    ensures { recovery_of result ≡ recovery_with (recovery_type recovery.now) fetch.now }
+/// The further settings of the recovery, where there is one.
+pub(crate) fn settings_for(
+    alloc: Global,
+    recovery: &RecoveryType<'_>,
+) -> Result<Vec<Vec<u8>>, AllocError>
+    ensures { IfOk result (λ lines. lines_in lines ≡ settings_for (recovery_type recovery.now)) }
+{
+    match recovery {
+        RecoveryType::Nothing => Ok(Vec::new(alloc)),
+        RecoveryType::FromArchive(recovery) => {
+            settings_of(alloc, &recovery.end, recovery.timeline, recovery.own)
+        }
+    }
+}
+
+fn is_standby(end: &RecoveryEnd<'_>) -> bool
+    ensures { result ≡ is_standby (end_of end.now) }
+{
+    match end {
+        RecoveryEnd::Standby => true,
+        RecoveryEnd::Archive | RecoveryEnd::Consistent(_) | RecoveryEnd::Target(_) => false,
+    }
+}
+
+/// How the server is to recover, by that command and these settings.
+pub(crate) fn recovery_by<'a>(
+    recovery: &RecoveryType<'_>,
+    fetch: &'a [u8],
+    settings: &'a [Vec<u8>],
+) -> Recovery<'a>
+    ensures { recovery_of result
+        ≡ recovery_with (recovery_type recovery.now) fetch.now (map (λ line. line.items) settings.now) }
 {
     match recovery {
         RecoveryType::Nothing => Recovery::Nothing,
-        RecoveryType::Default(_) => Recovery::ToTheEnd { fetch },
+        RecoveryType::FromArchive(recovery) => Recovery::FromArchive(LogFetch {
+            command: fetch,
+            settings,
+            standby: is_standby(&recovery.end),
+        }),
     }
 }

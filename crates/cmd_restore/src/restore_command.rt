@@ -1,28 +1,52 @@
 // restore: puts a backup into the data folder.
 ghost use Rattle.std.specs.Prelude.{◌≡◌, ◌≤◌, ◌<◌, ◌^◌, true, vec_len, IfOk, IfErr, OnErr};
 ghost use Rattle.base_devices.specs.States.{OnlyReads};
-ghost use Rattle.options_table.specs.Values.{is_stanza};
+ghost use Rattle.base_model.specs.InfoFiles.{IsLabel};
+ghost use Rattle.base_model.specs.ManifestText.{IsManifest};
+ghost use Rattle.base_model.specs.Values.{manifest_of};
+ghost use Rattle.base_model.specs.StanzaName.{is_stanza};
 ghost use Rattle.worker_pool.specs.Pools.{links_in};
 ghost use Rattle.worker_pool.specs.Run.{AreReady};
 ghost use Rattle.restore_make.specs.Restorations.{StopsSafely};
-ghost use Rattle.cmd_setup.specs.Readies.{IsBackupOf};
+ghost use Rattle.cmd_setup.specs.Readies.{IsArchiveOf, IsBackupOf};
+ghost use Rattle.restore_choice.specs.Judging.{ReadWith};
+ghost use Rattle.restore_choice.specs.Loading.{LoadsManifest, LoadHalts};
 ghost use Rattle.cmd_restore.specs.Commanding.{RecoversBy, GivesBackupBy, HaltsBy};
 ghost use Rattle.cmd_restore.specs.Ends.{LeavesFolder};
 
-use crate::backup_choice::choose;
-use crate::fault::RestoreCommandFault;
+use crate::fault::{RestoreCommandFault, of_choice, of_load};
 use crate::folder_fill::{FillOrder, fill};
 use crate::folder_listing::look;
-use crate::manifest_load::load;
 use crate::order::RecoverOrder;
 use crate::texts::restored_line;
 use base_devices::{DataFolder, Disk, Link, Scheduler};
-use base_model::BackupInfo;
+use base_model::{ArchiveInfo, BackupInfo, Manifest};
 use cmd_types::{Halt, Outcome};
+use restore_choice::{Chosen, DamagedManifest, choose, load};
 use std::alloc::Global;
 use worker_pool::Pool;
 
-/// Puts a backup of the stanza into the data folder, and nothing else: the one that is asked for, or the last. The
+// The manifest of the chosen backup: the one that was read as it was chosen, or else it is read now.
+fn manifest_for<D: Disk>(
+    alloc: Global,
+    repo: &mut D,
+    stanza: &str,
+    chosen: Chosen,
+) -> Result<Manifest, Halt<DamagedManifest>>
+    requires label { IsLabel chosen.label }
+    requires read { ReadWith stanza.now (D.state repo.old).view.now chosen }
+    ensures found { IfOk result (λ m. LoadsManifest stanza.now chosen.label (D.state repo.old) (manifest_of m)) }
+    ensures rules { IfOk result (λ m. IsManifest (manifest_of m)) }
+    ensures looks { OnlyReads (D.state repo.old) (D.state repo.new) }
+    ensures cause { IfErr result (LoadHalts stanza.now chosen.label (D.state repo.old) (D.state repo.new)) }
+{
+    match chosen.manifest {
+        Some(manifest) => Ok(manifest),
+        None => load(alloc, repo, stanza, &chosen.label),
+    }
+}
+
+/// Puts a backup of the stanza into the data folder, and nothing else: the one that the order chooses. The
 /// folder is empty, or with delta holds a cluster whose equal files stay. The first links read the repository, as many
 /// as the order has workers; the others aren't used.
 pub fn restore_backup<D: Disk, T: DataFolder, L: Link, U: Scheduler>(
@@ -32,11 +56,13 @@ pub fn restore_backup<D: Disk, T: DataFolder, L: Link, U: Scheduler>(
     pool: &mut Pool<L, U>,
     stanza: &str,
     order: &RecoverOrder<'_>,
+    archive: &ArchiveInfo,
     backup: &BackupInfo,
 ) -> Result<Outcome, Halt<RestoreCommandFault>>
     requires few { vec_len pool.old.links < 2 ^ 32 }
     requires ready { AreReady (links_in L.link_state pool.old) }
     requires stanza { is_stanza stanza.now ≡ true }
+    requires archive { IsArchiveOf stanza.now (D.state repo.old).view.now archive.now }
     requires backup { IsBackupOf stanza.now (D.state repo.old).view.now backup.now }
     ensures looks { OnlyReads (D.state repo.old) (D.state repo.new) }
     ensures restored { IfOk result
@@ -55,9 +81,16 @@ pub fn restore_backup<D: Disk, T: DataFolder, L: Link, U: Scheduler>(
         (HaltsBy stanza.now order.now D.state repo.old repo.new L.link_state pool.old T.state tree.old tree.new) }
 {
     pool.lost.clear();
-    let label = choose(alloc, backup, order.set)?;
+    let chosen = match choose(alloc, repo, stanza, archive, backup, &order.choice) {
+        Ok(chosen) => chosen,
+        Err(halt) => return Err(of_choice(halt)),
+    };
+    let label = chosen.label;
     let seen = look(alloc, order.delta, tree)?;
-    let manifest = load(alloc, repo, stanza, &label)?;
+    let manifest = match manifest_for(alloc, repo, stanza, chosen) {
+        Ok(manifest) => manifest,
+        Err(halt) => return Err(of_load(halt)),
+    };
     let Ok(lines) = restored_line(alloc, &label) else {
         return Err(Halt::NoMemory);
     };

@@ -6,8 +6,9 @@ ghost use Rattle.cmd_restore.specs.Texts.{restore_status, restore_message, resto
 use crate::fault::RestoreCommandFault;
 use base_model::Label;
 use base_text::{NoMemory, Sum};
-use cmd_types::{bytes_of, damage_text, quoted};
+use cmd_types::{bytes_of, quoted};
 use repo_names::label_text;
+use restore_choice::{choice_message, choice_status, damaged_message};
 use std::alloc::Global;
 
 /// The status of a refusal.
@@ -15,12 +16,11 @@ pub fn restore_status(fault: &RestoreCommandFault) -> u8
     ensures { result ≡ restore_status fault.now }
 {
     match fault {
-        RestoreCommandFault::SetForm => 6,
-        RestoreCommandFault::NoBackup => 60,
-        RestoreCommandFault::SetMissing { .. } => 61,
+        RestoreCommandFault::SetForm | RestoreCommandFault::TargetForm => 6,
+        RestoreCommandFault::Unchosen(fault) => choice_status(fault),
         RestoreCommandFault::Running => 41,
         RestoreCommandFault::NotEmpty { .. } => 62,
-        RestoreCommandFault::ManifestDamaged { .. } => 64,
+        RestoreCommandFault::ManifestDamaged(_) => 64,
         RestoreCommandFault::WorkersLost { .. } => 55,
         RestoreCommandFault::Unread { .. } => 56,
         RestoreCommandFault::FileDamaged { .. } => 63,
@@ -44,10 +44,10 @@ pub fn restore_message(alloc: Global, fault: &RestoreCommandFault) -> Result<Vec
         RestoreCommandFault::SetForm => {
             bytes_of(String::from_str(alloc, "option 'set' has no valid value"))
         }
-        RestoreCommandFault::NoBackup => bytes_of(String::from_str(alloc, "no backup exists")),
-        RestoreCommandFault::SetMissing { label } => bytes_of(format!(in alloc;
-            "backup set '{label}' does not exist"
-        )),
+        RestoreCommandFault::TargetForm => {
+            bytes_of(String::from_str(alloc, "option 'target' has no valid value"))
+        }
+        RestoreCommandFault::Unchosen(fault) => choice_message(alloc, fault),
         RestoreCommandFault::Running => bytes_of(String::from_str(
             alloc,
             "postmaster.pid is there",
@@ -58,10 +58,7 @@ pub fn restore_message(alloc: Global, fault: &RestoreCommandFault) -> Result<Vec
             path,
             "'",
         ),
-        RestoreCommandFault::ManifestDamaged { label, main, copy } => {
-            let end = damage_text(alloc, main, copy)?;
-            quoted(alloc, "manifest of '", label, &end)
-        }
+        RestoreCommandFault::ManifestDamaged(fault) => damaged_message(alloc, fault),
         RestoreCommandFault::WorkersLost { lost } => bytes_of(format!(in alloc;
             "{lost} workers lost"
         )),

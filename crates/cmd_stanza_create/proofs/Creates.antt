@@ -1,6 +1,6 @@
 -- stanza-create by its parts.
 use Rattle.std.proofs.Common.{◌≡◌, ◌⊎◌, inl, inr, ℕ, List, [], ◌∷◌, Option, Some, None, Bool, true, false, refl, sym, ◌∙◌, subst}
-use Rattle.std.specs.Prelude.{IfSome, IsSome, Result, Ok, Err, IfErr, IsErrAnd}
+use Rattle.std.specs.Prelude.{IfSome, IsSome, Result, Ok, Err, IfErr}
 use Rattle.base_devices.specs.Content.{Content}
 use Rattle.base_devices.specs.Moments.{View, LeavesNoMore}
 use Rattle.base_model.specs.declared.clusters.Cluster.{Cluster}
@@ -16,29 +16,30 @@ use Rattle.base_model.specs.Log.{IsDone}
 use Rattle.base_model.specs.Now.{NowRepresents}
 use Rattle.base_model.proofs.Done.{create_part as now_part}
 use Rattle.base_model.proofs.Logged.{create_part, create_whole, create_sound}
+use Rattle.server_talk.specs.declared.session.fault.ServerFault.{ServerFault}
 use Rattle.repo_stanza.specs.declared.control.Control.{Control}
 use Rattle.repo_stanza.specs.declared.creation.Created.{Created}
 use Rattle.repo_stanza.specs.declared.creation.Created.TheVariants.{New, Same}
 use Rattle.repo_stanza.specs.declared.fault.StanzaFault.{StanzaFault}
 use Rattle.repo_stanza.specs.Causes.{CreateCause as StanzaCause, OnContent, IfNew, IfSame}
 use Rattle.repo_stanza.specs.Pairs.{LacksStanza, HasStanzaOf}
-use Rattle.archive_store.specs.Still.{IsStill, rests_none, still_self}
+use Rattle.archive_store.specs.Still.{IsStill}
 use Rattle.cmd_types.specs.declared.stages.object.Object.{Object}
 use Rattle.cmd_types.specs.declared.stages.object.Object.TheVariants as objects
 use Rattle.cmd_types.specs.declared.stages.halt.Halt.{Halt}
 use Rattle.cmd_types.specs.declared.stages.halt.Halt.TheVariants.{Refused, Failed, NoMemory}
-use Rattle.cmd_types.specs.declared.stages.outcome.Outcome.{Outcome}
 use Rattle.cmd_types.specs.Halts.{HaltCause, Only}
-use Rattle.cmd_types.specs.Reached.{reached_by, back_if, fails_early}
+use Rattle.cmd_types.specs.Reached.{reached_by}
 use Rattle.cmd_types.specs.Risen.{none, rose_in}
 use Rattle.cmd_types.specs.declared.stages.plan.SyncScope.TheVariants.{Whole}
-use Rattle.cmd_types.specs.DisksEffect.{Reached, to_end, turned_back, stopped, OnNone, IsPart, DoesPart, DoesWhole, RepoEffect}
-use Rattle.cmd_types.proofs.Doing.{rests_part, rests_does}
+use Rattle.cmd_types.specs.DisksEffect.{to_end, turned_back, stopped, OnNone, IsPart, DoesPart, DoesWhole, RepoEffect}
+use Rattle.cmd_types.proofs.Doing.{rests_part}
 use Rattle.cmd_stanza_create.specs.declared.fault.CreateFault.{CreateFault}
 use Rattle.cmd_stanza_create.specs.declared.fault.CreateFault.TheVariants as faults
 use Rattle.cmd_stanza_create.specs.Server.{Server}
 use Rattle.cmd_stanza_create.specs.Talking.{AskCause, Closes}
-use Rattle.cmd_stanza_create.specs.Creating.{create_early, IsStanzaFault, Damaged, Differs, Mismatch, Lost, Found, Unsaid, Broken, Starved, MakeCause, CreateCause}
+use Rattle.cmd_stanza_create.specs.Creating.{create_early, of_server, IsStanzaFault, Damaged, Differs, Mismatch, Lost, Found, Unsaid, Broken, Starved, MakeCause, CreateCause, CreateCloses}
+use Rattle.cmd_stanza_create.proofs.Undone.{only_rose}
 
 -- ---- what was done
 
@@ -168,11 +169,6 @@ make_cause stanza known repo rose e halt (Unsaid label) h = tt
 make_cause stanza known repo rose e halt Broken h = (refl, h)
 make_cause stanza known repo rose e halt Starved h = tt
 
--- only this object failed, so its count of faults rose
-only_rose : (which object : Object) (Q : Object → Type 0) (rose : Type 0) → (rose → Q which) →
-    Only which rose object → Q object
-only_rose which object Q rose to h = subst Q (sym h.0) (to h.1)
-
 module _ (stanza : Text) (known : Control) (server : Option Server) (repo : Option Content)
     (pending : Option (List ℕ)) (repo_rose server_rose : Type 0) where
   abbrev Rises : Object → Type 0
@@ -181,16 +177,15 @@ module _ (stanza : Text) (known : Control) (server : Option Server) (repo : Opti
   abbrev Cause : Halt CreateFault → Type 0
   Cause = HaltCause (CreateCause stanza known server repo pending) Rises
 
-  asked_cause : (halt : Halt CreateFault) →
-      HaltCause (AskCause server known.system pending) (Only objects.Server server_rose) halt → Cause halt
-  asked_cause (Refused (faults.Server fault)) h = h
-  asked_cause (Refused (faults.InfoDamaged name main copy)) h = absurd h
-  asked_cause (Refused (faults.HistoryDiffers at)) h = absurd h
-  asked_cause (Refused (faults.StanzaMismatch kept found)) h = absurd h
-  asked_cause (Refused (faults.ArchiveLost label)) h = absurd h
-  asked_cause (Refused (faults.FilesFound name)) h = absurd h
-  asked_cause (Failed object) h = only_rose objects.Server object Rises server_rose (λ x. x) h
-  asked_cause NoMemory h = tt
+  cause_of : (asked : Halt ServerFault) →
+      HaltCause (AskCause server known.system pending) (Only objects.Server server_rose) asked → Cause (of_server asked)
+  cause_of (Refused fault) h = h
+  cause_of (Failed object) h = only_rose objects.Server object Rises server_rose (λ x. x) h
+  cause_of NoMemory h = tt
+
+  pub asked_cause : (asked : Halt ServerFault) (halt : Halt CreateFault) → halt ≡ of_server asked →
+      HaltCause (AskCause server known.system pending) (Only objects.Server server_rose) asked → Cause halt
+  asked_cause asked halt is h = subst Cause (sym is) (cause_of asked h)
 
   pub made_cause : {T : Type 0} (result : Result T (Halt CreateFault)) (rose : Type 0) → (rose → repo_rose) →
       IfErr result (HaltCause (MakeCause stanza known repo) (Only objects.Repo rose)) → IfErr result Cause
@@ -207,7 +202,7 @@ module _ (stanza : Text) (known : Control) (server : Option Server) (repo : Opti
 -- a refusal of the repository's isn't one of the server's
 pub made_closes : {T : Type 0} (stanza : Text) (known : Control) (repo : Option Content) (failed : Object → Type 0)
     (rose : Type 0) (new : Option (List ℕ)) (result : Result T (Halt CreateFault)) →
-    IfErr result (HaltCause (MakeCause stanza known repo) failed) → IfErr result (Closes rose new)
+    IfErr result (HaltCause (MakeCause stanza known repo) failed) → IfErr result (CreateCloses rose new)
 made_closes stanza known repo failed rose new (Ok x) h = tt
 made_closes stanza known repo failed rose new (Err (Refused (faults.Server fault))) h = absurd h
 made_closes stanza known repo failed rose new (Err (Refused (faults.InfoDamaged name main copy))) h = tt
@@ -218,46 +213,14 @@ made_closes stanza known repo failed rose new (Err (Refused (faults.FilesFound n
 made_closes stanza known repo failed rose new (Err (Failed object)) h = tt
 made_closes stanza known repo failed rose new (Err NoMemory) h = tt
 
--- ---- where the server ends the command, nothing was done yet
+-- ---- where the server ends the command
 
-back_does : (stanza : Text) (command : Command) (early : Bool) (a : View) → RepoEffect Whole stanza command (back_if early) a a
-back_does stanza command true a = rests_does Whole stanza command turned_back a a (λ is. cc) (rests_none a) refl
-back_does stanza command false a = rests_does Whole stanza command stopped a a (λ is. cc) (rests_none a) refl
+closes_of : (rose : Type 0) (new : Option (List ℕ)) (asked : Halt ServerFault) → Closes rose new asked →
+    CreateCloses rose new (of_server asked)
+closes_of rose new (Refused fault) h = h
+closes_of rose new (Failed object) h = tt
+closes_of rose new NoMemory h = tt
 
-asked_does : (stanza : Text) (command : Command) (a : View) (halt : Halt CreateFault) →
-    RepoEffect Whole stanza command (reached_by create_early (Err halt)) a a
-asked_does stanza command a (Refused e) = back_does stanza command (create_early e) a
-asked_does stanza command a (Failed object) = back_does stanza command (fails_early object) a
-asked_does stanza command a NoMemory = back_does stanza command false a
-
-pub asked_still : (reached : Reached) (a : View) → OnNone reached (IsStill a a)
-asked_still to_end a = tt
-asked_still turned_back a = still_self a
-asked_still stopped a = tt
-
--- what the exit of a `?` returns
-module _ (result : Result Outcome (Halt CreateFault)) (halt : Halt CreateFault)
-    (is : IsErrAnd result (λ h. h ≡ halt)) where
-  pub exit_does : (stanza : Text) (command : Command) (a : View) →
-      RepoEffect Whole stanza command (reached_by create_early result) a a
-  exit_does stanza command a = go result is
-    where
-      go : (r : Result Outcome (Halt CreateFault)) → IsErrAnd r (λ h. h ≡ halt) →
-          RepoEffect Whole stanza command (reached_by create_early r) a a
-      go (Ok x) is = absurd is
-      go (Err h) is = asked_does stanza command a h
-
-  pub exit_err : (P : Halt CreateFault → Type 0) → P halt → IfErr result P
-  exit_err P p = go result is
-    where
-      go : (r : Result Outcome (Halt CreateFault)) → IsErrAnd r (λ h. h ≡ halt) → IfErr r P
-      go (Ok x) is = tt
-      go (Err h) is = subst P (sym is) p
-
-  pub exit_cause : (stanza : Text) (known : Control) (server : Option Server) (repo : Option Content)
-      (pending : Option (List ℕ)) (repo_rose server_rose : Type 0) →
-      HaltCause (AskCause server known.system pending) (Only objects.Server server_rose) halt →
-      IfErr result (Cause stanza known server repo pending repo_rose server_rose)
-  exit_cause stanza known server repo pending repo_rose server_rose h =
-      exit_err (Cause stanza known server repo pending repo_rose server_rose)
-      (asked_cause stanza known server repo pending repo_rose server_rose halt h)
+pub asked_closes : (rose : Type 0) (new : Option (List ℕ)) (asked : Halt ServerFault) (halt : Halt CreateFault) →
+    halt ≡ of_server asked → Closes rose new asked → CreateCloses rose new halt
+asked_closes rose new asked halt is h = subst (CreateCloses rose new) (sym is) (closes_of rose new asked h)

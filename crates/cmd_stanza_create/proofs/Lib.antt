@@ -1,3 +1,6 @@
 mod Talks
 mod Creates
+pub mod Undone
 pub mod Statuses
+pub mod OneCluster
+pub mod Servers

@@ -9,7 +9,7 @@ use Rattle.base_model.specs.Names.{label_text}
 use Rattle.base_model.specs.Now.{HasNewPairs}
 use Rattle.base_model.specs.Steps.{StanzaCreate}
 use Rattle.repo_info.specs.declared.fault.MemberFault.{MemberFault}
-use Rattle.server_talk.specs.Reads.{IsOutside}
+use Rattle.server_talk.specs.declared.session.fault.ServerFault.{ServerFault}
 use Rattle.repo_stanza.specs.declared.control.Control.{Control}
 use Rattle.repo_stanza.specs.declared.fault.Identity.{Identity}
 use Rattle.repo_stanza.specs.declared.fault.StanzaFault.{StanzaFault}
@@ -32,7 +32,7 @@ use Rattle.cmd_stanza_create.specs.declared.server.Server as code
 use Rattle.cmd_stanza_create.specs.declared.fault.CreateFault.{CreateFault}
 use Rattle.cmd_stanza_create.specs.declared.fault.CreateFault.TheVariants.{Server as Talked, InfoDamaged, HistoryDiffers, StanzaMismatch, ArchiveLost, FilesFound}
 use Rattle.cmd_stanza_create.specs.Server.{Server, server_view}
-use Rattle.cmd_stanza_create.specs.Talking.{ShowsFault}
+use Rattle.cmd_stanza_create.specs.Talking.{Ended, AskCause}
 
 -- ---- at its end
 
@@ -62,6 +62,12 @@ pub data IsStanzaFault : StanzaFault → Halt CreateFault → Type 0 where
   Broken : IsStanzaFault DiskOf (Failed TheRepo)
   Starved : IsStanzaFault MemoryOf NoMemory
 
+-- how a talk with the server that was refused ends the command
+abbrev pub of_server : Halt ServerFault → Halt CreateFault
+of_server (Refused fault) = Refused (Talked fault)
+of_server (Failed object) = Failed object
+of_server NoMemory = NoMemory
+
 -- why the stanza of this cluster isn't made or kept, from what the repository held
 abbrev pub MakeCause : Text → Control → Option Content → CreateFault → Type 0
 MakeCause stanza known repo (Talked fault) = ⊥
@@ -74,9 +80,13 @@ MakeCause stanza known repo (FilesFound name) = StanzaCause stanza known repo �
 
 -- why stanza-create is refused: for what the server that is asked states, or for what the repository held
 abbrev pub CreateCause : Text → Control → Option Server → Option Content → Option (List ℕ) → CreateFault → Type 0
-CreateCause stanza known server repo pending (Talked fault) =
-    IsSome server × ¬ IsOutside fault × ShowsFault known.system pending fault
+CreateCause stanza known server repo pending (Talked fault) = AskCause server known.system pending fault
 CreateCause stanza known server repo pending other = MakeCause stanza known repo other
+
+-- a talk that the server's answer ended was ended with the last message too, unless the connection failed
+abbrev pub CreateCloses : Type 0 → Option (List ℕ) → Halt CreateFault → Type 0
+CreateCloses rose new (Refused (Talked fault)) = Ended new ⊎ rose
+CreateCloses rose new other = Unit {0}
 
 -- ---- what a call does to a disk
 
@@ -96,6 +106,10 @@ StaysIfRefused old new result = OnNone (reached_by create_early result) (IsStill
 -- why the stanza isn't made or kept
 abbrev pub StanzaFails : Text → Control → DiskState → DiskState → Halt CreateFault → Type 0
 StanzaFails stanza known old new = HaltCause (MakeCause stanza known old.view.now) (Only TheRepo (DiskFailed old new))
+
+-- where the server's answer ended the talk, it was ended with the last message, or the connection failed
+abbrev pub ClosesTalk : ConnectionState → ConnectionState → Halt CreateFault → Type 0
+ClosesTalk old new halt = CreateCloses (ServerFailed old new) new.sent halt
 
 -- why the command ends without its result
 abbrev pub CreateFails : Text → Control → Option code.Server → DiskState → DiskState → ConnectionState → ConnectionState

@@ -1,4 +1,5 @@
 pub mod Server
+pub mod Deciding
 pub mod Talking
 pub mod Creating
 pub mod Texts

@@ -1,4 +1,4 @@
--- The server that stanza-create asks for its system (pgBackRest command reference, "Stanza Create Command").
+-- A server that is asked for its system (pgBackRest command reference, "Stanza Create Command").
 use Rattle.std.specs.Prelude.{ℕ, ◌++◌, codes, decimal}
 use Rattle.base_model.specs.Text.{Text}
 use Rattle.cmd_stanza_create.specs.declared.server.Server as code

@@ -1,4 +1,4 @@
--- The talk with the server that stanza-create asks for its system (PostgreSQL manual, "Message Flow").
+-- The talk with a server that is asked for its system (PostgreSQL manual, "Message Flow").
 use Rattle.std.specs.Prelude.{◌≡◌, ◌≤◌, ◌⊎◌, ℕ, List, ◌++◌, Option, Some, None, option_map, IfSome, IsSome, Result, Ok}
 use Rattle.base_devices.specs.States.{ConnectionState, ServerFailed}
 use Rattle.base_model.specs.Text.{Text}
@@ -13,8 +13,6 @@ use Rattle.cmd_types.specs.declared.stages.halt.Halt.{Halt}
 use Rattle.cmd_types.specs.declared.stages.halt.Halt.TheVariants.{Refused, Failed, NoMemory}
 use Rattle.cmd_types.specs.Halts.{HaltCause, Only}
 use Rattle.cmd_stanza_create.specs.declared.server.Server as code
-use Rattle.cmd_stanza_create.specs.declared.fault.CreateFault.{CreateFault}
-use Rattle.cmd_stanza_create.specs.declared.fault.CreateFault.TheVariants.{Server as Talked}
 use Rattle.cmd_stanza_create.specs.Server.{Server, server_view, socket_path}
 
 -- ---- what is said
@@ -26,8 +24,8 @@ Asks (Some s) place old new = (place ≡ socket_path s)
     × (new ≡ option_map (λ said. said ++ questions s.user s.database) old)
 
 -- a talk that the server's answer ended was ended with the last message too, unless the connection failed
-abbrev pub Closes : Type 0 → Option (List ℕ) → Halt CreateFault → Type 0
-Closes rose new (Refused (Talked fault)) = Ended new ⊎ rose
+abbrev pub Closes : Type 0 → Option (List ℕ) → Halt ServerFault → Type 0
+Closes rose new (Refused fault) = Ended new ⊎ rose
 Closes rose new other = Unit {0}
 
 -- ---- the same for a call's two states of the connection
@@ -46,7 +44,7 @@ abbrev pub EndsOrFails : ConnectionState → ConnectionState → Type 0
 EndsOrFails old new = Ended new.sent ⊎ ServerFailed old new
 
 -- where the server's answer ended it
-abbrev pub ClosesOrFails : ConnectionState → ConnectionState → Halt CreateFault → Type 0
+abbrev pub ClosesOrFails : ConnectionState → ConnectionState → Halt ServerFault → Type 0
 ClosesOrFails old new halt = Closes (ServerFailed old new) new.sent halt
 
 -- the statuses of a server's answer that is refused; 70 is also that of a file that is too long
@@ -59,6 +57,10 @@ IsServerRefusal status = ((47 ≤ status) × (status ≤ 51)) ⊎ ((70 ≤ statu
 abbrev pub IsOf : ℕ → Option (List ℕ) → Type 0
 IsOf system pending = IfSome pending (λ bytes. (size : ℕ) × Shows system bytes (Ok size))
 
+-- where one is asked
+abbrev pub IsOfIfAny : Option code.Server → ℕ → ConnectionState → Type 0
+IsOfIfAny asked system old = IfSome asked (λ _. IsOf system old.pending)
+
 -- it states this fault, where that is known
 abbrev pub ShowsFault : ℕ → Option (List ℕ) → ServerFault → Type 0
 ShowsFault system pending fault = IfSome pending
@@ -67,17 +69,16 @@ ShowsFault system pending fault = IfSome pending
 -- ---- why the talk fails
 
 -- the connection failed, memory did, or the server's answer is refused
-abbrev pub server_halt : ServerFault → Halt CreateFault
+abbrev pub server_halt : ServerFault → Halt ServerFault
 server_halt server.NoMemory = NoMemory
 server_halt server.ServerConnection = Failed TheServer
-server_halt fault = Refused (Talked fault)
+server_halt fault = Refused fault
 
 -- the server that is asked states this, to one that looks for this system
-abbrev pub AskCause : Option Server → ℕ → Option (List ℕ) → CreateFault → Type 0
-AskCause asked system pending (Talked fault) = IsSome asked × ¬ IsOutside fault × ShowsFault system pending fault
-AskCause asked system pending other = ⊥
+abbrev pub AskCause : Option Server → ℕ → Option (List ℕ) → ServerFault → Type 0
+AskCause asked system pending fault = IsSome asked × ¬ IsOutside fault × ShowsFault system pending fault
 
 -- why a call that asks it ends without its result
-abbrev pub AskFails : Option code.Server → ℕ → ConnectionState → ConnectionState → Halt CreateFault → Type 0
+abbrev pub AskFails : Option code.Server → ℕ → ConnectionState → ConnectionState → Halt ServerFault → Type 0
 AskFails asked system old new = HaltCause (AskCause (option_map server_view asked) system old.pending)
     (Only TheServer (ServerFailed old new))

@@ -6,6 +6,8 @@
 //!   every answer and every crash, and nothing changes where it is refused.
 //! - No name but the members of its two pairs and temporary ones changes. Where a server is asked, it is of the
 //!   cluster's system at Ok, and the talk is ended. Each refusal has its cause, with its status and its message.
+//! - `check_server`, for other commands too: where a server is asked, it is of this system at Ok, and the talk is ended.
+//!   Each refusal of its answer has its cause.
 #![tactic(auto)]
 
 mod fault;
@@ -16,6 +18,6 @@ mod texts;
 
 pub use fault::CreateFault;
 pub use server::Server;
-pub use server_check::socket_path;
+pub use server_check::{check_server, socket_path};
 pub use stanza_creation::create_stanza;
 pub use texts::{create_message, create_status};

@@ -1,4 +1,4 @@
-// The server that stanza-create asks.
+// A server that is asked for its system.
 ghost use Rattle.std.specs.Prelude.{◌<◌, ◌+◌, ◌^◌, length};
 
 /// Where a server is reached, and as whom.

@@ -5,7 +5,6 @@ ghost use Rattle.server_talk.specs.Reads.{HasCause, IsOutside};
 ghost use Rattle.cmd_stanza_create.specs.Server.{server_view, socket_path};
 ghost use Rattle.cmd_stanza_create.specs.Talking.{IsOf, ShowsFault, AsksAt, AsksIfAny, EndsOrFails, ClosesOrFails, AskFails, server_halt};
 
-use crate::fault::CreateFault;
 use crate::server::Server;
 use base_devices::ServerConnection;
 use cmd_types::{Halt, Object};
@@ -21,14 +20,14 @@ pub fn socket_path(alloc: Global, server: &Server) -> Result<String, AllocError>
     format!(in alloc; "{folder}/.s.PGSQL.{port}")
 }
 
-// The fault that a fault of a talk becomes.
-fn server_halt(fault: ServerFault) -> Halt<CreateFault>
+// How a fault of a talk ends the command.
+fn server_halt(fault: ServerFault) -> Halt<ServerFault>
     ensures { result ≡ server_halt fault }
 {
     match fault {
         ServerFault::NoMemory => Halt::NoMemory,
         ServerFault::ServerConnection => Halt::Failed(Object::Server),
-        fault => Halt::Refused(CreateFault::Server(fault)),
+        fault => Halt::Refused(fault),
     }
 }
 
@@ -79,7 +78,7 @@ fn ask_system<V: ServerConnection>(
     connection: &mut V,
     server: &Server,
     system: u64,
-) -> Result<(), Halt<CreateFault>>
+) -> Result<(), Halt<ServerFault>>
     ensures same { OnOk result (IsOf system (V.state connection.old).pending) }
     ensures asks { OnOk result
         (AsksIfAny (Some server.now) (V.state connection.old) (V.state connection.new)) }
@@ -96,12 +95,12 @@ fn ask_system<V: ServerConnection>(
 }
 
 /// Asks the server for its system, where one is to be asked. It has to be this one.
-pub(crate) fn check_server<V: ServerConnection>(
+pub fn check_server<V: ServerConnection>(
     alloc: Global,
     connection: &mut V,
     server: Option<Server>,
     system: u64,
-) -> Result<(), Halt<CreateFault>>
+) -> Result<(), Halt<ServerFault>>
     ensures quiet { server.entry ≡ None → connection.new ≡ connection.old }
     ensures same { OnOk result (IfSome server.entry (λ _. IsOf system (V.state connection.old).pending)) }
     ensures asks { OnOk result (AsksIfAny server.entry (V.state connection.old) (V.state connection.new)) }

@@ -6,8 +6,8 @@ ghost use Rattle.base_model.specs.InfoFiles.{IsLabel};
 ghost use Rattle.repo_stanza.specs.Causes.{IfLost};
 ghost use Rattle.repo_stanza.specs.Owned.{IsOfPairs};
 ghost use Rattle.cmd_types.specs.Plans.{archive_lock, backup_lock};
-ghost use Rattle.cmd_stanza_create.specs.Talking.{IsOf, AsksIfAny, ClosesOrFails};
-ghost use Rattle.cmd_stanza_create.specs.Creating.{IsStanzaFault, CreatesStanza, HasCreated, StaysIfRefused, StanzaFails, CreateFails};
+ghost use Rattle.cmd_stanza_create.specs.Talking.{IsOf, AsksIfAny};
+ghost use Rattle.cmd_stanza_create.specs.Creating.{IsStanzaFault, of_server, CreatesStanza, HasCreated, StaysIfRefused, ClosesTalk, StanzaFails, CreateFails};
 
 use crate::fault::CreateFault;
 use crate::server::Server;
@@ -16,7 +16,19 @@ use base_devices::{Disk, Locks, ServerConnection};
 use cmd_types::{Halt, Object, Outcome};
 use repo_names::label_text;
 use repo_stanza::{Control, StanzaFault, create};
+use server_talk::ServerFault;
 use std::alloc::Global;
+
+// How a talk with the server that was refused ends the command.
+fn of_server(halt: Halt<ServerFault>) -> Halt<CreateFault>
+    ensures { result ≡ of_server halt }
+{
+    match halt {
+        Halt::Refused(fault) => Halt::Refused(CreateFault::Server(fault)),
+        Halt::Failed(object) => Halt::Failed(object),
+        Halt::NoMemory => Halt::NoMemory,
+    }
+}
 
 // What a fault of the stanza is.
 fn of_stanza(alloc: Global, fault: StanzaFault) -> Halt<CreateFault>
@@ -85,12 +97,14 @@ pub fn create_stanza<D: Disk, V: ServerConnection, K: Locks>(
     ensures same { OnOk result (IfSome server.entry (λ _. IsOf known.now.system (V.state connection.old).pending)) }
     ensures asks { OnOk result (AsksIfAny server.entry (V.state connection.old) (V.state connection.new)) }
     ensures quiet { server.entry ≡ None → connection.new ≡ connection.old }
-    ensures closed { IfErr result (ClosesOrFails (V.state connection.old) (V.state connection.new)) }
+    ensures closed { IfErr result (ClosesTalk (V.state connection.old) (V.state connection.new)) }
     ensures later { (V.state connection.old).faults ≤ (V.state connection.new).faults }
 
     ensures cause { IfErr result (CreateFails stanza.now known.now server.entry (D.state repo.old) (D.state repo.new)
         (V.state connection.old) (V.state connection.new)) }
 {
-    check_server(alloc, connection, server, known.system)?;
-    make(alloc, repo, stanza, known)
+    match check_server(alloc, connection, server, known.system) {
+        Ok(()) => make(alloc, repo, stanza, known),
+        Err(halt) => Err(of_server(halt)),
+    }
 }

@@ -213,7 +213,7 @@ module _ {F : Type 0} (p : Place) (m : Meaning F) (laws : IsLawful m) where
   spares_on b c k r beside spool still same later s = record {
     beside = λ known. beside_on p.stanza b.repo.view c.repo.view k.repo.view beside (s.beside known);
     spool = λ known. beside_on p.stanza b.spool.view c.spool.view k.spool.view (still_beside p.stanza b.spool.view c.spool.view spool) (s.spool known);
-    repository = laws.repo_on p b.clock.least b.repo.view c.repo.view k.repo.view still (subst (λ (x : ClockState). m.repo_effect p x.least c.repo.view k.repo.view) (ap (λ (o : KnownWorld). o.clock) same) s.repository);
+    repository = λ known. laws.repo_on p b.clock.least b.repo.view c.repo.view k.repo.view still (subst (λ (x : ClockState). m.repo_effect p x.least c.repo.view k.repo.view) (ap (λ (o : KnownWorld). o.clock) same) (s.repository known));
     folder = laws.folder_on p (known_world b) c.repo.view.now k.tree.nodes now (subst (λ (o : KnownWorld). m.folder_effect p o k.tree.nodes) same s.folder);
     others = subst (λ (x : ProcessesState). m.others_effect p x k.others) (ap (λ (o : KnownWorld). o.others) same) s.others;
     turned = none_as (reached_of m (ending_of r)) _ _ (λ h. laws.turned_on p (known_world b) (known_world k) c.repo.view.now (status m (ending_of r)) now (subst (λ (o : KnownWorld). m.turned p o (known_world k) (status m (ending_of r))) same h)) s.turned;
@@ -231,7 +231,7 @@ module _ {F : Type 0} (p : Place) (m : Meaning F) (laws : IsLawful m) where
   spares_none b k fault beside spool still nodes server others links clock closes = record {
     beside = λ known. beside;
     spool = λ known. still_beside p.stanza b.spool.view k.spool.view spool;
-    repository = laws.repo_none p b.clock.least b.repo.view k.repo.view still;
+    repository = λ known. laws.repo_none p b.clock.least b.repo.view k.repo.view still;
     folder = subst (λ (n : Option Nodes). m.folder_effect p (known_world b) n) (sym nodes) (laws.folder_none p (known_world b));
     others = subst (λ (o : ProcessesState). m.others_effect p b.others o) (sym others) (laws.others_none p b.others);
     turned = all_none (reached_of m (ending_of (Err fault))) _ (laws.turned_none p (known_world b) (known_world k) (status m (ending_of (Err fault))) nodes (reading_as m.plan.pairs _ _ (λ (p : IsStill b.repo.view k.repo.view). p.now) (leaves_reading m.plan.pairs p.stanza b.repo.view k.repo.view still)));

@@ -43,7 +43,7 @@ module _ {F : Type 0} (p : Place) (m : Meaning F) (laws : IsLawful m) (b k : Wor
   idle_rest = record {
     beside = λ known. still_beside p.stanza b.repo.view k.repo.view idle.repo;
     spool = λ known. still_beside p.stanza b.spool.view k.spool.view idle.spool;
-    repository = laws.repo_none p b.clock.least b.repo.view k.repo.view (still_leaves m.plan.pairs p.stanza _ _ idle.repo);
+    repository = λ known. laws.repo_none p b.clock.least b.repo.view k.repo.view (still_leaves m.plan.pairs p.stanza _ _ idle.repo);
     synced = any_unless m.unsyncs _ (λ synced some. rests_synced p.stanza b.repo.view k.repo.view idle.repo.time idle.repo.now synced);
     folder = subst (λ (n : Option Nodes). m.folder_effect p (known_world b) n) (sym nodes) (laws.folder_none p (known_world b));
     others = subst (λ (o : ProcessesState). m.others_effect p b.others o) (sym idle.others) (laws.others_none p b.others);

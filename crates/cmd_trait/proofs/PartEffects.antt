@@ -94,7 +94,7 @@ module _ {F : Type 0} (p : Place) (m : Meaning F) (laws : IsLawful m) (b k : Wor
   still_spares r closed = record {
     beside = λ known. still_beside p.stanza b.repo.view k.repo.view still;
     spool = λ known. spool_kept p.stanza b k (ap (λ (s : World). s.spool.view) rest);
-    repository = laws.repo_none p b.clock.least b.repo.view k.repo.view (still_leaves m.plan.pairs p.stanza _ _ still);
+    repository = λ known. laws.repo_none p b.clock.least b.repo.view k.repo.view (still_leaves m.plan.pairs p.stanza _ _ still);
     folder = subst (λ (n : Option Nodes). m.folder_effect p (known_world b) n) (sym (ap (λ (s : World). s.tree.nodes) rest)) (laws.folder_none p (known_world b));
     others = subst (λ (o : ProcessesState). m.others_effect p b.others o) (sym (ap (λ (s : World). s.others) rest)) (laws.others_none p b.others);
     turned = all_none (reached_of m (ending_of r)) _ (laws.turned_none p (known_world b) (known_world k) (status m (ending_of r)) (ap (λ (s : World). s.tree.nodes) rest) (any_reading m.plan.pairs _ still.now));

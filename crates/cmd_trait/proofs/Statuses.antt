@@ -15,7 +15,6 @@ use Rattle.cmd_trait.specs.Meaning.{Meaning, IsLawful, IsEarly}
 use Rattle.cmd_trait.specs.Ends.{status, status_of, is_early, ending_of, reached_of}
 
 pub stage_over : (e : StageFault) → 2 ≤ stage_status e
-stage_over (stage.NotBuilt a) = omega arith
 stage_over (stage.ConfigMissing a) = omega arith
 stage_over (stage.ConfigLong a b) = omega arith
 stage_over (stage.Held a) = omega arith
@@ -27,7 +26,6 @@ stage_over (stage.StanzaMissing a) = omega arith
 stage_over (stage.InfoDamaged a b c) = omega arith
 
 pub stage_apart : (e : StageFault) → stage_status e ≢ 65
-stage_apart (stage.NotBuilt a) = λ e. absurd (omega (arith, e))
 stage_apart (stage.ConfigMissing a) = λ e. absurd (omega (arith, e))
 stage_apart (stage.ConfigLong a b) = λ e. absurd (omega (arith, e))
 stage_apart (stage.Held a) = λ e. absurd (omega (arith, e))

@@ -43,7 +43,6 @@ stage_apart plan stanza b k (stage.ConfigLong name limit) is (inl held) = absurd
 stage_apart plan stanza b k (stage.ConfigLong name limit) is (inr (inl found)) = absurd found.1
 stage_apart plan stanza b k (stage.ConfigLong name limit) is (inr (inr (shows, inl found))) = absurd found.1
 stage_apart plan stanza b k (stage.ConfigLong name limit) is (inr (inr (shows, inr (reads, has, none)))) = absurd none
-stage_apart plan stanza b k (stage.NotBuilt a) is cause = high 100 (omega arith) is
 stage_apart plan stanza b k (stage.ConfigMissing a) is cause = low 10 (omega arith) is
 stage_apart plan stanza b k (stage.Held a) is cause = low 20 (omega arith) is
 stage_apart plan stanza b k (stage.ControlMissing a) is cause = low 28 (omega arith) is

@@ -36,14 +36,16 @@ abbrev pub Closes : {F : Type 0} → Place → Meaning F → World → World →
 Closes p m before after (Own fault) = m.closes p (known_world before) (known_world after) (Failed before after) fault
 Closes p m before after other = Unit {0}
 
--- What a command leaves unchanged: it keeps to its stanza, where what others did meanwhile is known, to what it may
--- change in the repository and the data folder, and to what other processes may be at. Refused before its first step it
--- leaves what it then leaves. It leaves the server, the workers and the clock unchanged where it doesn't use them.
+-- What a command leaves unchanged. Where what others did meanwhile is known, it keeps to its stanza, and to what it may
+-- change in the repository. It keeps to what it may change in the data folder, and to what other processes may be at.
+-- Refused before its first step it leaves what it then leaves. It leaves the server, the workers and the clock unchanged
+-- where it doesn't use them.
 pub record Spares {F : Type 0} (p : Place) (m : Meaning F) (before after : World) (result : Result Outcome (Fault F)) :
     Type 0 where
   pub beside : TurnsKnown p m (known_world after) → StaysBeside p.stanza before.repo.view after.repo.view
   pub spool : TurnsKnown p m (known_world after) → StaysBeside p.stanza before.spool.view after.spool.view
-  pub repository : m.repo_effect p before.clock.least before.repo.view after.repo.view
+  pub repository : TurnsKnown p m (known_world after)
+      → m.repo_effect p before.clock.least before.repo.view after.repo.view
   pub folder : m.folder_effect p (known_world before) after.tree.nodes
   pub others : m.others_effect p before.others after.others
   pub turned : OnNone (reached_of m (ending_of result))

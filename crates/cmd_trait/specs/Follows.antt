@@ -66,12 +66,14 @@ pub record TurnsBack {F : Type 0} (p : Place) (m : Meaning F) (before after : Wo
   pub none : NoneDone p m before after
   pub turned : m.turned p (known_world before) (known_world after) result
 
--- After every answer the command has kept to its stanza, where what others did meanwhile is known, and to what it may
--- change. No name that is looked at became unsynced, unless the command may do that. What it doesn't use is unchanged.
+-- After every answer the command has kept to its stanza, and to what it may change in the repository, where what others
+-- did meanwhile is known; and to what else it may change. No name that is looked at became unsynced, unless the command
+-- may do that. What it doesn't use is unchanged.
 pub record LeavesRest {F : Type 0} (p : Place) (m : Meaning F) (before after : World) : Type 0 where
   pub beside : TurnsKnown p m (known_world after) → StaysBeside p.stanza before.repo.view after.repo.view
   pub spool : TurnsKnown p m (known_world after) → StaysBeside p.stanza before.spool.view after.spool.view
-  pub repository : m.repo_effect p before.clock.least before.repo.view after.repo.view
+  pub repository : TurnsKnown p m (known_world after)
+      → m.repo_effect p before.clock.least before.repo.view after.repo.view
   pub synced : Unless m.unsyncs (StaysSynced p.stanza before.repo.view after.repo.view)
   pub folder : m.folder_effect p (known_world before) after.tree.nodes
   pub others : m.others_effect p before.others after.others

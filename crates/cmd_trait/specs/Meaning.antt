@@ -77,8 +77,8 @@ pub record Meaning (F : Type 0) : Type 1 where
   pub message : F → Text
   pub early : F → Bool
   pub lines : F → Text
-  -- what it may change: in the repository, from the least second that the clock may show; in the data folder; and what
-  -- other processes are at
+  -- what it may change: in the repository, from the least second that the clock may show, with what others change there
+  -- while it waits for them; in the data folder; and what other processes are at
   pub repo_effect : Place → ℕ → View → View → Type 0
   pub folder_effect : Place → KnownWorld → Option Nodes → Type 0
   pub others_effect : Place → ProcessesState → ProcessesState → Type 0
@@ -125,7 +125,7 @@ HasOne (provided known Is) = known → (command : Command) × Is command
 -- the statuses of a command that ends before its own first step: it was refused for what was found, or the connection
 -- to its server failed
 abbrev pub IsEarly : ℕ → Type 0
-IsEarly status = ((1 ≤ status) × (status ≤ 72) × (status ≢ 65)) ⊎ (((100 ≤ status) × (status ≤ 101)) ⊎ (status ≡ 83))
+IsEarly status = ((1 ≤ status) × (status ≤ 72) × (status ≢ 65)) ⊎ (((101 ≤ status) × (status ≤ 104)) ⊎ (status ≡ 83))
 
 -- the places are opened, and nothing more is done before the command's own part
 abbrev pub places_plan : Plan

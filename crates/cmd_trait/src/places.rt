@@ -1,6 +1,6 @@
 // Where a command works.
 ghost use Rattle.std.specs.Prelude.{◌≡◌, ◌<◌, ◌^◌, length, true};
-ghost use Rattle.options_table.specs.Values.{is_stanza};
+ghost use Rattle.base_model.specs.StanzaName.{is_stanza};
 
 /// Where a command works: the stanza, the data folder, the repository and the folder of the locks.
 #[derive(Clone, Copy)]

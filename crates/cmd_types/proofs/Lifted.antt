@@ -12,7 +12,7 @@ use Rattle.base_model.specs.Represents.{Represents}
 use Rattle.base_model.specs.Steps.{Step, Command, Reading, after, all_of, steps_of}
 use Rattle.base_model.specs.Log.{Done, Reaches, RepresentsAfter, KeepsRepository, KeepsSpool, Keeps}
 use Rattle.base_model.specs.Now.{NowRepresents, NowEffect}
-use Rattle.base_model.specs.Steady.{IsSteady, LeavesOnly}
+use Rattle.base_model.specs.Steady.{IsSteady, LeavesOnly, CarriesOn}
 use Rattle.base_model.specs.Walks.{Walks, RepresentsStill}
 use Rattle.base_model.proofs.Done.{part_none}
 use Rattle.base_model.proofs.Each.{keeps_synced, keeps_now}
@@ -23,7 +23,7 @@ use Rattle.base_crash_lists.specs.Trace.{HasReceiptsOf}
 use Rattle.base_crash_lists.proofs.Stays.{rests_beside, beside_on}
 use Rattle.cmd_types.specs.declared.stages.plan.SyncScope.{SyncScope}
 use Rattle.cmd_types.specs.declared.stages.plan.SyncScope.TheVariants.{Whole, Looked}
-use Rattle.cmd_types.specs.DisksEffect.{Reached, to_end, turned_back, stopped, OnAll, OnNone, OnWhole, turns_of, IsPart, IsWhole, PartEach, WholeEach, PairAlike, IsLookedAt, Goes, Comes, DoesPart, RepoEffect, RunsPart, RunsWhole, DisksEffect, Past, Passes, Leads, Takes, Quiet, HealsPair, Begins, Manner, each, one, provided, On, EndsAtOne, SpoolEffect, BeginsWith, PassesReceipts}
+use Rattle.cmd_types.specs.DisksEffect.{Reached, to_end, turned_back, stopped, OnAll, OnNone, OnWhole, turns_of, IsPart, IsWhole, PartEach, WholeEach, PairAlike, IsLookedAt, Goes, Comes, DoesPart, RepoEffect, RunsPart, RunsWhole, DisksEffect, Past, Passes, Leads, Takes, Quiet, HealsPair, Begins, Manner, each, one, provided, On, EndsAtOne, SpoolEffect, BeginsWith, PassesReceipts, DoesWhole}
 
 pub all_as : (reached : Reached) (P Q : Type 0) → (P → Q) → OnAll reached P → OnAll reached Q
 all_as to_end P Q to h = to h
@@ -159,12 +159,16 @@ heals_steady stanza a b heals_pair pair r some steady =
 
 -- the stages alone
 module _ (stanza : Text) (command : Command) (a b s : View) (quiet : Quiet stanza a b) where
+  quiet_carries : CarriesOn stanza command false a b
+  quiet_carries = record { keeps = λ q log some keeps. still_keeps stanza command q log b (quiet.keeps q log some keeps) }
+
   pub quiet_leads : Leads stanza command false a s b s
   quiet_leads = record {
     now = record { known = quiet.now.known; does = λ r from some now. ([], part_none (steps_of command r), stays_at stanza a.now b.now quiet.now r some now) };
+    repository = quiet_carries;
     spool_known = λ known. known;
     keeps = λ known q log some keeps. record {
-      repository = still_keeps stanza command q log b (quiet.keeps q log some keeps.repository);
+      repository = quiet_carries.keeps q log some keeps.repository;
       receipts = still_spool stanza command q log s keeps.receipts;
     };
   }
@@ -258,13 +262,21 @@ begins_with Whole stanza a b quiet begun q log some keeps = begun q log keeps so
 begins_with Looked stanza a b quiet begun q log some keeps = quiet.keeps q log some keeps
 
 module _ (how : SyncScope) (stanza : Text) (a b : View) (quiet : Quiet stanza a b) (begun : Begins how stanza a b) where
+  module _ (command : Command) (d : View) where
+    part_carries : DoesPart how stanza command b d → CarriesOn stanza command false a d
+    part_carries h = record { keeps = λ q log some keeps. (left stanza a b quiet command d q log some keeps how begun h.goes).0 }
+
+    whole_carries : DoesPart how stanza command b d → DoesWhole how stanza command b d → CarriesOn stanza command true a d
+    whole_carries p h = record { keeps = λ q log some keeps. left_whole stanza a b quiet command d q log some keeps how begun p.goes h.ends }
+
   module _ (command : Command) (s d t : View) where
     pub part_leads : RunsPart how stanza command b s d t → Leads stanza command false a s d t
     part_leads h = record {
       now = does_on stanza a b quiet command false d h.does.part;
+      repository = part_carries command d h.does;
       spool_known = h.marks.known;
       keeps = λ spool_some q log some keeps. record {
-        repository = (left stanza a b quiet command d q log some keeps.repository how begun h.does.goes).0;
+        repository = (part_carries command d h.does).keeps q log some keeps.repository;
         receipts = h.marks.keeps q log (known_at stanza a b quiet some) spool_some (begins_with how stanza a b quiet begun q log some keeps.repository) keeps.receipts;
       };
     }
@@ -289,9 +301,10 @@ module _ (how : SyncScope) (stanza : Text) (a b : View) (quiet : Quiet stanza a 
     pub whole_leads : RunsPart how stanza command b s d t → RunsWhole how stanza command b s d t → Leads stanza command true a s d t
     whole_leads p h = record {
       now = does_on stanza a b quiet command true d h.does.done;
+      repository = whole_carries command d p.does h.does;
       spool_known = h.marks.known;
       keeps = λ spool_some q log some keeps. record {
-        repository = left_whole stanza a b quiet command d q log some keeps.repository how begun p.does.goes h.does.ends;
+        repository = (whole_carries command d p.does h.does).keeps q log some keeps.repository;
         receipts = h.marks.keeps q log (known_at stanza a b quiet some) spool_some (begins_with how stanza a b quiet begun q log some keeps.repository) keeps.receipts;
       };
     }
@@ -327,6 +340,7 @@ module _ (stanza : Text) (a b s t : View) (rests : LeavesNoMore a b) (same : b.n
   leads_on : (command : Command) (whole : Bool) (d e : View) → Leads stanza command whole b t d e → Leads stanza command whole a s d e
   leads_on command whole d e h = record {
     now = subst (λ (o : Option Content). NowEffect stanza command whole o d.now) same h.now;
+    repository = record { keeps = λ q log some keeps. h.repository.keeps q log (on_some a.now b.now same some) (rests_still stanza q log a b rests same keeps) };
     spool_known = λ known. h.spool_known (on_some s.now t.now spool_same known);
     keeps = λ known q log some keeps. h.keeps (on_some s.now t.now spool_same known) q log (on_some a.now b.now same some) (opened_with q log keeps);
   }

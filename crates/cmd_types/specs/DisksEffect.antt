@@ -8,7 +8,7 @@ use Rattle.base_model.specs.Repository.{Repository, IsSound}
 use Rattle.base_model.specs.Represents.{Represents}
 use Rattle.base_model.specs.Steps.{Step, Command, ArchivePushAsync, MakeBackup, Reading, IsPartOf, after, all_of, steps_of}
 use Rattle.base_model.specs.Log.{Done, RepresentsAfter, KeepsRepository, KeepsSpool, Keeps}
-use Rattle.base_model.specs.Steady.{IsSteady, IsBegun, EachImage, LeavesOnly, KeepsOn}
+use Rattle.base_model.specs.Steady.{IsSteady, IsBegun, EachImage, LeavesOnly, CarriesOn, KeepsOn}
 use Rattle.base_model.specs.Now.{NowEffect}
 use Rattle.base_model.specs.Values.{ArchiveInfo}
 use Rattle.base_model.specs.Walks.{IsSynced, Walks, RepresentsNow, RepresentsStill}
@@ -166,10 +166,12 @@ pub record PassesReceipts (stanza : Text) (command : Command) (repo spool new_sp
   pub between : (q : Repository) (log : List Done) → IsSome repo.now → IsSome spool.now → Keeps stanza q log repo spool
       → LeavesOnly (HasReceiptsOf stanza q (record { command = command; acknowledged = false } ∷ log)) spool new_spool
 
--- what the disks hold and all that a crash leaves continue by this
+-- What the disks hold and all that a crash leaves continue by this: the repository by itself, whatever the spool has,
+-- and the two together.
 pub record Leads (stanza : Text) (command : Command) (whole : Bool) (repo spool new_repo new_spool : View) : Type
     0 where
   pub now : NowEffect stanza command whole repo.now new_repo.now
+  pub repository : CarriesOn stanza command whole repo new_repo
   pub spool_known : IsSome spool.now → IsSome new_spool.now
   pub keeps : IsSome spool.now → KeepsOn stanza command whole repo spool new_repo new_spool
 

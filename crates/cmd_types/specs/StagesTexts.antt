@@ -7,12 +7,10 @@ use Rattle.repo_info.specs.declared.fault.MemberFault.TheVariants.{Absent, TooLo
 use Rattle.repo_stanza.specs.declared.fault.Identity.{Identity}
 use Rattle.cmd_types.specs.declared.stages.object.Object.{Object}
 use Rattle.cmd_types.specs.declared.stages.object.Object.TheVariants.{Repo, Spool, TheDataFolder, Server, Others, Clock, Locks, Config, Output}
-use Rattle.cmd_types.specs.declared.stages.fault.Unbuilt.{Unbuilt}
-use Rattle.cmd_types.specs.declared.stages.fault.Unbuilt.TheVariants.{Bundles}
 use Rattle.cmd_types.specs.declared.stages.fault.ControlFile.{ControlFile}
 use Rattle.cmd_types.specs.declared.stages.fault.ControlFile.TheVariants.{Control, Version}
 use Rattle.cmd_types.specs.declared.stages.fault.StageFault.{StageFault}
-use Rattle.cmd_types.specs.declared.stages.fault.StageFault.TheVariants.{NotBuilt, ConfigMissing, ConfigLong, Held, ControlMissing, ControlShort, VersionText, VersionUnsupported, StanzaMissing, InfoDamaged}
+use Rattle.cmd_types.specs.declared.stages.fault.StageFault.TheVariants.{ConfigMissing, ConfigLong, Held, ControlMissing, ControlShort, VersionText, VersionUnsupported, StanzaMissing, InfoDamaged}
 
 -- ---- shared texts
 
@@ -61,7 +59,6 @@ long_text name limit = codes "'" ++ (shown name ++ (codes "' is longer than " ++
 
 -- the status and the line of what is refused before the command's own part
 abbrev pub stage_status : StageFault → ℕ
-stage_status (NotBuilt what) = 100
 stage_status (ConfigMissing path) = 10
 stage_status (ConfigLong path limit) = 70
 stage_status (Held name) = 20
@@ -72,15 +69,11 @@ stage_status (VersionUnsupported version) = 27
 stage_status (StanzaMissing stanza) = 21
 stage_status (InfoDamaged name main copy) = 22
 
-abbrev pub part_name : Unbuilt → Text
-part_name Bundles = codes "repo1-bundle"
-
 abbrev pub file_text : ControlFile → Text
 file_text Control = codes "global/pg_control"
 file_text Version = codes "PG_VERSION"
 
 abbrev pub stage_message : StageFault → Text
-stage_message (NotBuilt what) = codes "'" ++ (part_name what ++ codes "' is not built yet")
 stage_message (ConfigMissing path) = codes "configuration '" ++ (shown (string_bytes path) ++ codes "' is missing")
 stage_message (ConfigLong path limit) = long_text (string_bytes path) limit
 stage_message (Held name) = codes "lock '" ++ (string_bytes name ++ codes "' is held")

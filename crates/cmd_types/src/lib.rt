@@ -9,7 +9,7 @@ mod stages;
 
 pub use server_texts::{server_message, server_status};
 pub use stages::{
-    ControlFile, Halt, Object, Outcome, Pairs, Plan, StageFault, SyncScope, Unbuilt, bytes_of,
-    damage_text, damaged_text, halted, history_text, long_text, mismatch_text, object_message,
-    object_status, push_shown, quoted, read_prefix, stage_message, stage_status, twice_text,
+    ControlFile, Halt, Object, Outcome, Pairs, Plan, StageFault, SyncScope, bytes_of, damage_text,
+    damaged_text, halted, history_text, long_text, mismatch_text, object_message, object_status,
+    push_shown, quoted, read_prefix, stage_message, stage_status, twice_text,
 };

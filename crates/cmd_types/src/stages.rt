@@ -16,7 +16,7 @@ mod plan;
 mod prefix_read;
 mod texts;
 
-pub use fault::{ControlFile, StageFault, Unbuilt};
+pub use fault::{ControlFile, StageFault};
 pub use halt::{Halt, halted};
 pub use object::Object;
 pub use outcome::Outcome;

@@ -19,25 +19,22 @@ following name at f = option_map (drop at) (f name)
 abbrev pub IsRead : Option Content → Text → ℕ → Text → ℕ → Type 0
 IsRead o name at bytes count = (count ≡ 0) ⊎ IfSome o (λ f. IsPrefixOf (following name at f) bytes count)
 
--- the first bytes of a read, as one of what comes after the place
-read_after : (v : Value) (at count room : ℕ) (new : List ℕ) (n m : ℕ) → Reads v (at + count) room new (Some n) → m ≤ n → 0 < m → Reads (option_map (drop at) v) count room new (Some m)
-read_after None at count room new n m reads fewer some = cc
-read_after (Some whole) at count room new n m reads fewer some = record {
-  part = by;
-  within = omega (arith, reads.within, fewer, length-drop at whole);
+-- a read, as one of what comes after the place
+read_after : (v : Value) (at count room : ℕ) (new : List ℕ) (n : ℕ) → Reads v (at + count) room new (Some n) → 0 < n → Reads (option_map (drop at) v) count room new (Some n)
+read_after None at count room new n reads some = cc
+read_after (Some whole) at count room new n reads some = record {
+  part = reads.part ∙ ap (take n) (sym (drop-drop count at whole));
+  within = omega (arith, reads.within, length-drop at whole);
   ends = λ zero. absurd (omega (arith, zero, some));
 }
-  where
-    by : take m new ≡ take m (drop count (drop at whole))
-    by = sym (take-take m n new fewer) ∙ ap (take m) reads.part ∙ take-take m n (drop (at + count) whole) fewer ∙ ap (take m) (sym (drop-drop count at whole))
 
-pub one_more : (o : Option Content) (name : Text) (at : ℕ) (bytes new : Text) (count room n m : ℕ) → IfSome o (λ f. Reads (f name) (at + count) room new (Some n)) → m ≤ n → 0 < m → length bytes ≡ count
-    → IsRead o name at bytes count → IsRead o name at (bytes ++ take m new) (count + m)
-one_more o name at bytes new count room n m reads fewer some long prefix = inr (prefix_more o (following name at) bytes new (bytes ++ take m new) count m room (count + m) (moved o reads) prefix long refl refl)
+pub one_more : (o : Option Content) (name : Text) (at : ℕ) (bytes new : Text) (count room n : ℕ) → IfSome o (λ f. Reads (f name) (at + count) room new (Some n)) → 0 < n → length bytes ≡ count
+    → IsRead o name at bytes count → IsRead o name at (bytes ++ take n new) (count + n)
+one_more o name at bytes new count room n reads some long prefix = inr (prefix_more o (following name at) bytes new (bytes ++ take n new) count n room (count + n) (moved o reads) prefix long refl refl)
   where
-    moved : (o : Option Content) → IfSome o (λ f. Reads (f name) (at + count) room new (Some n)) → IfSome o (λ f. Reads (following name at f) count room new (Some m))
+    moved : (o : Option Content) → IfSome o (λ f. Reads (f name) (at + count) room new (Some n)) → IfSome o (λ f. Reads (following name at f) count room new (Some n))
     moved None reads = tt
-    moved (Some f) reads = read_after (f name) at count room new n m reads fewer some
+    moved (Some f) reads = read_after (f name) at count room new n reads some
 
 -- nothing is read of an absent name
 pub none_lies : (o : Option Content) (name : Text) (at size from room : ℕ) (new : List ℕ) → IfSome o (λ f. Reads (f name) from room new None) → IfSome o (λ f. LiesSo (f name) at size Nothing)

@@ -10,10 +10,9 @@ use Rattle.base_model.specs.Repository.{Backup, Stanza, identity_of}
 use Rattle.base_model.specs.Represents.{HasStanza, IsPending, archive_value, backup_value}
 use Rattle.repo_info.proofs.OneArchive.{one_archive_pair}
 use Rattle.repo_keys.proofs.Numbers.{map_in}
-use Rattle.repo_stanza.specs.Judging.{Validates, As, Without}
+use Rattle.repo_stanza.specs.Judging.{HasList, Validates, As, Without}
 use Rattle.repo_stanza.proofs.Settled.{one_pair, same_prefix}
 use Rattle.repo_text_lemmas.proofs.Lists.{one_list}
-use Rattle.expire_make.specs.Planning.{HasList}
 
 -- what two values validate to is one list
 one_validated : (a b : ArchiveInfo) (x y v w : BackupInfo) → a ≡ b → x ≡ y → Validates a x v → Validates b y w → v ≡ w

@@ -14,10 +14,10 @@ use Rattle.expire_rules.specs.Condemned.{is_condemned, condemned_labels}
 use Rattle.base_model.specs.Names.{archive_info, backup_info}
 use Rattle.repo_stanza.specs.declared.fault.StanzaFault.{StanzaFault}
 use Rattle.repo_stanza.specs.Causes.{HistoriesDiffer}
-use Rattle.repo_stanza.specs.Judging.{Validates, ShowsDifference}
+use Rattle.repo_stanza.specs.Judging.{HasList, Validates, ShowsDifference}
 use Rattle.expire_make.specs.declared.fault.ExpireFault.{ExpireFault}
 use Rattle.expire_make.specs.Fault.{ExpireCause, fault_of_stanza}
-use Rattle.expire_make.specs.Planning.{HasList, IsPlan, left_of}
+use Rattle.expire_make.specs.Planning.{IsPlan, left_of}
 use Rattle.expire_rules.proofs.Lists.{in_filter, filter_in}
 use Rattle.repo_keys.proofs.Numbers.{in_map}
 use Rattle.expire_rules.proofs.LabelTests.{has_in, in_has}

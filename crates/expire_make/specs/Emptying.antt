@@ -15,7 +15,8 @@ use Rattle.expire_rules.specs.declared.rules.Rules.{Rules}
 use Rattle.expire_rules.specs.Labels.{labels_of}
 use Rattle.expire_make.specs.declared.expiry_plan.Planned.{Planned}
 use Rattle.expire_make.specs.Losing.{IsTextUnlisted, IsUnlisted, IsUnneeded, MayTouch}
-use Rattle.expire_make.specs.Planning.{HasList, keeps_by, left_of}
+use Rattle.repo_stanza.specs.Judging.{HasList}
+use Rattle.expire_make.specs.Planning.{keeps_by, left_of}
 use Rattle.expire_make.specs.Unneeded.{ids_in}
 
 -- ---- folders

@@ -22,7 +22,8 @@ use Rattle.expire_rules.specs.Labels.{labels_of}
 use Rattle.expire_rules.specs.Needed.{keeping_of, keeps_file}
 use Rattle.expire_make.specs.declared.expiry_plan.Planned.{Planned}
 use Rattle.expire_make.specs.Losing.{MayTouch}
-use Rattle.expire_make.specs.Planning.{HasList, HoldsPlan, keeps_by, left_of}
+use Rattle.repo_stanza.specs.Judging.{HasList}
+use Rattle.expire_make.specs.Planning.{HoldsPlan, keeps_by, left_of}
 
 -- the stanza's backups as `backup.info` lists them
 abbrev pub listed : Stanza → List Entry

@@ -16,8 +16,8 @@ use Rattle.base_model.specs.Pair.{PairIs}
 use Rattle.base_model.specs.Create.{member_writes}
 use Rattle.base_model.specs.Walks.{IsSynced}
 use Rattle.repo_pair.specs.Member.{IsMember}
-use Rattle.repo_stanza.specs.Judging.{Validates}
-use Rattle.repo_stanza.specs.Pairs.{HavePairs, AgreeAt}
+use Rattle.repo_stanza.specs.Judging.{HasList}
+use Rattle.repo_stanza.specs.Pairs.{AgreeAt}
 use Rattle.expire_rules.specs.declared.rules.Rules.{Rules}
 use Rattle.expire_rules.specs.Condemned.{is_condemned, condemned_labels}
 use Rattle.expire_rules.specs.Needed.{keeping_of, keeps_file}
@@ -44,16 +44,6 @@ HoldsArchivePair stanza v d = IfSome d.view.now (λ f. PairIs IsArchiveText f (a
 -- the backup pair has it
 abbrev pub HoldsBackupPair : Text → BackupInfo → DiskState → Type 0
 HoldsBackupPair stanza v d = IfSome d.view.now (λ f. PairIs IsBackupText f (backup_info stanza) v)
-
--- f's two pairs have values: that of the archive pair is this one, and the other's validates to this list
-pub record HasList (stanza : Text) (f : Content) (archive : ArchiveInfo) (list : BackupInfo) : Type 0 where
-  pub backup : BackupInfo
-  pub pairs : HavePairs stanza f archive backup
-  pub settles : Validates archive backup list
-
--- where its contents are known, they have such values
-abbrev pub HoldsList : Text → ArchiveInfo → BackupInfo → DiskState → Type 0
-HoldsList stanza archive list d = IfSome d.view.now (λ f. HasList stanza f archive list)
 
 -- where they were known, the members of the backup pair have one text
 abbrev pub BackupPairAgrees : Text → DiskState → DiskState → Type 0

@@ -5,7 +5,8 @@ ghost use Rattle.base_devices.specs.States.{OnlyReads};
 ghost use Rattle.base_model.specs.Values.{archive_info_of, backup_info_of};
 ghost use Rattle.base_model.specs.InfoFiles.{IsArchiveInfo, IsBackupInfo, IsLabel, info_limit};
 ghost use Rattle.expire_rules.specs.Condemned.{condemned_labels};
-ghost use Rattle.expire_make.specs.Planning.{HoldsArchivePair, HoldsBackupPair, HoldsList, PlansFor, left_of, list_text};
+ghost use Rattle.repo_stanza.specs.Judging.{HoldsList};
+ghost use Rattle.expire_make.specs.Planning.{HoldsArchivePair, HoldsBackupPair, PlansFor, left_of, list_text};
 ghost use Rattle.expire_make.specs.Fault.{ExpiryFails};
 
 use crate::fault::ExpireFault;

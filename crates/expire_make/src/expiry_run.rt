@@ -11,7 +11,8 @@ ghost use Rattle.expire_make.specs.Expiry.{ExpiresPart, ExpiresAll, KeepsNeeded,
 ghost use Rattle.expire_make.specs.Losing.{MayExpire};
 ghost use Rattle.expire_make.specs.Emptying.{EndsListed};
 ghost use Rattle.expire_make.specs.Removed.{NumberGone};
-ghost use Rattle.expire_make.specs.Planning.{HoldsList, BackupPairAgrees, BackupPairLasts, list_text};
+ghost use Rattle.repo_stanza.specs.Judging.{HoldsList};
+ghost use Rattle.expire_make.specs.Planning.{BackupPairAgrees, BackupPairLasts, list_text};
 ghost use Rattle.expire_make.specs.Fault.{ExpiryFails, IfRefused, IsDeviceFault};
 
 use crate::expiry_plan::{plan, read_list};

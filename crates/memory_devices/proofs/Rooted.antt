@@ -3,7 +3,7 @@ use Rattle.std.proofs.Common.{◌≡◌, ◌⊎◌, inl, inr, ℕ, ◌≤◌, su
 use Rattle.std.specs.Prelude.{option_map, Result, Ok, Err, OnOk, OnErr}
 use Rattle.std.proofs.lemmas.Slice.Eq.{bytes_eq-Decides}
 use Rattle.base_devices.specs.Content.{Name}
-use Rattle.base_devices.specs.DataFolder.{Held, file, folder, link, other, Nodes, HasItsFolder, with_node, moved_node}
+use Rattle.base_devices.specs.DataFolder.{Held, file, folder, link, other, Nodes, HasItsFolder, with_node, with_time, timed_file, moved_node}
 use Rattle.memory_devices.specs.Nodes.{folder_of, is_folder, is_file, is_in, is_placed, takes_file, Rooted, longer_node}
 use Rattle.memory_devices.proofs.Folders.{after_slash, before_slash, no_slash, slash_free, split}
 
@@ -155,6 +155,29 @@ longer_folder more other = refl
 
 pub longer_rooted : (f : Nodes) (path : Name) (more : List ℕ) → Rooted f → Rooted (with_node path (option_map (longer_node more) (f path)) f)
 longer_rooted f path more rooted = same_rooted f path (longer_node more) (longer_folder more) rooted
+
+-- a file with another time
+abbrev timed : ℕ → Held → Held
+timed time (file bytes old) = file bytes time
+timed time folder = folder
+timed time link = link
+timed time other = other
+
+timed_folder : (time : ℕ) (h : Held) → is_folder (Some (timed time h)) ≡ is_folder (Some h)
+timed_folder time (file bytes old) = refl
+timed_folder time folder = refl
+timed_folder time link = refl
+timed_folder time other = refl
+
+timed_is : (time : ℕ) (o : Option Held) → option_map (timed time) o ≡ with_time time o
+timed_is time None = refl
+timed_is time (Some (file bytes old)) = refl
+timed_is time (Some folder) = refl
+timed_is time (Some link) = refl
+timed_is time (Some other) = refl
+
+pub timed_rooted : (f : Nodes) (path : Name) (time : ℕ) → Rooted f → Rooted (timed_file path time f)
+timed_rooted f path time rooted = subst (λ (o : Option Held). Rooted (with_node path o f)) (timed_is time (f path)) (same_rooted f path (timed time) (timed_folder time) rooted)
 
 -- a folder is made where a folder may be, and a file is begun where a file may be
 pub make_rooted : (f : Nodes) (path : Name) → Rooted f → is_placed f path ≡ true → Rooted (with_node path (Some folder) f)

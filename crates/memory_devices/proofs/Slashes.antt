@@ -3,7 +3,8 @@ use Rattle.std.proofs.Common.{◌≡◌, ◌≢◌, ◌+◌, ℕ, Bool, true, fa
 use Rattle.std.proofs.Math.Seq.{take-append_seam, drop-append-add}
 use Rattle.std.proofs.lemmas.Bool.{false≢true}
 use Rattle.std.specs.List.{starts_with, list_any}
-use Rattle.std.proofs.lemmas.Map.Views.{Contains-from_any}
+use Rattle.std.proofs.lemmas.Map.Views.{Contains-from_any, list_any-from_Contains}
+use Rattle.std.proofs.lemmas.Cmp.{nat_eq_equiv}
 use Rattle.std.proofs.lemmas.Bool.Decides.{Decides-eqb}
 use Rattle.std.proofs.lemmas.Slice.Eq.{starts_is, bytes_eq-Decides}
 use Rattle.base_devices.specs.Content.{Name, is_below, LiesDirectlyIn}
@@ -56,3 +57,21 @@ directly_in folder name (last, is, lacks) = subst (λ n. is_directly_in folder n
     ap (λ b. b && not (list_any (nat_eq 47) (drop (length folder + 1) (folder ++ 47 ∷ last)))) (below_of folder last)
     ∙ ap (λ (r : List ℕ). not (list_any (nat_eq 47) r)) (dropped folder last)
     ∙ ap not (lacks_any 47 last lacks))
+
+left_true : (a b : Bool) → (a && b) ≡ true → a ≡ true
+left_true true b is = refl
+left_true false b is = is
+
+right_true : (a b : Bool) → (a && b) ≡ true → b ≡ true
+right_true true b is = is
+right_true false b is = cc
+
+any_has : (c : ℕ) (xs : List ℕ) → not (list_any (nat_eq c) xs) ≡ true → ¬ Contains xs c
+any_has c xs none has = false≢true (sym (ap not (list_any-from_Contains nat_eq_equiv c xs has)) ∙ none)
+
+pub directly_from : (folder name : Name) → is_directly_in folder name ≡ true → LiesDirectlyIn folder name
+directly_from folder name is =
+    let free = not (list_any (nat_eq 47) (drop (length folder + 1) name)) in
+    let below = below_is folder name (left_true (is_below folder name) free is) in
+    let rest : drop (length folder + 1) name ≡ below.0 = ap (drop (length folder + 1)) below.1 ∙ dropped folder below.0 in
+    (below.0, below.1, any_has 47 below.0 (ap (λ (r : List ℕ). not (list_any (nat_eq 47) r)) (sym rest) ∙ right_true (is_below folder name) free is))

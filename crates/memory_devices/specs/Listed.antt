@@ -5,7 +5,7 @@ use Rattle.base_devices.specs.declared.disk.Found.{Found}
 use Rattle.base_devices.specs.declared.data_folder.FolderEntry.{FolderEntry}
 use Rattle.base_devices.specs.declared.data_folder.ReadableFile.{ReadableFile}
 use Rattle.base_devices.specs.Content.{Name, Value, Content, IsFolderName, IsListing, AreFolders, Reads}
-use Rattle.base_devices.specs.DataFolder.{Nodes, IsTreeListing, known_path, file_bytes}
+use Rattle.base_devices.specs.DataFolder.{Nodes, IsTreeListing, IsFolderListing, known_path, file_bytes}
 use Rattle.base_devices.specs.Moments.{View}
 use Rattle.memory_devices.specs.Replay.{NameStates, value_of}
 use Rattle.memory_devices.specs.State.{Among}
@@ -50,6 +50,10 @@ ListsKept v moment name values = (x : Value) → Among x (map value_of values) �
 -- these are its nodes
 abbrev pub ListsNodes : Nodes → List FolderEntry → Type 0
 ListsNodes nodes seen = IsTreeListing nodes (map (λ s. (string_bytes s.path, s.node)) seen)
+
+-- these are those right within a folder
+abbrev pub ListsNodesWithin : Name → Nodes → List FolderEntry → Type 0
+ListsNodesWithin folder nodes seen = IsFolderListing nodes folder (map (λ s. (string_bytes s.path, s.node)) seen)
 
 -- the bytes of a known file, where it is one that is there
 abbrev pub known_bytes : Nodes → ReadableFile → Value

@@ -16,8 +16,8 @@ pub(crate) fn lies_below(path: &str, folder: &str) -> bool
     }
 }
 
-// Whether the path lies in the folder, and in none within it.
-fn lies_directly_in(path: &str, folder: &str) -> bool
+/// Whether the path lies in the folder, and in none within it.
+pub(crate) fn lies_directly_in(path: &str, folder: &str) -> bool
     ensures { result ≡ is_directly_in folder.now path.now }
 {
     lies_below(path, folder) && !path.as_bytes()[folder.len() + 1..].contains(&b'/')

@@ -1,11 +1,11 @@
 // A map of paths to nodes, in which each path's folder is there.
 ghost use Rattle.std.specs.Prelude.{◌≡◌, ◌≤◌, [], Option, Some, None, length, option_map, string_bytes, true, MatchOption, IfOk, OnOk, OnErr, IfSome, is_none};
-ghost use Rattle.base_devices.specs.DataFolder.{file, known_path, file_bytes, with_node, moved_node, shown};
+ghost use Rattle.base_devices.specs.DataFolder.{file, known_path, file_bytes, with_node, with_time, moved_node, timed_file, shown};
 ghost use Rattle.memory_devices.specs.Nodes.{nodes_at, node_of, folder_of, is_file, is_folder, is_placed, takes_file, takes_folder, holds_nothing, longer_node, Rooted, IsLost, tree_at, with_longer};
-ghost use Rattle.memory_devices.specs.Listed.{ListsNodes, ReadsKnown};
+ghost use Rattle.memory_devices.specs.Listed.{ListsNodes, ListsNodesWithin, ReadsKnown};
 ghost use Rattle.memory_devices.specs.Replay.{unless_same};
 
-use crate::below::lies_below;
+use crate::below::{lies_below, lies_directly_in};
 use crate::copy::copy_part;
 use base_devices::{FolderEntry, Node, ReadableFile};
 use std::alloc::{AllocError, Global};
@@ -113,6 +113,26 @@ pub(crate) fn list_nodes(alloc: Global, nodes: &Nodes) -> Result<Vec<FolderEntry
             path: path.clone()?,
             node: shown_node(node),
         })?;
+    }
+    Ok(seen)
+}
+
+/// The nodes right within a folder, in byte order of the paths.
+pub(crate) fn list_nodes_within(
+    alloc: Global,
+    nodes: &Nodes,
+    folder: &str,
+) -> Result<Vec<FolderEntry>, AllocError>
+    ensures { IfOk result (λ seen. ListsNodesWithin folder.now (nodes_at nodes.now) seen.items) }
+{
+    let mut seen = Vec::new(alloc);
+    for (path, node) in nodes {
+        if lies_directly_in(path, folder) {
+            seen.push(FolderEntry {
+                path: path.clone()?,
+                node: shown_node(node),
+            })?;
+        }
     }
     Ok(seen)
 }
@@ -236,6 +256,15 @@ pub(crate) fn extend_file(nodes: &mut Nodes, path: &str, more: &[u8]) -> Result<
     }
 }
 
+/// Gives a file this time.
+pub(crate) fn set_file_time(nodes: &mut Nodes, path: &str, time: u64)
+    ensures { nodes_at nodes.new ≡ timed_file path.now time (nodes_at nodes.old) }
+{
+    if let Some(node) = nodes.get_mut(path) {
+        set_node_time(node, time);
+    }
+}
+
 /// Moves a file to another path; its time goes along.
 pub(crate) fn move_file(
     alloc: Global,
@@ -285,4 +314,13 @@ fn extend_node(node: &mut MemNode, more: &[u8]) -> Result<(), AllocError>
         bytes.extend_from_slice(more)?;
     }
     Ok(())
+}
+
+// Gives a file this time.
+fn set_node_time(node: &mut MemNode, to: u64)
+    ensures { Some (node_of node.new) ≡ with_time to (Some (node_of node.old)) }
+{
+    if let MemNode::File { time, .. } = node {
+        *time = to;
+    }
 }

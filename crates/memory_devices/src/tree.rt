@@ -2,17 +2,17 @@
 ghost use Rattle.std.specs.Prelude.{◌≡◌, ◌≤◌, ◌||◌, [], map, not, is_none, length, string_bytes, option_map, Some, None, IfOk, IfErr, IfSome, OnOk, OnErr};
 ghost use Rattle.base_devices.specs.Cause.{HasCause};
 ghost use Rattle.base_devices.specs.States.{Opens, last_opened};
-ghost use Rattle.base_devices.specs.DataFolder.{with_node, moved_node, with_empty_file, with_folder};
+ghost use Rattle.base_devices.specs.DataFolder.{with_node, moved_node, timed_file, with_empty_file, with_folder};
 ghost use Rattle.memory_devices.specs.Nodes.{node_of, nodes_at, tree_at, is_file, is_placed, may_make, may_begin, may_move, holds_nothing, Rooted, HasNode, HasTree, begun_if, tried_begin, tried_make, tried_move, with_longer};
 ghost use Rattle.memory_devices.specs.Counts.{is_to_fail, counted, tried, FailsWhere, FailsUnless, uncounted};
-ghost use Rattle.memory_devices.specs.Listed.{ListsNodes, ReadsKnown, known_bytes};
+ghost use Rattle.memory_devices.specs.Listed.{ListsNodes, ListsNodesWithin, ReadsKnown, known_bytes};
 ghost use Rattle.memory_devices.specs.Locks.{names_in};
 
 use crate::failing::Failing;
 use crate::nodes::{
     MemNode, empty_file, extend_file, first_lost, has_file, has_folder, has_its_folder, is_bare,
-    is_free, known_size, list_nodes, map_of, may_put_file, may_put_folder, move_file, put_node,
-    read_known, take_node,
+    is_free, known_size, list_nodes, list_nodes_within, map_of, may_put_file, may_put_folder,
+    move_file, put_node, read_known, set_file_time, take_node,
 };
 use base_devices::{DataFolder, DeviceError, FolderEntry, ReadableFile};
 use std::alloc::{AllocError, Global};
@@ -91,7 +91,7 @@ impl MemDataFolder {
         self.failing.faults()
     }
 
-    /// How many calls were faulty: an append or a rename of what is no file, a make, a begin or a rename to a path
+    /// How many calls were faulty: an append, a `set_time` or a rename of what is no file, a make, a begin or a rename to a path
     /// whose folder isn't there, a remove of a folder that isn't empty.
     pub fn faulty_calls(&self) -> u64
         ensures { result ≡ (⟦<MemDataFolder as DataFolder>⟧.state self.now).faulty_calls }
@@ -152,6 +152,20 @@ impl DataFolder for MemDataFolder {
             return Err(DeviceError::Failed);
         }
         Ok(list_nodes(alloc, &self.nodes)?)
+    }
+
+    fn list_folder(&mut self, alloc: Global, folder: &str) -> Result<Vec<FolderEntry>, DeviceError>
+        ensures listing { IfOk result (λ seen. ListsNodesWithin folder.now (nodes_at self.old.nodes) seen.items) }
+        ensures same { nodes_at self.new.nodes ≡ nodes_at self.old.nodes }
+        ensures fails { FailsWhere (is_to_fail self.old.failing) result }
+        ensures counts { self.new.failing ≡ counted self.old.failing }
+        ensures opened { self.new.opened.items ≡ self.old.opened.items }
+        ensures cause { HasCause self.old.failing.faults self.new.failing.faults result }
+    {
+        if self.failing.fails() {
+            return Err(DeviceError::Failed);
+        }
+        Ok(list_nodes_within(alloc, &self.nodes, folder)?)
     }
 
     fn read(
@@ -275,6 +289,24 @@ impl DataFolder for MemDataFolder {
             return Err(self.failing.faulty_call());
         }
         extend_file(&mut self.nodes, path, bytes)?;
+        Ok(())
+    }
+
+    fn set_time(&mut self, path: &str, time: u64) -> Result<(), DeviceError>
+        ensures ok { OnOk result (nodes_at self.new.nodes ≡ timed_file path.now time (nodes_at self.old.nodes)) }
+        ensures err { OnErr result (nodes_at self.new.nodes ≡ nodes_at self.old.nodes) }
+        ensures fails { FailsUnless (is_file (nodes_at self.old.nodes path.now)) self.old.failing result }
+        ensures counts { self.new.failing ≡ tried (is_file (nodes_at self.old.nodes path.now)) self.old.failing }
+        ensures opened { self.new.opened.items ≡ self.old.opened.items }
+        ensures cause { HasCause self.old.failing.faults self.new.failing.faults result }
+    {
+        if self.failing.fails() {
+            return Err(DeviceError::Failed);
+        }
+        if !has_file(&self.nodes, path) {
+            return Err(self.failing.faulty_call());
+        }
+        set_file_time(&mut self.nodes, path, time);
         Ok(())
     }
 

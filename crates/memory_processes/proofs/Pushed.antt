@@ -17,7 +17,7 @@ use Rattle.base_model.specs.Text.{Text, In}
 use Rattle.base_model.specs.Names.{archive_folder}
 use Rattle.base_model.specs.Repository.{Archived, Stanza, Repository, id_of, IsSound, IsSoundStanza}
 use Rattle.base_model.specs.Represents.{Represents, HasStanza, IsArchivePlace, IsArchiveFile}
-use Rattle.base_model.specs.Steps.{Step, Named, ArchivePushAsync, after, after_all, steps_of, push_of}
+use Rattle.base_model.specs.Steps.{Step, Named, ArchivePushAsync, after, after_all, steps_of, push_of, has_other}
 use Rattle.base_model.specs.Log.{Done, IsDone, Reaches, KeepsRepository}
 use Rattle.base_model.specs.Now.{NowRepresents}
 use Rattle.base_model.specs.Steady.{IsSteady, IsBegun, EachImage, PassesOnly}
@@ -34,13 +34,14 @@ use Rattle.archive_lookup.specs.declared.stored.fault.ArchiveFault.TheVariants.{
 use Rattle.archive_store.specs.declared.pushing.Pushed.{Pushed}
 use Rattle.archive_store.specs.declared.pushing.Pushed.TheVariants.{New, Same}
 use Rattle.archive_lookup.specs.Causes.{OnFinding}
-use Rattle.archive_lookup.specs.Stored.{archived_file, archive_path, Stores, StoresOnly, ChangesArchive}
+use Rattle.archive_lookup.specs.Stored.{archived_file, archive_path, Stores, StoresNone, StoresOnly, ChangesArchive}
 use Rattle.archive_lookup.specs.Turns.{GoesByTurn, IsUnder}
 use Rattle.memory_processes.specs.declared.pushing.PushResult.{PushResult}
 use Rattle.memory_processes.specs.Pushing.{went_of, was_tried, MayEnd, IfStored, turn_of, HasFile}
 use Rattle.memory_processes.specs.Others.{idle_turn}
 use Rattle.archive_store.specs.Pushes.{LeavesPart, LeavesAll, LeavesFile}
 use Rattle.archive_store.specs.Still.{IsStill, rests_none}
+use Rattle.archive_store.proofs.FilePushed.{pushed_unlike}
 use Rattle.archive_store.proofs.Placed.{still_only}
 use Rattle.archive_store.proofs.PushedEach.{part_now, part_moves, all_now, all_steady}
 
@@ -197,9 +198,10 @@ module _ (stanza : Text) (id : ArchiveId) (first segment : Segment) (bytes : Tex
     steady : (s : Stanza) → IsSteady stanza (Some s) b → IsSome b.now → IsSteady stanza (Some (after_all s (push_of s (archived_file id (Whole segment) bytes)))) d
     steady = all_steady stanza id (Whole segment) bytes b d leaves all
 
-    -- where it was pushed
-    pub turn_ended : GoesByTurn stanza (turn_of id segment bytes true true) v d
-    turn_ended = record {
+    -- where it was pushed, and no other is archived
+    pub turn_ended : ((s : Stanza) → IsSome b.now → NowRepresents stanza (Some s) b.now → has_other (archived_file id (Whole segment) bytes) s.archived ≡ false)
+        → GoesByTurn stanza (turn_of id segment bytes true true) v d
+    turn_ended off = record {
       does = record {
         known = λ some. leaves.now.known (some_b some);
         does = λ r from some now. whole_of r some now (stanza_at r some now);
@@ -208,7 +210,7 @@ module _ (stanza : Text) (id : ArchiveId) (first segment : Segment) (bytes : Tex
         keeps = λ q log some keeps.
             let x = at q log keeps some in
             whole_keeps stanza (ArchivePushAsync (turn_with id n true ∷ [])) q log v b rests same keeps (begun_at q log x) (sound_at true q log x) (IsPartOfPush stanza x.stanza_is a) (push_is_turn id n x.stanza_is stanza true) d (moves x.stanza_is x.steady (some_b some))
-            (turn_steady id n x.stanza_is stanza d (steady x.stanza_is x.steady (some_b some)));
+            (turn_steady id n x.stanza_is stanza d (off x.stanza_is (some_b some) (record { represents = λ f is. x.steady.represents f (inl is) })) (steady x.stanza_is x.steady (some_b some)));
       };
       between = between true;
       under = under true;
@@ -218,7 +220,8 @@ module _ (stanza : Text) (id : ArchiveId) (first segment : Segment) (bytes : Tex
             → (done : List Step) × IsDone true done (steps_of (ArchivePushAsync (turn_with id n true ∷ [])) r) × NowRepresents stanza (after r done) d.now
         whole_of r some now x =
             let P : Repository → Type 0 = λ k. (done : List Step) × IsDone true done (steps_of (ArchivePushAsync (turn_with id n true ∷ [])) k) × NowRepresents stanza (after k done) d.now in
-            subst P (sym x.1) (turn_now_whole id n x.0 stanza d.now (done x.0 (some_b some) (now_b (Some x.0) (subst (λ (k : Repository). NowRepresents stanza k v.now) x.1 now))))
+            let here = now_b (Some x.0) (subst (λ (k : Repository). NowRepresents stanza k v.now) x.1 now) in
+            subst P (sym x.1) (turn_now_whole id n x.0 stanza d.now (off x.0 (some_b some) here) (done x.0 (some_b some) here))
 
     -- then all that is left has a file of its sum
     module _ (place : IsArchivePlace id (Whole segment) (sha1 bytes)) (there : (f : Content) → d.now ≡ Some f → IsSome (f (archive_path stanza id (Whole segment) (sha1 bytes)))) where
@@ -265,12 +268,15 @@ module _ (stanza : Text) (id : ArchiveId) (first segment : Segment) (bytes : Tex
   refused_none Disk ended h may = subst (λ (e : Bool). GoesByTurn stanza (turn_of id segment bytes true e) v d) (sym may) tried
   refused_none NoMemory ended h may = subst (λ (e : Bool). GoesByTurn stanza (turn_of id segment bytes true e) v d) (sym may) tried
 
-  pub turn_by : (r : Result Pushed ArchiveFault) → OnOk r (LeavesFile stanza id (Whole segment) (Some bytes) b d)
+  pub turn_by : (place : (sum : Text) → IsSum sum → IsArchivePlace id (Whole segment) sum) (r : Result Pushed ArchiveFault) → OnOk r (LeavesFile stanza id (Whole segment) (Some bytes) b d)
+      → IfOk r (λ p. p ≡ New → IfSome b.now (StoresNone stanza id (Whole segment)))
+      → IfOk r (λ p. p ≡ Same → IfSome b.now (λ f. StoresOnly stanza id (Whole segment) f (sha1 bytes)) × (d.now ≡ b.now))
       → IfErr r (λ e. OnFinding e (IsStill b d))
       → (ended : Bool) → MayEnd (went_of r) ended → GoesByTurn stanza (turn_of id segment bytes (was_tried (went_of r)) ended) v d
-  turn_by (Ok p) file refused true may = turn_ended stanza id first segment bytes v b d rests same begun fits stored leaves file.all
-  turn_by (Ok p) file refused false may = tried
-  turn_by (Err fault) file refused ended may = refused_none fault ended refused may
+  turn_by place (Ok p) file new kept refused true may = turn_ended stanza id first segment bytes v b d rests same begun fits stored leaves file.all
+      (pushed_unlike stanza id (Whole segment) place bytes b.now p new (λ e. (kept e).0))
+  turn_by place (Ok p) file new kept refused false may = tried
+  turn_by place (Err fault) file new kept refused ended may = refused_none fault ended refused may
 
   module _ (place : IsArchivePlace id (Whole segment) (sha1 bytes)) where
     name_there : (p : Pushed) → (p ≡ New → NowChanges (AllOf ((archive_path stanza id (Whole segment) (sha1 bytes), bytes) ∷ [])) b.now d.now)

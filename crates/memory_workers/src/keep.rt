@@ -72,7 +72,7 @@ impl<'a> MemPartSink<'a> {
     /// It holds all bytes, and nothing of the jobs yet. `fail` has the numbers of the calls that are to fail, the first
     /// being 0.
     pub fn new(alloc: Global, jobs: &'a [Job], fail: Vec<u64>) -> Result<Self, AllocError>
-        ensures jobs { IfOk result (λ k. (⟦<MemPartSink<'a> as PartSink<()>>⟧.kept k tt).jobs ≡ map job_of jobs.now) }
+        ensures jobs { IfOk result (λ k. (state_of k).jobs ≡ map job_of jobs.now) }
         ensures empty { IfOk result (λ k. HoldsNothing (map job_of jobs.now) (state_of k)) }
         ensures holds { IfOk result (λ k. k.holds ≡ true) }
         ensures counts { IfOk result (λ k. k.failing ≡ record { fail = fail; calls = 0; faults = 0 }) }
@@ -88,7 +88,7 @@ impl<'a> MemPartSink<'a> {
 
     /// It counts the bytes, and has none of the jobs yet. No call fails.
     pub fn counting(alloc: Global, jobs: &'a [Job]) -> Result<Self, AllocError>
-        ensures jobs { IfOk result (λ k. (⟦<MemPartSink<'a> as PartSink<()>>⟧.kept k tt).jobs ≡ map job_of jobs.now) }
+        ensures jobs { IfOk result (λ k. (state_of k).jobs ≡ map job_of jobs.now) }
         ensures empty { IfOk result (λ k. HoldsNothing (map job_of jobs.now) (state_of k)) }
         ensures holds { IfOk result (λ k. k.holds ≡ false) }
         ensures counts { IfOk result (λ k. IsUnfailing k.failing) }

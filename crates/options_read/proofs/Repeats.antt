@@ -7,7 +7,8 @@ use Rattle.repo_ini.specs.declared.config.ConfigLine.{ConfigLine}
 use Rattle.repo_ini.specs.Views.{setting_of, settings_of}
 use Rattle.options_table.specs.declared.table.Opt.{Opt}
 use Rattle.options_read.specs.Faults.{Fault, option_repeated}
-use Rattle.options_read.specs.Settings.{is_known, is_set, none_twice}
+use Rattle.options_read.specs.Settings.{is_set, none_twice}
+use Rattle.options_read.specs.Words.{is_single}
 
 abbrev pub Answer : Type 0
 Answer = Result (Unit {0}) Fault
@@ -17,10 +18,10 @@ Answer = Result (Unit {0}) Fault
 abbrev after : (table : List Opt) (before : List Setting) (s : Setting) (ss : List Setting) → Bool → Answer
 after table before s ss b = cond b (Err (option_repeated s.key)) (none_twice table (before ++ s ∷ []) ss)
 
-repeats : (table : List Opt) (before : List Setting) (s : Setting) (ss : List Setting) (all : Answer) → none_twice table before (s ∷ ss) ≡ all → (is_known table s.key && is_set before s.section s.key) ≡ true → all ≡ Err (option_repeated s.key)
+repeats : (table : List Opt) (before : List Setting) (s : Setting) (ss : List Setting) (all : Answer) → none_twice table before (s ∷ ss) ≡ all → (is_single table s.key && is_set before s.section s.key) ≡ true → all ≡ Err (option_repeated s.key)
 repeats table before s ss all h e = sym h ∙ ap (after table before s ss) e
 
-goes_on : (table : List Opt) (before : List Setting) (s : Setting) (ss : List Setting) (all : Answer) → none_twice table before (s ∷ ss) ≡ all → (is_known table s.key && is_set before s.section s.key) ≡ false → none_twice table (before ++ s ∷ []) ss ≡ all
+goes_on : (table : List Opt) (before : List Setting) (s : Setting) (ss : List Setting) (all : Answer) → none_twice table before (s ∷ ss) ≡ all → (is_single table s.key && is_set before s.section s.key) ≡ false → none_twice table (before ++ s ∷ []) ss ≡ all
 goes_on table before s ss all h e = sym (ap (after table before s ss) e) ∙ h
 
 -- ---- the line at a place
@@ -35,7 +36,7 @@ abbrev pub Reads : List Opt → List ConfigLine → ℕ → Answer → Type 0
 Reads table lines i all = none_twice table (settings_of (take i lines)) (settings_of (drop i lines)) ≡ all
 
 abbrev pub is_repeated : List Opt → List ConfigLine → ℕ → ConfigLine → Bool
-is_repeated table lines i l = is_known table (string_bytes l.key) && is_set (settings_of (take i lines)) (string_bytes l.section) (string_bytes l.key)
+is_repeated table lines i l = is_single table (string_bytes l.key) && is_set (settings_of (take i lines)) (string_bytes l.section) (string_bytes l.key)
 
 repeats_at : (table : List Opt) (lines : List ConfigLine) (i : ℕ) (d : ConfigLine) (all : Answer) → i < length lines → Reads table lines i all → is_repeated table lines i (get_or lines i d) ≡ true → all ≡ Err (option_repeated (string_bytes (get_or lines i d).key))
 repeats_at table lines i d all h read e =
@@ -53,15 +54,15 @@ pub record Represents (lines : List ConfigLine) (i : ℕ) (l : ConfigLine) (sect
   pub section_is : section ≡ string_bytes l.section
   pub key_is : key ≡ string_bytes l.key
 
-tested : (table : List Opt) (lines : List ConfigLine) (i : ℕ) (l : ConfigLine) (section key : List ℕ) → Represents lines i l section key → (is_known table key && is_set (settings_of (take i lines)) section key) ≡ is_repeated table lines i (get_or lines i l)
+tested : (table : List Opt) (lines : List ConfigLine) (i : ℕ) (l : ConfigLine) (section key : List ℕ) → Represents lines i l section key → (is_single table key && is_set (settings_of (take i lines)) section key) ≡ is_repeated table lines i (get_or lines i l)
 tested table lines i l section key s =
-    ap₂ (λ (a b : List ℕ). is_known table b && is_set (settings_of (take i lines)) a b) s.section_is s.key_is ∙ ap (is_repeated table lines i) s.line
+    ap₂ (λ (a b : List ℕ). is_single table b && is_set (settings_of (take i lines)) a b) s.section_is s.key_is ∙ ap (is_repeated table lines i) s.line
 
-pub known_twice : (table : List Opt) (lines : List ConfigLine) (i : ℕ) (l : ConfigLine) (section key : List ℕ) (all : Answer) → Represents lines i l section key → Reads table lines i all → (is_known table key && is_set (settings_of (take i lines)) section key) ≡ true → all ≡ Err (option_repeated (string_bytes l.key))
+pub known_twice : (table : List Opt) (lines : List ConfigLine) (i : ℕ) (l : ConfigLine) (section key : List ℕ) (all : Answer) → Represents lines i l section key → Reads table lines i all → (is_single table key && is_set (settings_of (take i lines)) section key) ≡ true → all ≡ Err (option_repeated (string_bytes l.key))
 known_twice table lines i l section key all s read e =
     repeats_at table lines i l all s.within read (sym (tested table lines i l section key s) ∙ e) ∙ ap (λ l. Err (option_repeated (string_bytes l.key))) (sym s.line)
 
-pub known_once : (table : List Opt) (lines : List ConfigLine) (i : ℕ) (l : ConfigLine) (section key : List ℕ) (all : Answer) → Represents lines i l section key → Reads table lines i all → (is_known table key && is_set (settings_of (take i lines)) section key) ≡ false → Reads table lines (i + 1) all
+pub known_once : (table : List Opt) (lines : List ConfigLine) (i : ℕ) (l : ConfigLine) (section key : List ℕ) (all : Answer) → Represents lines i l section key → Reads table lines i all → (is_single table key && is_set (settings_of (take i lines)) section key) ≡ false → Reads table lines (i + 1) all
 known_once table lines i l section key all s read e =
     let next : suc i ≡ i + 1 = omega arith in
     subst (λ n. Reads table lines n all) next (goes_on_at table lines i l all s.within read (sym (tested table lines i l section key s) ∙ e))

@@ -5,7 +5,7 @@ use Rattle.options_read.specs.declared.resolve.Command.{Command}
 use Rattle.options_read.specs.declared.usage.Usage.{Usage}
 use Rattle.options_read.specs.Faults.{Fault}
 use Rattle.options_read.specs.Filled.{AreOptions}
-use Rattle.options_read.specs.Settings.{Resolved, value, argument}
+use Rattle.options_read.specs.Settings.{Resolved}
 use Rattle.options_read.specs.Sources.{source_view}
 use Rattle.options_read.specs.Views.{Fails}
 
@@ -23,7 +23,7 @@ pub record IsCommand (c : Command) (s : Resolved) : Type 0 where
   pub verb : c.verb ≡ s.source.verb
   pub stanza : string_bytes c.stanza ≡ s.stanza
   pub given : map string_bytes c.given.items ≡ s.parameters
-  pub options : AreOptions c.options (value s.source) (argument s.source)
+  pub options : AreOptions c.options s.source
   pub warnings : map string_bytes c.warnings.items ≡ s.warnings
 
 -- the command is the one that is resolved, and a fault is its fault

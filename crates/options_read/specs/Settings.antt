@@ -1,5 +1,5 @@
 -- The value in force of each option, and the first fault of the arguments and the configuration.
-use Rattle.std.specs.Prelude.{ℕ, ◌&&◌, ◌==◌, not, Bool, true, false, min, List, [], ◌∷◌, ◌++◌, length, map, codes, bytes_eq, is_some, is_none, Option, Some, None, option_map, option_and_then, Result, Ok, Err, if◌then◌else◌}
+use Rattle.std.specs.Prelude.{ℕ, ◌&&◌, ◌||◌, unwrap_or, ◌==◌, not, Bool, true, false, min, List, [], ◌∷◌, ◌++◌, length, map, codes, bytes_eq, is_some, is_none, Option, Some, None, option_map, option_and_then, Result, Ok, Err, if◌then◌else◌}
 use Rattle.std.specs.List.{list_any, filter, find}
 use Rattle.std.specs.Str.{is_utf8}
 use Rattle.std.specs.Option.{option_map_or, option_or}
@@ -8,14 +8,15 @@ use Rattle.repo_ini.specs.Config.{Setting}
 use Rattle.repo_ini.specs.Config as config
 use Rattle.options_table.specs.declared.table.TheConstants.{TABLE, VERBS}
 use Rattle.options_table.specs.declared.table.Opt.{Opt}
+use Rattle.options_table.specs.declared.table.Opt.TheVariants.{RestoreType}
 use Rattle.options_table.specs.declared.table.Place.{Place}
 use Rattle.options_table.specs.declared.table.Place.TheVariants.{CommandLine, Anywhere}
 use Rattle.options_table.specs.declared.table.Verb.{Verb}
-use Rattle.options_table.specs.declared.table.Verb.TheVariants.{StanzaCreate, ArchivePush, ArchivePushAsync, ArchiveGet, ArchiveGetAsync, Backup, Expire, Restore, Verify, Info, Rehearse}
+use Rattle.options_table.specs.declared.table.Verb.TheVariants.{StanzaCreate, StanzaUpgrade, ArchivePush, ArchivePushAsync, ArchiveGet, ArchiveGetAsync, Backup, Expire, Restore, Verify, Info, Rehearse}
 use Rattle.options_read.specs.Faults.{Fault, command_missing, command_unknown, option_repeated, option_value, option_missing, option_not_for, config_syntax, parameter_count, parameter_utf8, ◌>>=◌}
-use Rattle.options_table.specs.Table.{row, verb_word, is_for, fallback_text, is_required}
+use Rattle.options_table.specs.Table.{row, verb_word, is_for, fallback_text, is_required, types_of}
 use Rattle.options_table.specs.Values.{Value, value_of}
-use Rattle.options_read.specs.Words.{Words, read_arguments}
+use Rattle.options_read.specs.Words.{Words, read_arguments, is_single}
 
 -- ---- the value in force
 
@@ -46,17 +47,52 @@ value_configured CommandLine s name = None
 value_configured Anywhere s name = value_among s.settings s.sections name
 
 -- what the arguments state, or else the configuration, where the command has the option
-abbrev pub known : Source → Opt → Option Text
-known s o = if is_for s.verb o then option_or (value_given s.given (row o).name)
+abbrev pub stated : Source → Opt → Option Text
+stated s o = if is_for s.verb o then option_or (value_given s.given (row o).name)
     (value_configured (row o).place s (row o).name) else None
 
--- the text in force: what is given, or else the default
+-- the type of restore in force
+abbrev pub type_in : Source → Text
+type_in s = unwrap_or (option_or (stated s RestoreType) (fallback_text (row RestoreType).fallback)) []
+
+-- the option isn't bound to other types of restore than the one in force
+abbrev pub suits : Source → Opt → Bool
+suits s o = (length (types_of o) == 0) || list_any (λ t. bytes_eq t (type_in s)) (types_of o)
+
+-- the text in force: what is given, or else the default; none of an option that is bound to other types of restore
 unfoldable pub in_force : Source → Opt → Option Text
-in_force s o = option_or (known s o) (fallback_text (row o).fallback)
+in_force s o = if suits s o then option_or (stated s o) (fallback_text (row o).fallback) else None
 
 -- the value in force
 unfoldable pub value : Source → Opt → Option Value
 value s o = option_and_then (value_of (row o).kind) (in_force s o)
+
+-- all of the first list, or else of the second
+abbrev pub or_those : List Text → List Text → List Text
+or_those [] others = others
+or_those (t ∷ ts) others = t ∷ ts
+
+-- all values that the arguments give an option, in their order
+abbrev pub all_given : List (Text × Text) → Text → List Text
+all_given given name = map (λ g. g.1) (filter (λ g. bytes_eq g.0 name) given)
+
+abbrev pub all_in : List Setting → Text → Text → List Text
+all_in settings section key = map (λ s. s.value) (filter (λ s. bytes_eq s.section section && bytes_eq s.key key) settings)
+
+-- all of the strongest section that has the key
+abbrev pub all_among : List Setting → List Text → Text → List Text
+all_among settings [] key = []
+all_among settings (s ∷ ss) key = or_those (all_in settings s key) (all_among settings ss key)
+
+abbrev pub all_configured : Place → Source → Text → List Text
+all_configured CommandLine s name = []
+all_configured Anywhere s name = all_among s.settings s.sections name
+
+-- all that is in force of an option that may be given more than once: what the arguments state, or else the
+-- configuration, where the command has the option, and the type of restore too
+unfoldable pub stated_all : Source → Opt → List Text
+stated_all s o = if is_for s.verb o && suits s o then or_those (all_given s.given (row o).name)
+    (all_configured (row o).place s (row o).name) else []
 
 -- what the arguments say of an option, whatever the configuration says
 abbrev pub argument : Source → Opt → Option Text
@@ -98,27 +134,37 @@ is_known table name = list_any (λ o. bytes_eq (row o).name name) table
 abbrev pub is_set : List Setting → Text → Text → Bool
 is_set settings section key = list_any (λ s. bytes_eq s.section section && bytes_eq s.key key) settings
 
--- no section has a known key twice; the first list is what comes before the second
+-- no section has a key twice that it may have once alone; the first list is what comes before the second
 abbrev pub none_twice : List Opt → List Setting → List Setting → Result (Unit {0}) Fault
 none_twice table before [] = Ok tt
-none_twice table before (s ∷ ss) = if is_known table s.key
+none_twice table before (s ∷ ss) = if is_single table s.key
     && is_set before s.section s.key then Err (option_repeated s.key) else none_twice table (before ++ s ∷ []) ss
 
+-- what is in force is none of the option's values, or one of all that are stated isn't
 abbrev pub is_wrong : Source → Opt → Bool
-is_wrong s o = is_some (in_force s o) && is_none (value s o)
+is_wrong s o = (is_some (in_force s o) && is_none (value s o))
+    || list_any (λ t. is_none (value_of (row o).kind t)) (stated_all s o)
 
 abbrev pub none_wrong : Source → List Opt → Result (Unit {0}) Fault
 none_wrong s table = refused (is_wrong s) (λ o. option_value (row o).name) table
 
 abbrev pub is_lacking : Source → Opt → Bool
-is_lacking s o = is_for s.verb o && is_required (row o).fallback && is_none (in_force s o)
+is_lacking s o = is_for s.verb o && suits s o && is_required (row o).fallback && is_none (in_force s o)
 
 abbrev pub none_lacking : Source → List Opt → Result (Unit {0}) Fault
 none_lacking s table = refused (is_lacking s) (λ o. option_missing (row o).name) table
 
+-- the arguments have an option of this name that the command has, for the type in force
+abbrev pub is_suited : Source → List Opt → Text → Bool
+is_suited s table name = list_any (λ o. bytes_eq (row o).name name && is_for s.verb o && suits s o) table
+
+abbrev pub each_suits : Source → List Opt → List (Text × Text) → Result (Unit {0}) Fault
+each_suits s table given = refused (λ g. not (is_suited s table g.0)) (λ g. option_not_for g.0) given
+
 -- how many parameters a command has
 abbrev pub parameters_for : Verb → ℕ
 parameters_for StanzaCreate = 0
+parameters_for StanzaUpgrade = 0
 parameters_for ArchivePush = 1
 parameters_for ArchivePushAsync = 0
 parameters_for ArchiveGet = 2
@@ -138,6 +184,7 @@ count_of verb n = if n == parameters_for verb then Ok tt else Err (parameter_cou
 -- the name of a command in sections; the asynchronous forms have that of the other form
 abbrev pub section_word : Verb → Text
 section_word StanzaCreate = codes "stanza-create"
+section_word StanzaUpgrade = codes "stanza-upgrade"
 section_word ArchivePush = codes "archive-push"
 section_word ArchivePushAsync = codes "archive-push"
 section_word ArchiveGet = codes "archive-get"
@@ -206,6 +253,7 @@ unfoldable pub accepted : Source → List Opt → ℕ → Result (Unit {0}) Faul
 accepted source table count = do
   right ← none_wrong source table
   there ← none_lacking source table
+  suited ← each_suits source table source.given
   count_of source.verb count
 
 -- what the arguments and the configuration ask for with these commands and options, or their first fault

@@ -1,5 +1,6 @@
 -- What the code's values represent.
 use Rattle.std.specs.Prelude.{◌≡◌, ℕ, List, map, Option, option_map, String, string_bytes, Result, Ok, Err}
+use Rattle.std.specs.Borrow.{Bor}
 use Rattle.std.specs.declared.alloc.Global.{Global}
 use Rattle.base_model.specs.Text.{Text}
 use Rattle.options_read.specs.declared.arguments.Style as code_style
@@ -56,6 +57,10 @@ path_so_far found = option_map path_view found
 -- what each of the strings has
 abbrev pub texts : List (String Global) → List Text
 texts strings = map string_bytes strings
+
+-- what each of the borrowed texts has
+abbrev pub shown : List (Bor Text) → List Text
+shown borrowed = map (λ t. t.now) borrowed
 
 -- the fault is the definition's, unless memory ran out
 abbrev pub Fails : {Y : Type 0} → Usage → Result Y Fault → Type 0

@@ -1,11 +1,12 @@
 -- The arguments of a command line: options, the command, its parameters.
-use Rattle.std.specs.Prelude.{◌==◌, nat_eq, nat_lt, nat_le, Bool, true, not, List, [], ◌∷◌, ◌++◌, length, drop, codes, bytes_eq, Option, Some, None, option_map, Result, Ok, Err, if◌then◌else◌}
+use Rattle.std.specs.Prelude.{◌==◌, ◌&&◌, nat_eq, nat_le, Bool, true, not, List, [], ◌∷◌, ◌++◌, length, drop, codes, bytes_eq, Option, Some, None, option_map, Result, Ok, Err, if◌then◌else◌}
 use Rattle.base_model.specs.Text.{Text}
-use Rattle.std.specs.List.{list_any, find, starts_with, position_or_len, before_first, after_first}
+use Rattle.std.specs.List.{list_any, find, starts_with}
 use Rattle.std.specs.Option.{option_map_or}
 use Rattle.options_table.specs.declared.table.Opt.{Opt}
 use Rattle.options_table.specs.Table as table
-use Rattle.options_table.specs.Table.{OptionKind, row}
+use Rattle.options_table.specs.Table.{OptionKind, row, is_repeatable}
+use Rattle.options_table.specs.Values.{split_equals}
 use Rattle.options_read.specs.Faults.{Fault, option_unknown, option_repeated, option_value, ◌>>=◌}
 
 -- how an option takes its value: as --x and --no-x, from an argument, or from an argument or as --no-x
@@ -25,6 +26,8 @@ style_of (table.size least most) = valued
 style_of (table.time least most) = valued
 style_of table.flag = switch
 style_of (table.words allowed) = valued
+style_of (table.words_or allowed least most) = valued
+style_of table.setting = valued
 
 -- the style of the options of this name, where there are some
 abbrev pub style_named : List Opt → Text → Option Style
@@ -46,11 +49,6 @@ pub data Shape : Type 0 where
 -- the text after the prefix, where it begins so
 abbrev pub after_prefix : Text → Text → Option Text
 after_prefix prefix t = if starts_with nat_eq t prefix then Some (drop (length prefix) t) else None
-
--- the two sides of the first `=`
-abbrev pub split_equals : Text → Option (Text × Text)
-split_equals t = if nat_lt (position_or_len (λ b. b == 61) t) (length t) then Some
-    (before_first (λ b. b == 61) t, after_first (λ b. b == 61) t) else None
 
 -- an argument that names an option and a value: `--name=value`
 abbrev pub given_shape : Option Style → Text → Text → Text → Shape
@@ -131,17 +129,26 @@ abbrev pub with_word : Words → Option Text → Text → Words
 with_word w None word = record { command = Some word; parameters = w.parameters; given = w.given }
 with_word w (Some c) word = record { command = Some c; parameters = w.parameters ++ word ∷ []; given = w.given }
 
--- the arguments with one more token, or its fault
-abbrev pub add_token : Words → Token → Result Words Fault
-add_token w (unknown word) = Err (option_unknown word)
-add_token w (gives name value) = if is_given w.given name then Err (option_repeated name) else if length value
-    == 0 then Err (option_value name) else Ok (with_option w name value)
-add_token w (denies name) = if is_given w.given name then Err (option_repeated name) else Ok (with_option w name [])
-add_token w (plain word) = Ok (with_word w w.command word)
+-- the arguments, or a key in a section, may name this option once alone
+abbrev pub is_single : List Opt → Text → Bool
+is_single table name = list_any (λ o. bytes_eq (row o).name name && not (is_repeatable (row o).kind)) table
 
-abbrev pub add_tokens : Words → List Token → Result Words Fault
-add_tokens w [] = Ok w
-add_tokens w (t ∷ ts) = add_token w t >>= λ v. add_tokens v ts
+-- an option that may be there once alone is there before
+abbrev pub is_again : List Opt → Words → Text → Bool
+is_again table w name = is_single table name && is_given w.given name
+
+-- the arguments with one more token, or its fault
+abbrev pub add_token : List Opt → Words → Token → Result Words Fault
+add_token table w (unknown word) = Err (option_unknown word)
+add_token table w (gives name value) = if is_again table w name then Err (option_repeated name) else if length value
+    == 0 then Err (option_value name) else Ok (with_option w name value)
+add_token table w (denies name) = if is_again table w name then Err (option_repeated name) else Ok
+    (with_option w name [])
+add_token table w (plain word) = Ok (with_word w w.command word)
+
+abbrev pub add_tokens : List Opt → Words → List Token → Result Words Fault
+add_tokens table w [] = Ok w
+add_tokens table w (t ∷ ts) = add_token table w t >>= λ v. add_tokens table v ts
 
 abbrev pub read_arguments : List Opt → List Text → Result Words Fault
-read_arguments table words = add_tokens no_arguments (tokens table words)
+read_arguments table words = add_tokens table no_arguments (tokens table words)

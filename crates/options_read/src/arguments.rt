@@ -2,13 +2,13 @@
 
 ghost use Rattle.std.specs.Prelude.{◌≡◌, ◌++◌, ◌∷◌, [], map, option_map, string_bytes, IfOk, Ok};
 ghost use Rattle.std.specs.List.{list_any};
-ghost use Rattle.options_read.specs.Words.{plain, style_of, style_named, given_shape, denied_shape, other_shape, bare_shape, option_shape, is_plain, body_of, shape, tokens, is_given, add_token, add_tokens, read_arguments, with_option, no_arguments};
+ghost use Rattle.options_read.specs.Words.{plain, style_of, style_named, given_shape, denied_shape, other_shape, bare_shape, option_shape, is_plain, body_of, shape, tokens, is_given, is_single, is_again, add_token, add_tokens, read_arguments, with_option, no_arguments};
 ghost use Rattle.options_table.specs.Views.{kind_view};
 ghost use Rattle.options_read.specs.Views.{style_view, token_view, shape_view, arguments_view, given_view, Gives};
 
 use crate::text::{after_prefix, split_equals};
 use crate::usage::Usage;
-use options_table::{Opt, OptionKind, row_for};
+use options_table::{Opt, OptionKind, is_repeatable, row_for};
 use std::alloc::{AllocError, Global};
 
 #[derive(Clone, Copy)]
@@ -59,6 +59,12 @@ fn style_of(kind: OptionKind) -> Style
         OptionKind::Time { least: _, most: _ } => Style::Valued,
         OptionKind::Flag => Style::Switch,
         OptionKind::Words(_) => Style::Valued,
+        OptionKind::WordsOr {
+            words: _,
+            least: _,
+            most: _,
+        } => Style::Valued,
+        OptionKind::Setting => Style::Valued,
     }
 }
 
@@ -192,6 +198,21 @@ fn is_given(given: &[Given], name: &str) -> bool
     false
 }
 
+pub(crate) fn is_single(table: &[Opt], name: &str) -> bool
+    ensures { result ≡ is_single table.now name.now }
+{
+    table.iter().any(|o| {
+        let row = row_for(*o);
+        row.name == name && !is_repeatable(row.kind)
+    })
+}
+
+fn is_again(table: &[Opt], arguments: &Words, name: &str) -> bool
+    ensures { result ≡ is_again table.now (arguments_view arguments.now) name.now }
+{
+    is_single(table, name) && is_given(&arguments.given, name)
+}
+
 fn add_option(alloc: Global, mut arguments: Words, name: &str, value: &str) -> Result<Words, Usage>
     ensures { Gives arguments_view result (Ok (with_option (arguments_view arguments) name.now value.now)) }
 {
@@ -202,7 +223,7 @@ fn add_option(alloc: Global, mut arguments: Words, name: &str, value: &str) -> R
 }
 
 fn add_word(alloc: Global, mut arguments: Words, word: &str) -> Result<Words, Usage>
-    ensures { Gives arguments_view result (add_token (arguments_view arguments) (plain word.now)) }
+    ensures { Gives arguments_view result (add_token [] (arguments_view arguments) (plain word.now)) }
 {
     let word = String::from_str(alloc, word)?;
     if arguments.command.is_none() {
@@ -213,15 +234,20 @@ fn add_word(alloc: Global, mut arguments: Words, word: &str) -> Result<Words, Us
     Ok(arguments)
 }
 
-fn add_token(alloc: Global, arguments: Words, token: Token<'_>) -> Result<Words, Usage>
-    ensures { Gives arguments_view result (add_token (arguments_view arguments) (token_view token.entry)) }
+fn add_token(
+    alloc: Global,
+    table: &[Opt],
+    arguments: Words,
+    token: Token<'_>,
+) -> Result<Words, Usage>
+    ensures { Gives arguments_view result (add_token table.now (arguments_view arguments) (token_view token.entry)) }
 {
     match token {
         Token::Unknown(word) => Err(Usage::OptionUnknown {
             word: String::from_str(alloc, word)?,
         }),
         Token::Gives(name, value) => {
-            if is_given(&arguments.given, name) {
+            if is_again(table, &arguments, name) {
                 return Err(Usage::OptionRepeated {
                     name: String::from_str(alloc, name)?,
                 });
@@ -234,7 +260,7 @@ fn add_token(alloc: Global, arguments: Words, token: Token<'_>) -> Result<Words,
             add_option(alloc, arguments, name, value)
         }
         Token::Denies(name) => {
-            if is_given(&arguments.given, name) {
+            if is_again(table, &arguments, name) {
                 return Err(Usage::OptionRepeated {
                     name: String::from_str(alloc, name)?,
                 });
@@ -245,8 +271,8 @@ fn add_token(alloc: Global, arguments: Words, token: Token<'_>) -> Result<Words,
     }
 }
 
-fn add_tokens(alloc: Global, tokens: &[Token<'_>]) -> Result<Words, Usage>
-    ensures { Gives arguments_view result (add_tokens no_arguments (map token_view tokens.now)) }
+fn add_tokens(alloc: Global, table: &[Opt], tokens: &[Token<'_>]) -> Result<Words, Usage>
+    ensures { Gives arguments_view result (add_tokens table.now no_arguments (map token_view tokens.now)) }
 {
     let mut arguments = Words {
         command: None,
@@ -254,7 +280,7 @@ fn add_tokens(alloc: Global, tokens: &[Token<'_>]) -> Result<Words, Usage>
         given: Vec::new(alloc),
     };
     for token in tokens {
-        arguments = add_token(alloc, arguments, *token)?;
+        arguments = add_token(alloc, table, arguments, *token)?;
     }
     Ok(arguments)
 }
@@ -267,5 +293,5 @@ pub(crate) fn read_arguments(
     ensures { Gives arguments_view result (read_arguments table.now (map string_bytes arguments.now)) }
 {
     let found = tokens(alloc, table, arguments)?;
-    add_tokens(alloc, &found)
+    add_tokens(alloc, table, &found)
 }

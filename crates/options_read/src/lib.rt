@@ -16,7 +16,9 @@ mod source;
 mod text;
 mod usage;
 
-pub use options::{KindWord, LogWord, Options, OutputWord, RestoreWord, RetentionWord};
+pub use options::{
+    ActionWord, KindWord, LogWord, Options, OutputWord, RestoreWord, RetentionWord, TimelineWord,
+};
 pub use path::{ConfigPath, config_path};
 pub use resolve::{Command, resolve_arguments};
 pub use usage::Usage;

@@ -1,12 +1,13 @@
 //! The values in force, a field for each option.
 
-ghost use Rattle.std.specs.Prelude.{◌≡◌, option_map, string_bytes, IfOk, [], false};
-ghost use Rattle.options_read.specs.Settings.{value, argument};
+ghost use Rattle.std.specs.Prelude.{◌≡◌, map, option_map, string_bytes, IfOk, [], false};
+ghost use Rattle.options_read.specs.Settings.{value, argument, stated_all};
 ghost use Rattle.options_read.specs.Sources.{source_view};
 ghost use Rattle.options_table.specs.Views.{value_view};
-ghost use Rattle.options_read.specs.Filled.{text_in, number_in, amount_in, flag_in, or_else, kind_word, retention_word, restore_word, output_word, log_word, word_in, is_denied, AreOptions};
+ghost use Rattle.options_table.specs.declared.table.Opt.TheVariants.{TargetTimeline, RecoveryOption};
+ghost use Rattle.options_read.specs.Filled.{text_in, number_in, amount_in, flag_in, or_else, kind_word, retention_word, restore_word, action_word, timeline_word, timeline_in, output_word, log_word, word_in, is_denied, AreOptions};
 
-use crate::source::{Source, argument, value};
+use crate::source::{Source, argument, stated_all, value};
 use options_table::{Opt, Value};
 use std::alloc::{AllocError, Global};
 
@@ -33,6 +34,33 @@ pub enum RestoreWord {
     Default,
     /// `none`: no recovery settings are written.
     Plain,
+    /// Up to a moment, a position of the write-ahead log, a transaction, or a restore point.
+    Time,
+    Lsn,
+    Xid,
+    Name,
+    /// As far as the backup needs it.
+    Immediate,
+    Standby,
+}
+
+/// What a server does that has reached its target.
+#[derive(Clone, Copy, Debug, PartialEq, Eq)]
+pub enum ActionWord {
+    Pause,
+    Promote,
+    Shutdown,
+}
+
+/// The timeline along which a server recovers.
+#[derive(Clone, Copy, Debug, PartialEq, Eq)]
+pub enum TimelineWord {
+    /// The one of the backup.
+    Current,
+    /// The latest in the archive.
+    Latest,
+    /// The one of this number, which isn't 0.
+    Number(u32),
 }
 
 /// A form of the report.
@@ -103,6 +131,14 @@ pub struct Options {
     pub lock_path: String,
     /// The label of the backup that is restored; the last one where there is none.
     pub set: Option<String>,
+    /// Up to where a server recovers, as it is given: 1 to 1,024 bytes.
+    pub target: Option<String>,
+    /// Whether it stops before the target.
+    pub target_exclusive: bool,
+    pub target_action: ActionWord,
+    pub target_timeline: Option<TimelineWord>,
+    /// Further settings of the recovery, each `NAME=VALUE`, in the order in which they are given.
+    pub recovery_options: Vec<String>,
     pub expire_auto: bool,
     pub output: OutputWord,
     /// 1 to 64.
@@ -224,11 +260,58 @@ fn retention_word(text: &str) -> RetentionWord
 fn restore_word(text: &str) -> RestoreWord
     ensures { result ≡ restore_word text.now }
 {
-    if text == "none" {
-        RestoreWord::Plain
-    } else {
-        RestoreWord::Default
+    match text {
+        "none" => RestoreWord::Plain,
+        "time" => RestoreWord::Time,
+        "lsn" => RestoreWord::Lsn,
+        "xid" => RestoreWord::Xid,
+        "name" => RestoreWord::Name,
+        "immediate" => RestoreWord::Immediate,
+        "standby" => RestoreWord::Standby,
+        _ => RestoreWord::Default,
     }
+}
+
+fn action_word(text: &str) -> ActionWord
+    ensures { result ≡ action_word text.now }
+{
+    match text {
+        "promote" => ActionWord::Promote,
+        "shutdown" => ActionWord::Shutdown,
+        _ => ActionWord::Pause,
+    }
+}
+
+fn timeline_word(text: &str) -> TimelineWord
+    ensures { result ≡ timeline_word text.now }
+{
+    if text == "current" {
+        TimelineWord::Current
+    } else {
+        TimelineWord::Latest
+    }
+}
+
+fn timeline(source: &Source) -> Option<TimelineWord>
+    ensures { result ≡ timeline_in (value (source_view source.now) TargetTimeline) }
+{
+    match value(source, Opt::TargetTimeline) {
+        Some(Value::Number(n)) => Some(TimelineWord::Number(n)),
+        Some(Value::Text(word)) => Some(timeline_word(word)),
+        _ => None,
+    }
+}
+
+// All further settings in force.
+fn recovery_options(alloc: Global, source: &Source) -> Result<Vec<String>, AllocError>
+    ensures { IfOk result (λ v. map string_bytes v.items ≡ stated_all (source_view source.now) RecoveryOption) }
+{
+    let stated = stated_all(alloc, source, Opt::RecoveryOption)?;
+    let mut settings: Vec<String> = Vec::new(alloc);
+    for text in &stated {
+        settings.push(String::from_str(alloc, *text)?)?;
+    }
+    Ok(settings)
 }
 
 fn output_word(text: &str) -> OutputWord
@@ -273,7 +356,7 @@ fn is_denied(source: &Source, option: Opt) -> bool
 
 // The options, each with its value in force.
 pub(crate) fn fill(alloc: Global, source: &Source) -> Result<Options, AllocError>
-    ensures { IfOk result (λ o. AreOptions o (value (source_view source.now)) (argument (source_view source.now))) }
+    ensures { IfOk result (λ o. AreOptions o (source_view source.now)) }
 {
     Ok(Options {
         pg1_path: text(alloc, source, Opt::Pg1Path)?,
@@ -304,6 +387,11 @@ pub(crate) fn fill(alloc: Global, source: &Source) -> Result<Options, AllocError
         spool_path: text_or_empty(alloc, source, Opt::SpoolPath)?,
         lock_path: text_or_empty(alloc, source, Opt::LockPath)?,
         set: text(alloc, source, Opt::Set)?,
+        target: text(alloc, source, Opt::Target)?,
+        target_exclusive: flag(source, Opt::TargetExclusive),
+        target_action: action_word(word(source, Opt::TargetAction)),
+        target_timeline: timeline(source),
+        recovery_options: recovery_options(alloc, source)?,
         expire_auto: flag(source, Opt::ExpireAuto),
         output: output_word(word(source, Opt::Output)),
         number: number(source, Opt::Number),

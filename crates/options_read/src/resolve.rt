@@ -11,8 +11,8 @@ ghost use Rattle.options_read.specs.Views.{Gives};
 use crate::arguments::read_arguments;
 use crate::options::{Options, fill};
 use crate::rules::{
-    command_of, count_of, each_is_for, none_lacking, none_twice, none_wrong, sections_of,
-    source_of, stanza_of, unknown_keys, utf8_of,
+    command_of, count_of, each_is_for, each_suits, none_lacking, none_twice, none_wrong,
+    sections_of, source_of, stanza_of, unknown_keys, utf8_of,
 };
 use crate::source::Source;
 use crate::usage::Usage;
@@ -73,6 +73,7 @@ fn accept(alloc: Global, source: &Source, table: &[Opt], count: usize) -> Result
 {
     none_wrong(alloc, source, table)?;
     none_lacking(alloc, source, table)?;
+    each_suits(alloc, source, table)?;
     count_of(source.verb, count)
 }
 
@@ -108,7 +109,7 @@ pub(crate) fn resolve(
 ///
 /// Else the first fault. It is looked for in this order: the arguments from left to right, the command, its options,
 /// the stanza. Then come the configuration's form, a key that occurs twice in a section of it, the values in force,
-/// options without a value, the parameters.
+/// options without a value, options of another type of restore, the parameters.
 #[tactic(auto, unfolding(crate::specs::Settings::resolved_arguments))]
 pub fn resolve_arguments(
     alloc: Global,

@@ -2,12 +2,12 @@
 
 ghost use Rattle.std.specs.Prelude.{◌≡◌, ◌++◌, [], map, min, option_map, string_bytes, IfOk, OnOk};
 ghost use Rattle.repo_ini.specs.Views.{settings_of};
-ghost use Rattle.options_read.specs.Settings.{none_wrong, none_lacking, is_known, is_known_for, each_is_for, none_twice, counts, known_settings, unknown_keys, verb_named, command_of, stanza_of, utf8_of, parameters_for, count_of, section_word, sections_under, sections_of};
+ghost use Rattle.options_read.specs.Settings.{none_wrong, none_lacking, is_known, is_known_for, each_is_for, is_suited, each_suits, none_twice, counts, known_settings, unknown_keys, verb_named, command_of, stanza_of, utf8_of, parameters_for, count_of, section_word, sections_under, sections_of};
 ghost use Rattle.options_read.specs.Sources.{source_view, source_from};
 ghost use Rattle.options_read.specs.Views.{given_view, texts, Gives};
 
-use crate::arguments::Given;
-use crate::source::{Source, is_for, is_lacking, is_wrong, value_given};
+use crate::arguments::{Given, is_single};
+use crate::source::{Source, is_for, is_lacking, is_wrong, suits, value_given};
 use crate::usage::Usage;
 use base_text::text_of;
 use options_table::{Opt, Verb, row_for, verb_word};
@@ -19,7 +19,7 @@ pub(crate) fn none_wrong(alloc: Global, source: &Source, table: &[Opt]) -> Resul
     ensures { Gives (λ u. u) result (none_wrong (source_view source.now) table.now) }
 {
     for option in table {
-        if is_wrong(source, *option) {
+        if is_wrong(alloc, source, *option)? {
             return Err(Usage::OptionValue {
                 name: String::from_str(alloc, row_for(*option).name)?,
             });
@@ -73,6 +73,28 @@ pub(crate) fn each_is_for(
     Ok(())
 }
 
+fn is_suited(source: &Source, table: &[Opt], name: &str) -> bool
+    ensures { result ≡ is_suited (source_view source.now) table.now name.now }
+{
+    table.iter().any(|o| {
+        row_for(*o).name == name && is_for(source.verb, *o) && suits(source, *o)
+    })
+}
+
+// An option of another type of restore than the one in force.
+pub(crate) fn each_suits(alloc: Global, source: &Source, table: &[Opt]) -> Result<(), Usage>
+    ensures { Gives (λ u. u) result (each_suits (source_view source.now) table.now (source_view source.now).given) }
+{
+    for g in &source.given {
+        if !is_suited(source, table, g.name.as_str()) {
+            return Err(Usage::OptionNotFor {
+                name: g.name.clone()?,
+            });
+        }
+    }
+    Ok(())
+}
+
 // A configuration may be long, so the keys so far are kept as a set.
 pub(crate) fn none_twice(alloc: Global, table: &[Opt], lines: &[ConfigLine]) -> Result<(), Usage>
     ensures { Gives (λ u. u) result (none_twice table.now [] (settings_of lines.now)) }
@@ -80,7 +102,7 @@ pub(crate) fn none_twice(alloc: Global, table: &[Opt], lines: &[ConfigLine]) -> 
     let mut seen: HashSet<(&str, &str)> = HashSet::new(alloc);
     for line in lines {
         let is_new = seen.insert((line.section.as_str(), line.key.as_str()))?;
-        if !is_new && is_known(table, line.key.as_str()) {
+        if !is_new && is_single(table, line.key.as_str()) {
             return Err(Usage::OptionRepeated {
                 name: line.key.clone()?,
             });
@@ -234,6 +256,7 @@ fn section_word(verb: Verb) -> &'static str
 {
     match verb {
         Verb::StanzaCreate => "stanza-create",
+        Verb::StanzaUpgrade => "stanza-upgrade",
         Verb::ArchivePush => "archive-push",
         Verb::ArchivePushAsync => "archive-push",
         Verb::ArchiveGet => "archive-get",

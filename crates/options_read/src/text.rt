@@ -1,7 +1,8 @@
 //! Parts of a text.
 
 ghost use Rattle.std.specs.Prelude.{◌≡◌, option_map};
-ghost use Rattle.options_read.specs.Words.{after_prefix, split_equals};
+ghost use Rattle.options_read.specs.Words.{after_prefix};
+ghost use Rattle.options_table.specs.Values.{split_equals};
 
 pub(crate) fn after_prefix<'a>(prefix: &str, text: &'a str) -> Option<&'a str>
     ensures { option_map (λ t. t.now) result ≡ after_prefix prefix.now text.now }

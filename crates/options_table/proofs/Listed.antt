@@ -3,7 +3,7 @@ use Rattle.std.proofs.Common.{arith, refl}
 use Rattle.std.specs.List.{Contains}
 use Rattle.options_table.specs.declared.table.TheConstants.{TABLE}
 use Rattle.options_table.specs.declared.table.Opt.{Opt}
-use Rattle.options_table.specs.declared.table.Opt.TheVariants.{Stanza, Pg1Path, Pg1Port, Pg1SocketPath, Pg1User, Pg1Database, Repo1Path, Repo1Type, Repo1CipherType, CompressType, Repo1RetentionFull, Repo1RetentionFullType, Repo1RetentionDiff, Repo1RetentionArchive, Repo1RetentionArchiveType, Repo1Bundle, Repo1BundleSize, Repo1BundleLimit, ProcessMax, BackupType, RestoreType, Delta, Online, StartFast, ArchiveTimeout, ArchiveAsync, ArchiveGetQueueMax, SpoolPath, LockPath, Set, ExpireAuto, Output, Number, Config, LogLevelConsole, LogLevelFile, LogLevelStderr, LogPath, LogTimestamp, BufferSize, CompressLevel, CompressLevelNetwork, DbTimeout, ProtocolTimeout, IoTimeout, ArchiveModeCheck}
+use Rattle.options_table.specs.declared.table.Opt.TheVariants.{Stanza, Pg1Path, Pg1Port, Pg1SocketPath, Pg1User, Pg1Database, Repo1Path, Repo1Type, Repo1CipherType, CompressType, Repo1RetentionFull, Repo1RetentionFullType, Repo1RetentionDiff, Repo1RetentionArchive, Repo1RetentionArchiveType, Repo1Bundle, Repo1BundleSize, Repo1BundleLimit, ProcessMax, BackupType, RestoreType, Delta, Online, StartFast, ArchiveTimeout, ArchiveAsync, ArchiveGetQueueMax, SpoolPath, LockPath, Set, ExpireAuto, Output, Number, Config, LogLevelConsole, LogLevelFile, LogLevelStderr, LogPath, LogTimestamp, BufferSize, CompressLevel, CompressLevelNetwork, DbTimeout, ProtocolTimeout, IoTimeout, ArchiveModeCheck, Target, TargetExclusive, TargetAction, TargetTimeline, RecoveryOption}
 
 pub listed : (o : Opt) → Contains TABLE o
 listed Stanza = (0, omega arith, refl)
@@ -52,3 +52,8 @@ listed DbTimeout = (42, omega arith, refl)
 listed ProtocolTimeout = (43, omega arith, refl)
 listed IoTimeout = (44, omega arith, refl)
 listed ArchiveModeCheck = (45, omega arith, refl)
+listed Target = (46, omega arith, refl)
+listed TargetExclusive = (47, omega arith, refl)
+listed TargetAction = (48, omega arith, refl)
+listed TargetTimeline = (49, omega arith, refl)
+listed RecoveryOption = (50, omega arith, refl)

@@ -4,11 +4,11 @@ use Rattle.std.specs.Prelude.{◌≡◌, ◌⊎◌, ◌==◌, ℕ, Bool, true, f
 use Rattle.std.specs.List.{list_any}
 use Rattle.base_model.specs.Text.{Text}
 use Rattle.options_table.specs.declared.table.Verb.{Verb}
-use Rattle.options_table.specs.declared.table.Verb.TheVariants.{StanzaCreate, ArchivePush, ArchivePushAsync, ArchiveGet, ArchiveGetAsync, Backup, Expire, Restore, Verify, Info, Rehearse}
+use Rattle.options_table.specs.declared.table.Verb.TheVariants.{StanzaCreate, StanzaUpgrade, ArchivePush, ArchivePushAsync, ArchiveGet, ArchiveGetAsync, Backup, Expire, Restore, Verify, Info, Rehearse}
 use Rattle.options_table.specs.declared.table.Place.{Place}
 use Rattle.options_table.specs.declared.table.Place.TheVariants.{CommandLine, Anywhere}
 use Rattle.options_table.specs.declared.table.Opt.{Opt}
-use Rattle.options_table.specs.declared.table.Opt.TheVariants.{Stanza, Pg1Path, Pg1Port, Pg1SocketPath, Pg1User, Pg1Database, Repo1Path, Repo1Type, Repo1CipherType, CompressType, Repo1RetentionFull, Repo1RetentionFullType, Repo1RetentionDiff, Repo1RetentionArchive, Repo1RetentionArchiveType, Repo1Bundle, Repo1BundleSize, Repo1BundleLimit, ProcessMax, BackupType, RestoreType, Delta, Online, StartFast, ArchiveTimeout, ArchiveAsync, ArchiveGetQueueMax, SpoolPath, LockPath, Set, ExpireAuto, Output, Number, Config, LogLevelConsole, LogLevelFile, LogLevelStderr, LogPath, LogTimestamp, BufferSize, CompressLevel, CompressLevelNetwork, DbTimeout, ProtocolTimeout, IoTimeout, ArchiveModeCheck}
+use Rattle.options_table.specs.declared.table.Opt.TheVariants.{Stanza, Pg1Path, Pg1Port, Pg1SocketPath, Pg1User, Pg1Database, Repo1Path, Repo1Type, Repo1CipherType, CompressType, Repo1RetentionFull, Repo1RetentionFullType, Repo1RetentionDiff, Repo1RetentionArchive, Repo1RetentionArchiveType, Repo1Bundle, Repo1BundleSize, Repo1BundleLimit, ProcessMax, BackupType, RestoreType, Delta, Online, StartFast, ArchiveTimeout, ArchiveAsync, ArchiveGetQueueMax, SpoolPath, LockPath, Set, ExpireAuto, Output, Number, Config, LogLevelConsole, LogLevelFile, LogLevelStderr, LogPath, LogTimestamp, BufferSize, CompressLevel, CompressLevelNetwork, DbTimeout, ProtocolTimeout, IoTimeout, ArchiveModeCheck, Target, TargetExclusive, TargetAction, TargetTimeline, RecoveryOption}
 
 -- which values an option takes
 pub data OptionKind : Type 0 where
@@ -26,6 +26,10 @@ pub data OptionKind : Type 0 where
   -- y or n
   flag : OptionKind
   words : (allowed : List Text) → OptionKind
+  -- one of the words, or a whole number
+  words_or : (allowed : List Text) (least most : ℕ) → OptionKind
+  -- the name and the value of one of the server's settings
+  setting : OptionKind
 
 -- the default
 pub data Fallback : Type 0 where
@@ -50,9 +54,10 @@ abbrev pub word_option : Text → List Verb → OptionKind → Fallback → Row
 word_option name commands kind fallback =
     record { name = name; commands = commands; place = CommandLine; kind = kind; fallback = fallback }
 
--- the commands that have an option, by letters; p and g have their asynchronous form too
+-- the commands that have an option, by letters; c has both that change a stanza's clusters, p and g have their
+-- asynchronous form too
 abbrev pub c : List Verb
-c = StanzaCreate ∷ []
+c = StanzaCreate ∷ StanzaUpgrade ∷ []
 
 abbrev pub p : List Verb
 p = ArchivePush ∷ ArchivePushAsync ∷ []
@@ -86,6 +91,14 @@ abbrev pub log_levels : List Text
 log_levels = codes "off" ∷ codes "error" ∷ codes "warn" ∷ codes "info" ∷ codes "detail" ∷ codes "debug"
     ∷ codes "trace" ∷ []
 
+-- the types of a restore that recover up to a target (manual, "Recovery Target")
+abbrev pub to_a_target : List Text
+to_a_target = codes "time" ∷ codes "lsn" ∷ codes "xid" ∷ codes "name" ∷ []
+
+-- the types of a restore after which the server recovers by the archive
+abbrev pub recovering : List Text
+recovering = codes "default" ∷ codes "immediate" ∷ codes "standby" ∷ to_a_target
+
 unfoldable pub row : Opt → Row
 row Stanza = word_option (codes "stanza") every stanza required
 row Pg1Path = option (codes "pg1-path") (c ++ p ++ g ++ b ++ r ++ h) path required
@@ -109,7 +122,8 @@ row Repo1BundleSize = option (codes "repo1-bundle-size") b (size 1048576 1073741
 row Repo1BundleLimit = option (codes "repo1-bundle-limit") b (size 8192 1073741824) (is (codes "2MiB"))
 row ProcessMax = option (codes "process-max") (b ++ r ++ h) (number 1 64) (is (codes "1"))
 row BackupType = option (codes "type") b (words (codes "full" ∷ codes "diff" ∷ codes "incr" ∷ [])) (is (codes "incr"))
-row RestoreType = option (codes "type") r (words (codes "default" ∷ codes "none" ∷ [])) (is (codes "default"))
+row RestoreType = option (codes "type") r (words (codes "default" ∷ codes "none" ∷ to_a_target ++ codes "immediate"
+    ∷ codes "standby" ∷ [])) (is (codes "default"))
 row Delta = option (codes "delta") (b ++ r) flag (is (codes "n"))
 row Online = option (codes "online") (c ++ b) flag (is (codes "y"))
 row StartFast = option (codes "start-fast") b flag (is (codes "n"))
@@ -135,6 +149,22 @@ row DbTimeout = option (codes "db-timeout") every (time 1 604800) (is (codes "18
 row ProtocolTimeout = option (codes "protocol-timeout") every anything unset
 row IoTimeout = option (codes "io-timeout") every (time 1 86400) (is (codes "1800"))
 row ArchiveModeCheck = option (codes "archive-mode-check") every flag unset
+row Target = option (codes "target") r text required
+row TargetExclusive = option (codes "target-exclusive") r flag (is (codes "n"))
+row TargetAction = option (codes "target-action") r
+    (words (codes "pause" ∷ codes "promote" ∷ codes "shutdown" ∷ [])) (is (codes "pause"))
+row TargetTimeline = option (codes "target-timeline") r
+    (words_or (codes "current" ∷ codes "latest" ∷ []) 1 4294967295) unset
+row RecoveryOption = option (codes "recovery-option") r setting unset
+
+-- the types of a restore that use an option; none where it isn't bound to any
+abbrev pub types_of : Opt → List Text
+types_of Target = to_a_target
+types_of TargetExclusive = codes "time" ∷ codes "lsn" ∷ codes "xid" ∷ []
+types_of TargetAction = to_a_target ++ codes "immediate" ∷ []
+types_of TargetTimeline = recovering
+types_of RecoveryOption = recovering
+types_of o = []
 
 -- the groups in which the rows are looked up
 abbrev pub IsOfServer : Opt → Type 0
@@ -162,12 +192,17 @@ abbrev pub IsOfCommand : Opt → Type 0
 IsOfCommand o = (o ≡ Set) ⊎ (o ≡ ExpireAuto) ⊎ (o ≡ Output) ⊎ (o ≡ Number) ⊎ (o ≡ Config) ⊎ (o ≡ LogLevelStderr)
     ⊎ (o ≡ LogLevelFile) ⊎ (o ≡ LogPath)
 
+abbrev pub IsOfTarget : Opt → Type 0
+IsOfTarget o = (o ≡ Target) ⊎ (o ≡ TargetExclusive) ⊎ (o ≡ TargetAction) ⊎ (o ≡ TargetTimeline)
+    ⊎ (o ≡ RecoveryOption)
+
 abbrev pub IsIgnored : Opt → Type 0
 IsIgnored o = (o ≡ LogLevelConsole) ⊎ (o ≡ LogTimestamp) ⊎ (o ≡ BufferSize) ⊎ (o ≡ CompressLevel)
     ⊎ (o ≡ CompressLevelNetwork) ⊎ (o ≡ ProtocolTimeout) ⊎ (o ≡ ArchiveModeCheck)
 
 abbrev pub verb_word : Verb → Text
 verb_word StanzaCreate = codes "stanza-create"
+verb_word StanzaUpgrade = codes "stanza-upgrade"
 verb_word ArchivePush = codes "archive-push"
 verb_word ArchivePushAsync = codes "archive-push:async"
 verb_word ArchiveGet = codes "archive-get"
@@ -184,16 +219,17 @@ verb_word Rehearse = codes "rehearse"
 -- a number for each command
 abbrev pub verb_code : Verb → ℕ
 verb_code StanzaCreate = 0
-verb_code ArchivePush = 1
-verb_code ArchivePushAsync = 2
-verb_code ArchiveGet = 3
-verb_code ArchiveGetAsync = 4
-verb_code Backup = 5
-verb_code Expire = 6
-verb_code Restore = 7
-verb_code Verify = 8
-verb_code Info = 9
-verb_code Rehearse = 10
+verb_code StanzaUpgrade = 1
+verb_code ArchivePush = 2
+verb_code ArchivePushAsync = 3
+verb_code ArchiveGet = 4
+verb_code ArchiveGetAsync = 5
+verb_code Backup = 6
+verb_code Expire = 7
+verb_code Restore = 8
+verb_code Verify = 9
+verb_code Info = 10
+verb_code Rehearse = 11
 
 abbrev pub verb_eq : Verb → Verb → Bool
 verb_eq a b = verb_code a == verb_code b
@@ -213,3 +249,8 @@ abbrev pub is_required : Fallback → Bool
 is_required required = true
 is_required unset = false
 is_required (is value) = false
+
+-- an option of this kind may be given more than once
+abbrev pub is_repeatable : OptionKind → Bool
+is_repeatable setting = true
+is_repeatable kind = false

@@ -7,7 +7,7 @@ use Rattle.options_table.specs.declared.table.Fallback as code_fallback
 use Rattle.options_table.specs.declared.table.Fallback.TheVariants as fallbacks
 use Rattle.options_table.specs.declared.value.Value as code_value
 use Rattle.options_table.specs.declared.value.Value.TheVariants as held
-use Rattle.options_table.specs.Table.{OptionKind, Fallback, Row, stanza, path, text, anything, file, number, size, time, flag, words, required, unset, is}
+use Rattle.options_table.specs.Table.{OptionKind, Fallback, Row, stanza, path, text, anything, file, number, size, time, flag, words, words_or, setting, required, unset, is}
 use Rattle.options_table.specs.Values as values
 use Rattle.options_table.specs.Values.{Value}
 
@@ -23,6 +23,8 @@ kind_view (kinds.Size least most) = size least most
 kind_view (kinds.Time least most) = time least most
 kind_view kinds.Flag = flag
 kind_view (kinds.Words allowed) = words (map (λ w. w.now) allowed.now)
+kind_view (kinds.WordsOr allowed least most) = words_or (map (λ w. w.now) allowed.now) least most
+kind_view kinds.Setting = setting
 
 abbrev pub fallback_view : code_fallback.Fallback → Fallback
 fallback_view fallbacks.Required = required

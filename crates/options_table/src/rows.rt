@@ -1,82 +1,27 @@
 //! The rows of the options, as the table of them.
 
-ghost use Rattle.std.specs.Prelude.{◌≡◌};
-ghost use Rattle.options_table.specs.Table.{row, option, word_option, every, unset, IsOfServer, IsOfRepository, IsOfRetention, IsOfBundle, IsOfRun, IsOfArchive, IsOfCommand, IsIgnored};
+ghost use Rattle.std.specs.Prelude.{◌≡◌, map};
+ghost use Rattle.options_table.specs.Table.{row, option, word_option, every, unset, IsOfServer, IsOfRepository, IsOfRetention, IsOfBundle, IsOfRun, IsOfArchive, IsOfCommand, IsOfTarget, IsIgnored, types_of};
 ghost use Rattle.options_table.specs.Views.{row_view, kind_view, fallback_view};
 
+use crate::commands::{
+    BACKUP, BACKUP_AND_RESTORE, EVERY, GET, INFO, PUSH_AND_BACKUP, PUSH_AND_GET, REHEARSE, RESTORE,
+    WITH_DATA_FOLDER, WITH_LOCK, WITH_RETENTION, WITH_SERVER, WITH_SPOOL, WITH_WORKERS,
+};
 use crate::table::{Fallback, Opt, OptionKind, Place, Row, Verb};
 
-// The commands that have an option.
-const EVERY: &[Verb] = &[
-    Verb::StanzaCreate,
-    Verb::ArchivePush,
-    Verb::ArchivePushAsync,
-    Verb::ArchiveGet,
-    Verb::ArchiveGetAsync,
-    Verb::Backup,
-    Verb::Expire,
-    Verb::Restore,
-    Verb::Verify,
-    Verb::Info,
-    Verb::Rehearse,
-];
-
-const WITH_DATA_FOLDER: &[Verb] = &[
-    Verb::StanzaCreate,
-    Verb::ArchivePush,
-    Verb::ArchivePushAsync,
-    Verb::ArchiveGet,
-    Verb::ArchiveGetAsync,
-    Verb::Backup,
-    Verb::Restore,
-    Verb::Rehearse,
-];
-
-const WITH_SERVER: &[Verb] = &[Verb::StanzaCreate, Verb::Backup];
-
-const PUSH_AND_BACKUP: &[Verb] = &[Verb::ArchivePush, Verb::ArchivePushAsync, Verb::Backup];
-
-const WITH_RETENTION: &[Verb] = &[Verb::Backup, Verb::Expire];
-
-const BACKUP: &[Verb] = &[Verb::Backup];
-
-const WITH_WORKERS: &[Verb] = &[Verb::Backup, Verb::Restore, Verb::Rehearse];
-
-const RESTORE: &[Verb] = &[Verb::Restore];
-
-const BACKUP_AND_RESTORE: &[Verb] = &[Verb::Backup, Verb::Restore];
-
-const PUSH_AND_GET: &[Verb] = &[
-    Verb::ArchivePush,
-    Verb::ArchivePushAsync,
-    Verb::ArchiveGet,
-    Verb::ArchiveGetAsync,
-];
-
-const GET: &[Verb] = &[Verb::ArchiveGet, Verb::ArchiveGetAsync];
-
-const WITH_SPOOL: &[Verb] = &[
-    Verb::ArchivePush,
-    Verb::ArchivePushAsync,
-    Verb::ArchiveGet,
-    Verb::ArchiveGetAsync,
-    Verb::Backup,
-];
-
-const WITH_LOCK: &[Verb] = &[
-    Verb::StanzaCreate,
-    Verb::ArchivePush,
-    Verb::ArchivePushAsync,
-    Verb::Backup,
-    Verb::Expire,
-    Verb::Rehearse,
-];
-
-const INFO: &[Verb] = &[Verb::Info];
-
-const REHEARSE: &[Verb] = &[Verb::Rehearse];
-
 const LOG_LEVELS: &[&str] = &["off", "error", "warn", "info", "detail", "debug", "trace"];
+
+// The types of a restore after which the server recovers by the archive.
+const RECOVERING: &[&str] = &[
+    "default",
+    "immediate",
+    "standby",
+    "time",
+    "lsn",
+    "xid",
+    "name",
+];
 
 // An option that may be in the arguments and in the configuration.
 fn any_place(
@@ -316,7 +261,16 @@ fn run_row(option: Opt) -> Row
         Opt::RestoreType => any_place(
             "type",
             RESTORE,
-            OptionKind::Words(&["default", "none"]),
+            OptionKind::Words(&[
+                "default",
+                "none",
+                "time",
+                "lsn",
+                "xid",
+                "name",
+                "immediate",
+                "standby",
+            ]),
             Fallback::Is("default"),
         ),
         Opt::Delta => any_place(
@@ -417,6 +371,46 @@ fn command_row(option: Opt) -> Row
     }
 }
 
+// Of how far a recovery goes.
+#[tactic(auto, unfolding(crate::specs::Table::row))]
+fn target_row(option: Opt) -> Row
+    requires { IsOfTarget option }
+    ensures { row_view result ≡ row option }
+{
+    match option {
+        Opt::Target => any_place("target", RESTORE, OptionKind::Text, Fallback::Required),
+        Opt::TargetExclusive => any_place(
+            "target-exclusive",
+            RESTORE,
+            OptionKind::Flag,
+            Fallback::Is("n"),
+        ),
+        Opt::TargetAction => any_place(
+            "target-action",
+            RESTORE,
+            OptionKind::Words(&["pause", "promote", "shutdown"]),
+            Fallback::Is("pause"),
+        ),
+        Opt::TargetTimeline => any_place(
+            "target-timeline",
+            RESTORE,
+            OptionKind::WordsOr {
+                words: &["current", "latest"],
+                least: 1,
+                most: 4294967295,
+            },
+            Fallback::Unset,
+        ),
+        // RecoveryOption, the one that is left.
+        _ => any_place(
+            "recovery-option",
+            RESTORE,
+            OptionKind::Setting,
+            Fallback::Unset,
+        ),
+    }
+}
+
 // Of what is not looked at.
 #[tactic(auto, unfolding(crate::specs::Table::row))]
 fn ignored_row(option: Opt) -> Row
@@ -483,5 +477,23 @@ pub fn row_for(option: Opt) -> Row
         | Opt::CompressLevelNetwork
         | Opt::ProtocolTimeout
         | Opt::ArchiveModeCheck => ignored_row(option),
+        Opt::Target
+        | Opt::TargetExclusive
+        | Opt::TargetAction
+        | Opt::TargetTimeline
+        | Opt::RecoveryOption => target_row(option),
+    }
+}
+
+/// The types of a restore that use an option; none where it isn't bound to any.
+pub fn types_of(option: Opt) -> &'static [&'static str]
+    ensures { map (λ t. t.now) result.now ≡ types_of option }
+{
+    match option {
+        Opt::Target => &["time", "lsn", "xid", "name"],
+        Opt::TargetExclusive => &["time", "lsn", "xid"],
+        Opt::TargetAction => &["time", "lsn", "xid", "name", "immediate"],
+        Opt::TargetTimeline | Opt::RecoveryOption => RECOVERING,
+        _ => &[],
     }
 }

@@ -1,12 +1,14 @@
 //! The commands and the options.
 
 ghost use Rattle.std.specs.Prelude.{◌≡◌};
-ghost use Rattle.options_table.specs.Table.{verb_word};
+ghost use Rattle.options_table.specs.Table.{verb_word, is_repeatable};
+ghost use Rattle.options_table.specs.Views.{kind_view};
 
 /// What is to be done.
 #[derive(Clone, Copy, Debug, PartialEq, Eq)]
 pub enum Verb {
     StanzaCreate,
+    StanzaUpgrade,
     ArchivePush,
     ArchivePushAsync,
     ArchiveGet,
@@ -68,6 +70,11 @@ pub enum Opt {
     ProtocolTimeout,
     IoTimeout,
     ArchiveModeCheck,
+    Target,
+    TargetExclusive,
+    TargetAction,
+    TargetTimeline,
+    RecoveryOption,
 }
 
 /// Which values an option takes.
@@ -83,14 +90,32 @@ pub enum OptionKind {
     Anything,
     /// A path, or none, as by `--no-config`.
     File,
-    Number { least: u32, most: u32 },
+    Number {
+        least: u32,
+        most: u32,
+    },
     /// In bytes.
-    Size { least: u64, most: u64 },
+    Size {
+        least: u64,
+        most: u64,
+    },
     /// In seconds.
-    Time { least: u64, most: u64 },
+    Time {
+        least: u64,
+        most: u64,
+    },
     /// y or n.
     Flag,
     Words(&'static [&'static str]),
+    /// One of the words, or a whole number.
+    WordsOr {
+        words: &'static [&'static str],
+        least: u32,
+        most: u32,
+    },
+    /// `NAME=VALUE`: a setting of the server. At most 1,024 bytes; the name has lower-case letters, digits and `_`, and
+    /// is none of a recovery target; the value has no control bytes. An option of this kind may be given more than once.
+    Setting,
 }
 
 /// The default.
@@ -120,7 +145,7 @@ pub struct Row {
 }
 
 /// All options, in the order in which their faults are reported.
-pub const TABLE: [Opt; 46] = [
+pub const TABLE: [Opt; 51] = [
     Opt::Stanza,
     Opt::Pg1Path,
     Opt::Pg1Port,
@@ -167,11 +192,17 @@ pub const TABLE: [Opt; 46] = [
     Opt::ProtocolTimeout,
     Opt::IoTimeout,
     Opt::ArchiveModeCheck,
+    Opt::Target,
+    Opt::TargetExclusive,
+    Opt::TargetAction,
+    Opt::TargetTimeline,
+    Opt::RecoveryOption,
 ];
 
 /// All commands.
-pub const VERBS: [Verb; 11] = [
+pub const VERBS: [Verb; 12] = [
     Verb::StanzaCreate,
+    Verb::StanzaUpgrade,
     Verb::ArchivePush,
     Verb::ArchivePushAsync,
     Verb::ArchiveGet,
@@ -190,6 +221,7 @@ pub fn verb_word(verb: Verb) -> &'static str
 {
     match verb {
         Verb::StanzaCreate => "stanza-create",
+        Verb::StanzaUpgrade => "stanza-upgrade",
         Verb::ArchivePush => "archive-push",
         Verb::ArchivePushAsync => "archive-push:async",
         Verb::ArchiveGet => "archive-get",
@@ -201,4 +233,11 @@ pub fn verb_word(verb: Verb) -> &'static str
         Verb::Info => "info",
         Verb::Rehearse => "rehearse",
     }
+}
+
+/// Whether an option of this kind may be given more than once.
+pub fn is_repeatable(kind: OptionKind) -> bool
+    ensures { result ≡ is_repeatable (kind_view kind) }
+{
+    matches!(kind, OptionKind::Setting)
 }

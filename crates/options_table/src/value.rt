@@ -1,10 +1,11 @@
 //! The value that a text represents.
 
-ghost use Rattle.std.specs.Prelude.{◌≡◌, option_map, map, bytes_eq};
-ghost use Rattle.std.specs.List.{list_any, list_all};
+ghost use Rattle.std.specs.Prelude.{◌≡◌, option_map, map};
+ghost use Rattle.std.specs.List.{list_all};
 ghost use Rattle.options_table.specs.Amounts.{amount};
 ghost use Rattle.options_table.specs.declared.amount.Units.TheVariants.{Plain};
-ghost use Rattle.options_table.specs.Values.{value_of, number, amount_of, is_stanza, is_stanza_byte, begins_with_dash, is_text, flag_of, text_where};
+ghost use Rattle.base_model.specs.StanzaName.{is_stanza, is_stanza_byte, begins_with_dash};
+ghost use Rattle.options_table.specs.Values.{value_of, number, amount_of, is_text, is_word, is_setting_byte, is_setting_name, is_shown, is_setting, flag_of, text_where};
 ghost use Rattle.options_table.specs.Views.{kind_view, value_view};
 
 use crate::amount::{Units, amount};
@@ -53,7 +54,7 @@ fn is_text(text: &[u8]) -> bool
 }
 
 fn is_word(allowed: &[&str], text: &str) -> bool
-    ensures { result ≡ list_any (λ w. bytes_eq w text.now) (map (λ w. w.now) allowed.now) }
+    ensures { result ≡ is_word (map (λ w. w.now) allowed.now) text.now }
 {
     for w in allowed {
         if *w == text {
@@ -61,6 +62,60 @@ fn is_word(allowed: &[&str], text: &str) -> bool
         }
     }
     false
+}
+
+// The settings of a recovery's end, which have options of their own.
+const TARGET_SETTINGS: &[&str] = &[
+    "recovery_target",
+    "recovery_target_action",
+    "recovery_target_inclusive",
+    "recovery_target_lsn",
+    "recovery_target_name",
+    "recovery_target_time",
+    "recovery_target_timeline",
+    "recovery_target_xid",
+];
+
+fn is_setting_byte(b: u8) -> bool
+    ensures { result ≡ is_setting_byte b }
+{
+    (97 <= b && b <= 122) || (48 <= b && b <= 57) || b == 95
+}
+
+fn all_setting_bytes(text: &[u8]) -> bool
+    ensures { result ≡ list_all is_setting_byte text.now }
+{
+    text.iter().all(|b| is_setting_byte(*b))
+}
+
+fn is_setting_name(text: &str) -> bool
+    ensures { result ≡ is_setting_name text.now }
+{
+    !text.is_empty() && all_setting_bytes(text.as_bytes()) && !is_word(TARGET_SETTINGS, text)
+}
+
+fn is_shown(b: u8) -> bool
+    ensures { result ≡ is_shown b }
+{
+    32 <= b && b != 127
+}
+
+fn all_shown(text: &[u8]) -> bool
+    ensures { result ≡ list_all is_shown text.now }
+{
+    text.iter().all(|b| is_shown(*b))
+}
+
+fn is_setting(text: &str) -> bool
+    ensures { result ≡ is_setting text.now }
+{
+    if text.len() > 1024 {
+        return false;
+    }
+    match text.split_once('=') {
+        Some((name, value)) => is_setting_name(name) && all_shown(value.as_bytes()),
+        None => false,
+    }
 }
 
 fn flag_of(text: &str) -> Option<Value<'_>>
@@ -122,5 +177,11 @@ pub fn value_of(kind: OptionKind, text: &str) -> Option<Value<'_>>
         OptionKind::Time { least, most } => measure(Units::Times, least, most, text),
         OptionKind::Flag => flag_of(text),
         OptionKind::Words(allowed) => text_where(is_word(allowed, text), text),
+        OptionKind::WordsOr { words, least, most } => if is_word(words, text) {
+            Some(Value::Text(text))
+        } else {
+            number(least, most, text)
+        },
+        OptionKind::Setting => text_where(is_setting(text), text),
     }
 }

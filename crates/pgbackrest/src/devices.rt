@@ -115,7 +115,7 @@ impl Devices {
         match verb {
             Verb::ArchivePush | Verb::ArchivePushAsync => self.repo.is_only_writer_in("archive"),
             Verb::Backup | Verb::Expire => self.repo.is_only_writer_in("backup"),
-            Verb::StanzaCreate | Verb::Rehearse => {
+            Verb::StanzaCreate | Verb::StanzaUpgrade | Verb::Rehearse => {
                 self.repo.is_only_writer_in("archive");
                 self.repo.is_only_writer_in("backup");
             }

@@ -1,7 +1,7 @@
 // What `--help` and `--version` print.
 use crate::command_line::{Reader, Word};
 use crate::meanings::meaning_of;
-use options_table::{Fallback, Opt, OptionKind, Row, TABLE, VERBS, Verb, row_for, verb_word};
+use options_table::{Fallback, Opt, OptionKind, TABLE, VERBS, Verb, row_for, types_of, verb_word};
 use std::alloc::{AllocError, Global};
 
 const VERSION: &str = "pgbackrest 0.1, repository format 5\n";
@@ -81,7 +81,7 @@ fn help_of(alloc: Global, verb: Verb) -> Result<String, AllocError> {
     for option in TABLE {
         let row = row_for(option);
         if has_effect(option) && row.commands.contains(&verb) {
-            add_values(alloc, &mut text, &row)?;
+            add_values(alloc, &mut text, option)?;
             text.push_str(&format!(in alloc; "\n      {}\n", meaning_of(option))?)?;
         }
     }
@@ -96,7 +96,7 @@ fn help(alloc: Global) -> Result<String, AllocError> {
     text.push_str("\nOptions:\n")?;
     for option in TABLE {
         if has_effect(option) {
-            add_option(alloc, &mut text, row_for(option))?;
+            add_option(alloc, &mut text, option)?;
         }
     }
     text.push_str(WITHOUT_EFFECT)?;
@@ -122,6 +122,8 @@ fn add_commands(alloc: Global, text: &mut String) -> Result<(), AllocError> {
 fn purpose_of(verb: Verb) -> &'static str {
     match verb {
         Verb::StanzaCreate => ": makes a stanza in the repository",
+        Verb::StanzaUpgrade =>
+            ": makes the cluster that follows an upgrade the stanza's current one",
         Verb::ArchivePush => " PATH: stores a file of the write-ahead log, for archive_command",
         Verb::ArchiveGet =>
             " NAME PATH: fetches a file of the write-ahead log, for restore_command",
@@ -144,19 +146,27 @@ fn has_effect(option: Opt) -> bool {
     }
 }
 
-// The option's name, its values and its default.
-fn add_values(alloc: Global, text: &mut String, row: &Row) -> Result<(), AllocError> {
+// The option's name, its values, its default, and the types of a restore that use it where others don't.
+fn add_values(alloc: Global, text: &mut String, option: Opt) -> Result<(), AllocError> {
+    let row = row_for(option);
     let values = values_of(alloc, row.kind)?;
     text.push_str(&format!(in alloc; "  --{}: {}", row.name, values.as_str())?)?;
+    let types = types_of(option);
+    if !types.is_empty() {
+        let types = types.join(alloc, ", ")?;
+        text.push_str(&format!(in alloc; "; with type {}", types.as_str())?)?;
+    }
     match row.fallback {
-        Fallback::Required => text.push_str("; required"),
+        Fallback::Required if types.is_empty() => text.push_str("; required"),
+        Fallback::Required => text.push_str("; required there"),
         Fallback::Unset => Ok(()),
         Fallback::Is(value) => text.push_str(&format!(in alloc; "; {value} by default")?),
     }
 }
 
-fn add_option(alloc: Global, text: &mut String, row: Row) -> Result<(), AllocError> {
-    add_values(alloc, text, &row)?;
+fn add_option(alloc: Global, text: &mut String, option: Opt) -> Result<(), AllocError> {
+    add_values(alloc, text, option)?;
+    let row = row_for(option);
     if row.commands.len() < VERBS.len() {
         text.push_str("; for")?;
         for verb in row.commands {
@@ -182,5 +192,10 @@ fn values_of(alloc: Global, kind: OptionKind) -> Result<String, AllocError> {
         ),
         OptionKind::Flag => String::from_str(alloc, "y or n"),
         OptionKind::Words(arguments) => arguments.join(alloc, " or "),
+        OptionKind::WordsOr { words, least, most } => {
+            let words = words.join(alloc, " or ")?;
+            format!(in alloc; "{} or {least} to {most}", words.as_str())
+        }
+        OptionKind::Setting => String::from_str(alloc, "NAME=VALUE, also several times"),
     }
 }

@@ -9,7 +9,8 @@ const HINTS: &[(&str, &str, &str)] = &[
     (
         "006",
         "",
-        "see --help COMMAND for its values, and info for labels",
+        "see --help COMMAND for its values, and info for labels; a time is written as 2026-11-30 \
+         12:00:00+00",
     ),
     (
         "007",
@@ -53,7 +54,7 @@ const HINTS: &[(&str, &str, &str)] = &[
     (
         "023",
         "",
-        "correct pg1-path or --stanza; after pg_upgrade create a new stanza: see RUNBOOK",
+        "correct pg1-path or --stanza; after pg_upgrade run stanza-upgrade: see RUNBOOK",
     ),
     (
         "024",
@@ -268,11 +269,27 @@ const HINTS: &[(&str, &str, &str)] = &[
         "see the system's limits; try without archive-async",
     ),
     ("090", "", "free some memory, and repeat the command"),
-    ("100", "", "leave it out, here or in the configuration"),
     (
         "101",
         "",
         "put the pairs back from one copy of the repository",
+    ),
+    (
+        "102",
+        "",
+        "see with info when each backup ended, in UTC; give a later target, or another timeline",
+    ),
+    (
+        "103",
+        "",
+        "correct the number, which is decimal; or push the file from the server's pg_wal, or name a backup \
+         by --set",
+    ),
+    (
+        "104",
+        "",
+        "put the file back from a copy of the repository or from the server's pg_wal, or name a backup by \
+         --set",
     ),
 ];
 

@@ -1,5 +1,5 @@
 -- A worker in memory that was asked nothing can be handed in.
-use Rattle.std.proofs.Common.{ℕ, ◌≡◌, ◌<◌, ◌^◌, List, [], ◌∷◌, ◌++◌, length, map, Some, refl, subst, sym, ap, ◌∙◌, arith}
+use Rattle.std.proofs.Common.{ℕ, ◌≡◌, List, [], ◌∷◌, ◌++◌, map, Some, refl, subst, sym, ap, ◌∙◌, arith}
 use Rattle.base_devices.specs.Content.{Content}
 use Rattle.memory_workers.specs.declared.mem.MemLink.{MemLink}
 use Rattle.memory_workers.specs.Workers.{known_first, state_of}

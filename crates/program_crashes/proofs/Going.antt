@@ -1,79 +1,109 @@
--- From one call to the logs of all stanzas.
-use Rattle.std.proofs.Common.{◌≡◌, ◌≢◌, ◌⊎◌, inl, inr, ℕ, ◌≤◌, arith, is_some, map, string_bytes, ap, [], Some, None, Bool, true, false, List, ◌∷◌, ◌++◌, Option, refl, sym, subst, ◌∙◌}
+-- From one call to the list of calls.
+use Rattle.std.proofs.Common.{◌≡◌, inl, inr, ℕ, arith, Bool, true, false, List, ◌∷◌, ◌++◌, Option, Some, None, refl, sym, ap, subst, ◌∙◌}
 use Rattle.std.specs.Prelude.{IsSomeAnd}
 use Rattle.base_devices.specs.Content.{Content}
-use Rattle.base_devices.specs.Links.{LinkState}
-use Rattle.base_devices.specs.States.{ClockState}
 use Rattle.base_devices.specs.DataFolder.{Nodes}
+use Rattle.base_devices.proofs.Nows.{known_as}
+use Rattle.base_model.specs.Repository.{Repository}
+use Rattle.base_model.specs.Steps.{ArchivePush, Command, Named}
 use Rattle.base_model.specs.Text.{Text}
-use Rattle.base_crash_lists.specs.Trace.{Disks, Call, stopped, Does, AreStill, AreFair, KeepsAll, LeaveAll}
-use Rattle.base_crash_lists.proofs.Kept.{all_keep, all_leave, all_still, all_rest, opened_keep}
+use Rattle.base_model.specs.Log.{Done, Keeps, KeepsRepository}
+use Rattle.sha1.specs.Sha1.{sha1}
 use Rattle.archive_lookup.specs.Turns.{Account}
-use Rattle.cmd_trait.specs.KnownWorld.{KnownWorld}
-use Rattle.cmd_trait.specs.Meaning.{Place, Meaning, TurnsKnown, TurnsKnownIf}
-use Rattle.program_crashes.specs.declared.call_or_crash.Act.{Act}
-use Rattle.program_crashes.specs.Lists.{IsLeft, CallGoes, AreOthersOf, HaveOthers, files_of, stanza_of}
-use Rattle.program_crashes.specs.Acts.{IsCallOf, IsShown, GoesOn, Went}
+use Rattle.base_crash_lists.specs.Trace.{Call, Disks, Does, AreStill, AreFair, log_of}
+use Rattle.expire_make.proofs.Forgets.{same_file, one_name}
+use Rattle.cmd_archive_push.specs.Causes.{IsStored}
+use Rattle.cmd_archive_push.specs.Commands.{IsPushOf}
+use Rattle.cmd_types.specs.World.{World}
+use Rattle.cmd_trait.specs.Follows.{EndsWell}
+use Rattle.cmd_trait.specs.KnownWorld.{KnownWorld, known_world}
+use Rattle.cmd_trait.specs.Meaning.{Place, Meaning, IsOf, TurnsKnown, TurnsKnownIf}
+use Rattle.options_read.specs.Settings.{Resolved}
+use Rattle.program_run.specs.Asked.{asked}
+use Rattle.program_crashes.specs.Acts.{disks_in, IsCallOf, IsGiven}
+use Rattle.program_crashes.specs.Kept.{pushed, FromFile, KeepsCalls}
+use Rattle.program_crashes.specs.Led.{Went}
+use Rattle.program_crashes.proofs.Carried.{calls_keep, calls_leave, calls_still, calls_rest, are_there}
+use Rattle.program_crashes.proofs.Filed.{keeps_file}
+use Rattle.program_crashes.proofs.Filing.{LiesIn, lies_in}
+use Rattle.program_crashes.proofs.Shown.{Gives, IsDone}
+use Rattle.program_crashes.proofs.Verbs.{IsPush, push_by_verb}
 
-module _ (arguments : List Text) (files : Option Content) (k l : KnownWorld) (status : ℕ) (before : List Call) (old new : Disks) (h : KeepsAll before old) where
-  asked_for : AreFair old → (c : Call) → IsCallOf arguments files k l status c → Does c old new → Went arguments files k l status before old new
-  asked_for fair c is does = record {
-    after = c ∷ before;
-    goes = inr (c, is, refl);
-    keeps = all_keep c old new fair does before h;
-    cut = stopped c ∷ before;
-    stops = inr (c, is, refl);
-    leaves = all_leave c old new fair does before h;
-  }
+-- ---- a push that was acknowledged
 
-  refused_for : (status ≢ 0) → AreStill old new → Went arguments files k l status before old new
-  refused_for off still = record {
-    after = before;
-    goes = inl (off, refl);
-    keeps = all_still old new still before h;
-    cut = before;
-    stops = inl (off, refl);
-    leaves = all_rest old new still before h;
-  }
+module _ (b k : World) (n : ℕ) (q : Repository) (log : List Done) (s : Resolved) (given : IsGiven q log s b k n) (file : Named) (new : Content) (now : k.repo.view.now ≡ Some new) where
+  abbrev stanza : Text
+  stanza = (asked s).at.stanza
 
-pub shown_went : (arguments : List Text) (files : Option Content) (k l : KnownWorld) (status : ℕ) (before : List Call) (old new : Disks) → AreFair old → KeepsAll before old → IsShown arguments files k l status old new → Went arguments files k l status before old new
-shown_went arguments files k l status before old new fair h (inl (off, still)) = refused_for arguments files k l status before old new h off still
-shown_went arguments files k l status before old new fair h (inr (c, is, does)) = asked_for arguments files k l status before old new h fair c is does
+  lies_for : (nodes : Option Nodes) → nodes ≡ b.tree.nodes → IsPush (asked s).at (known_world b) (known_world k) given.begun k.repo.view file → LiesIn stanza file k.repo.view
+  lies_for None is x = by b.tree.nodes is x.is
+    where
+      by : (o : Option Nodes) → None ≡ o → IsSomeAnd o (λ f. IsPushOf f (asked s).at.data_folder x.path (ArchivePush file)) → LiesIn stanza file k.repo.view
+      by None e h = absurd h
+      by (Some f) e h = cc
+  lies_for (Some f) is x = lies_in stanza (asked s).at.data_folder x.path file f
+      (subst (λ (o : Option Nodes). IsSomeAnd o (λ f. IsPushOf f (asked s).at.data_folder x.path (ArchivePush file))) (sym is) x.is)
+      given.begun given.repository given.represents k.repo.view new now x.lines
+      (subst (λ (o : Option Nodes). IsStored stanza (asked s).at.data_folder x.path o (Some given.begun) k.repo.view.now x.lines) (sym is) x.stored) x.lasting
 
--- whether the call is stopped, or goes to its end; given is the list of its arguments
-module _ {X W : Type 0} (text_of : List W → List Text) (given arguments : List W) (is : given ≡ arguments) (files : Option Content) (k l : KnownWorld) (status : ℕ) (before : List Call) (old new : Disks)
-    (w : Went (text_of given) files k l status before old new) (halt : Option X) where
-  goes : (stopped_now : Bool) (after : List Call) → GoesOn (text_of given) files k l status stopped_now before after → GoesOn (text_of arguments) files k l status stopped_now before after
-  goes stopped_now after = subst (λ (ws : List W). GoesOn (text_of given) files k l status stopped_now before after → GoesOn (text_of ws) files k l status stopped_now before after) is (λ g. g)
+  pub push_lies : IsOf ((asked s).means.manner (asked s).at (known_world b) (known_world k)) (ArchivePush file) → LiesIn stanza file k.repo.view
+  push_lies is = lies_for b.tree.nodes refl
+      (push_by_verb (asked s).at (known_world b) (known_world k) given.begun k.repo.view k.tree.nodes given.outcome file s.source.verb s.source s.parameters is given.promise given.lasts)
 
-  pub ends_here : halt ≡ None → (after : List Call) × GoesOn (text_of arguments) files k l status (is_some halt) before after × KeepsAll after new
-  ends_here none = (w.after, subst (λ (o : Option X). GoesOn (text_of arguments) files k l status (is_some o) before w.after) (sym none) (goes false w.after w.goes), w.keeps)
+-- disks that have the file keep a log that leaves it
+pub file_of : (stanza : Text) (file : Named) (q : Repository) (log : List Done) (d : Disks) → Keeps stanza q log d.repo d.spool → LiesIn stanza file d.repo → FromFile file (λ from l. Keeps stanza from l d.repo d.spool)
+file_of stanza file q log d keeps x = keeps_file x.file stanza x.fits
+    (λ y fits same. same_file x.file y x.fits fits same)
+    (λ y fits path. one_name stanza x.file.id y.id x.file.name y.name (sha1 x.file.bytes) (sha1 y.bytes) x.fits fits path)
+    file x.is q log d.repo d.spool keeps x.lies
 
-  pub stops_here : (x : X) → halt ≡ Some x → (opened : Disks) (from spool_from t u : ℕ) → from ≡ old.repo.moment → spool_from ≡ old.spool.moment → IsLeft new.repo from t opened.repo → IsLeft new.spool spool_from u opened.spool
-      → (after : List Call) × GoesOn (text_of arguments) files k l status (is_some halt) before after × KeepsAll after opened
-  stops_here x some opened from spool_from t u is_from is_spool_from r s = (
-    w.cut,
-    subst (λ (o : Option X). GoesOn (text_of arguments) files k l status (is_some o) before w.cut) (sym some) (goes true w.cut w.stops),
-    opened_keep w.cut r.content s.content opened r.reopened s.reopened
-        (w.leaves t u r.content s.content (omega (arith, is_from, r.from), r.to) r.image (omega (arith, is_spool_from, s.from), s.to) s.image),
-  )
+-- ---- one call
 
--- the same, of a call of which the objects held this before
-abbrev CallWent : List Text → Option Content → Option Nodes → List LinkState → ClockState → ℕ → List Call → Disks → Disks → Type 0
-CallWent arguments files nodes links clock status before old new = (k : KnownWorld) × (l : KnownWorld) × (k.nodes ≡ nodes) × (k.links ≡ links) × (k.clock ≡ clock) × Went arguments files k l status before old new
+module _ (q : Text → Repository) (earlier before : List Call) (arguments : List Text) (b k : World) (n : ℕ) (h : KeepsCalls q earlier before (disks_in b)) where
+  refused_for : ¬ EndsWell n → AreStill (disks_in b) (disks_in k) → Went q earlier before arguments b k n
+  refused_for off still =
+      let kept = calls_still q earlier before (disks_in b) (disks_in k) h still in
+      record {
+        made = None;
+        is = off;
+        keeps = kept;
+        there = are_there q earlier before (disks_in k) kept;
+        leaves = calls_rest q earlier before (disks_in b) (disks_in k) h still;
+      }
 
-module _ {X W : Type 0} (text_of : List W → List Text) (given arguments : List W) (is : given ≡ arguments) (files : Option Content) (nodes : Option Nodes) (links : List LinkState) (clock : ClockState) (status : ℕ) (before : List Call) (old new : Disks)
-    (x : CallWent (text_of given) files nodes links clock status before old new) (halt : Option X) where
-  pub call_ends : halt ≡ None → (after : List Call) × CallGoes (text_of arguments) files nodes links clock status (is_some halt) before after × KeepsAll after new
-  call_ends none =
-      let y = ends_here text_of given arguments is files x.0 x.1 status before old new x.5 halt none in
-      (y.0, (x.0, x.1, x.2, x.3, x.4, y.1), y.2)
+  module _ (fair : AreFair (disks_in b)) (c : Call) (is : IsCallOf arguments b.config.files (known_world b) (known_world k) n c) (does : Does c (disks_in b) (disks_in k)) (gives : Gives arguments b k n is.resolved) where
+    abbrev log : List Done
+    log = log_of c.stanza (before ++ earlier)
 
-  pub call_stops : (h : X) → halt ≡ Some h → (opened : Disks) (from spool_from t u : ℕ) → from ≡ old.repo.moment → spool_from ≡ old.spool.moment → IsLeft new.repo from t opened.repo → IsLeft new.spool spool_from u opened.spool
-      → (after : List Call) × CallGoes (text_of arguments) files nodes links clock status (is_some halt) before after × KeepsAll after opened
-  call_stops h some opened from spool_from t u is_from is_spool_from r s =
-      let y = stops_here text_of given arguments is files x.0 x.1 status before old new x.5 halt h some opened from spool_from t u is_from is_spool_from r s in
-      (y.0, (x.0, x.1, x.2, x.3, x.4, y.1), y.2)
+    keeps : Keeps c.stanza (q c.stanza) log b.repo.view b.spool.view
+    keeps = h.keeps.logs c.stanza does.is_stanza
+
+    given : EndsWell n → IsGiven (q c.stanza) log is.resolved b k n
+    given well = gives (q c.stanza) log h.known (subst (λ (t : Text). KeepsRepository t (q c.stanza) log b.repo.view) is.stanza keeps.repository) well
+
+    file : (m : Named) → c.done ≡ pushed m → FromFile m (λ from l. Keeps c.stanza from l k.repo.view k.spool.view)
+    file m e =
+        let zero : n ≡ 0 = is.acknowledged.0 (ap (λ (d : Done). d.acknowledged) e) in
+        let g = given (inl (omega (arith, zero))) in
+        let command = subst (λ (x : Command). IsOf ((asked is.resolved).means.manner (asked is.resolved).at (known_world b) (known_world k)) x) (ap (λ (d : Done). d.command) e) is.command in
+        let new = known_as k.repo.view.now (does.known h.known) in
+        file_of c.stanza m (q c.stanza) (c.done ∷ log) (disks_in k) (does.keeps (q c.stanza) log (h.known, h.spool_known) keeps)
+        (subst (λ (t : Text). LiesIn t m k.repo.view) (sym is.stanza) (push_lies b k n (q c.stanza) log is.resolved g m new.0 new.1 command))
+
+    asked_for : Went q earlier before arguments b k n
+    asked_for =
+        let kept = calls_keep q earlier before (disks_in b) (disks_in k) h c fair does file in
+        record {
+          made = Some c;
+          is = (is, given);
+          keeps = kept;
+          there = are_there q earlier (c ∷ before) (disks_in k) kept;
+          leaves = calls_leave q earlier before (disks_in b) (disks_in k) h c fair does;
+        }
+
+  pub shown_went : AreFair (disks_in b) → IsDone arguments b k n → Went q earlier before arguments b k n
+  shown_went fair (inl x) = refused_for x.0 x.1
+  shown_went fair (inr x) = asked_for fair x.0 x.1 x.2 x.3
 
 -- ---- what others report
 
@@ -88,15 +118,3 @@ turns_known p m new stanza is known = go m.uses.turns is
     go : (turns : Bool) → (turns ≡ true → stanza ≡ p.stanza) → TurnsKnownIf turns p.stanza new
     go true is = known_of new.others.account stanza p.stanza (is refl) known
     go false is = tt
-
--- of the arguments as they were given too
-pub others_of : {W : Type 0} (text_of : List W → List Text) (given arguments : List W) → given ≡ arguments → (files : Option Content) (stanza : Text) → AreOthersOf (text_of arguments) files stanza → AreOthersOf (text_of given) files stanza
-others_of text_of given arguments is files stanza others = subst (λ (ws : List _). AreOthersOf (text_of ws) files stanza) (sym is) others
-
-pub have_more : (xs : List Act) (x : Act) → HaveOthers (xs ++ x ∷ []) → HaveOthers xs × AreOthersOf (map string_bytes x.arguments.items) (files_of x.config) (stanza_of x.others)
-have_more [] x h = (tt, h.0)
-have_more (y ∷ xs) x h = let z = have_more xs x h.1 in ((h.0, z.0), z.1)
-
-pub map_same : {X : Type 0} (xs : List X) → map (λ y. y) xs ≡ xs
-map_same [] = refl
-map_same (x ∷ xs) = ap (λ ys. x ∷ ys) (map_same xs)

@@ -1,3 +1,11 @@
 mod Fresh
+mod Files
+mod Filed
+mod Carried
+mod Healed
+mod Filing
+mod Begun
+mod Verbs
 mod Shown
 mod Going
+mod Playing

@@ -1,10 +1,8 @@
 // Calls and crashes, one after another.
-ghost use Rattle.std.specs.Prelude.{◌≤◌, [], is_some, IfOk};
-ghost use Rattle.base_devices.specs.Content.{Content};
-ghost use Rattle.base_devices.specs.Moments.{IsImage};
-ghost use Rattle.base_model.proofs.Reopened.{IsReopened};
-ghost use Rattle.program_crashes.specs.Lists.{IsDiskLeft, LeadsOn, KeepsLogs};
+ghost use Rattle.std.specs.Prelude.{◌≡◌, string_bytes, IfOk, OnOk};
+ghost use Rattle.program_crashes.specs.Lists.{EndsCall, KeepsStanza, LeadsCall, IsDiskLeft, PlaysOne};
 
+use crate::disks::Disks;
 use crate::program_call::called;
 use crate::workers::Workers;
 use cmd_trait::Outside;
@@ -12,7 +10,7 @@ use memory_devices::{
     MemClock, MemConnection, MemDataFolder, MemDisk, MemInputFiles, MemLocks, MemOutput,
 };
 use memory_processes::MemProcesses;
-use memory_workers::MemScheduler;
+use memory_workers::{MemLink, MemScheduler};
 use std::alloc::Global;
 use worker_pool::Pool;
 
@@ -50,24 +48,19 @@ pub struct Act {
     pub halt: Option<CrashPoint>,
 }
 
-// What a call finds besides its arguments and the two disks.
+/// How the call of an act ended, or would have ended without its crash: its status, what it wrote, and all other
+/// objects but the two disks, as it left them. The links are those of the workers that are left.
 #[derive(Drop)]
-struct Around {
-    tree: MemDataFolder,
-    server: MemConnection,
-    others: MemProcesses,
-    clock: MemClock,
-    held: Vec<String>,
-    config: MemInputFiles,
-    workers: Workers,
-    picks: Vec<u64>,
-}
-
-/// The two disks of the program.
-#[derive(Drop)]
-pub struct Disks {
-    pub repo: MemDisk,
-    pub spool: MemDisk,
+pub struct Ended {
+    pub status: u8,
+    pub tree: MemDataFolder,
+    pub server: MemConnection,
+    pub others: MemProcesses,
+    pub clock: MemClock,
+    pub locks: MemLocks,
+    pub config: MemInputFiles,
+    pub out: MemOutput,
+    pub links: Vec<MemLink>,
 }
 
 /// Why a list of calls can't be played.
@@ -99,46 +92,74 @@ fn reopened(alloc: Global, disk: &MemDisk, from: u64, left: Left) -> Result<MemD
     }
 }
 
-// Calls the program on the disks, and hands them back with the status. No clause of the call says that others keep to
-// their stanza, so it is looked at.
+// The stanza for which others push.
+fn stanza_of(alloc: Global, others: &MemProcesses) -> Result<String, PlayFault>
+    ensures { IfOk result (λ stanza. string_bytes stanza ≡ string_bytes others.now.stanza) }
+{
+    match String::from_str(alloc, others.stanza()) {
+        Ok(stanza) => Ok(stanza),
+        Err(_) => Err(PlayFault::NoMemory),
+    }
+}
+
+// They push for this stanza.
+fn keeps_to(others: &MemProcesses, stanza: &str) -> Result<(), PlayFault>
+    ensures { OnOk result (string_bytes others.now.stanza ≡ stanza.now) }
+{
+    if others.stanza() != stanza {
+        return Err(PlayFault::Stanza);
+    }
+    Ok(())
+}
+
+// Calls the program on the disks, and hands back what it left, and the act's crash. No clause of the call says that
+// others keep to their stanza, so it is looked at.
 fn call_on(
     alloc: Global,
     disks: Disks,
-    arguments: &[String],
-    around: Around,
-) -> Result<(Disks, u8), PlayFault>
-    ensures went { IfOk result (λ r. LeadsOn arguments.now around disks r.0 r.1) }
+    act: Act,
+) -> Result<(Disks, Ended, Option<CrashPoint>), PlayFault>
+    ensures call { IfOk result (λ r. EndsCall act r.1 disks r.0) }
+    ensures stanza { IfOk result (λ r. KeepsStanza act r.1) }
+    ensures leads { IfOk result (λ r. LeadsCall act r.1 disks r.0) }
+    ensures halt { IfOk result (λ r. r.2 ≡ act.halt) }
 {
-    let stanza = match String::from_str(alloc, around.others.stanza()) {
-        Ok(stanza) => stanza,
-        Err(_) => return Err(PlayFault::NoMemory),
+    let stanza = stanza_of(alloc, &act.others)?;
+    let pool = Pool {
+        links: act.workers.links,
+        scheduler: MemScheduler::new(act.picks),
+        lost: Vec::new(alloc),
     };
-    let Disks { repo, spool } = disks;
     let mut outside = Outside {
-        repo,
-        spool,
-        tree: around.tree,
-        server: around.server,
-        processes: around.others,
-        clock: around.clock,
-        locks: MemLocks::new(alloc, around.held, Vec::new(alloc)),
-        config: around.config,
+        repo: disks.repo,
+        spool: disks.spool,
+        tree: act.tree,
+        server: act.server,
+        processes: act.others,
+        clock: act.clock,
+        locks: MemLocks::new(alloc, act.held, Vec::new(alloc)),
+        config: act.config,
         out: MemOutput::new(alloc, Vec::new(alloc)),
-        pool: Pool {
-            links: around.workers.links,
-            scheduler: MemScheduler::new(around.picks),
-            lost: Vec::new(alloc),
-        },
+        pool,
     };
-    let status = called(alloc, arguments, &mut outside);
-    if outside.processes.stanza() != stanza.as_str() {
-        return Err(PlayFault::Stanza);
-    }
+    let status = called(alloc, &act.arguments, &mut outside);
+    keeps_to(&outside.processes, &stanza)?;
     let disks = Disks {
         repo: outside.repo,
         spool: outside.spool,
     };
-    Ok((disks, status))
+    let ended = Ended {
+        status,
+        tree: outside.tree,
+        server: outside.server,
+        others: outside.processes,
+        clock: outside.clock,
+        locks: outside.locks,
+        config: outside.config,
+        out: outside.out,
+        links: outside.pool.links,
+    };
+    Ok((disks, ended, act.halt))
 }
 
 // Opens both disks anew on what the crash leaves of each.
@@ -157,42 +178,20 @@ fn both_reopened(
     Ok(Disks { repo, spool })
 }
 
-/// Plays a call, with its crash where it has one: disks that keep the logs of all stanzas keep them with the call.
-/// Where it waits for steps of other processes, these have to push for the stanza that its arguments ask for. It
-/// returns the status that the call ends with, or would have ended with.
-pub fn play_one(alloc: Global, disks: Disks, act: Act) -> Result<(Disks, u8), PlayFault>
-    ensures keeps { IfOk result (λ r. KeepsLogs act disks r.0 r.1) }
+/// Plays a call, with its crash where it has one, and returns how it ended, or would have ended. From disks that keep a
+/// list of calls it leads to disks that keep it with its own. Where it waits for steps of other processes, these have
+/// to push for the stanza that its arguments ask for.
+pub fn play_one(alloc: Global, disks: Disks, act: Act) -> Result<(Disks, Ended), PlayFault>
+    ensures plays { IfOk result (λ r. PlaysOne act r.1 disks r.0) }
 {
     let repo_from = disks.repo.moment();
     let spool_from = disks.spool.moment();
-    let Act {
-        arguments,
-        tree,
-        server,
-        others,
-        clock,
-        held,
-        config,
-        workers,
-        picks,
-        halt,
-    } = act;
-    let around = Around {
-        tree,
-        server,
-        others,
-        clock,
-        held,
-        config,
-        workers,
-        picks,
-    };
-    let (ended, status) = call_on(alloc, disks, &arguments, around)?;
+    let (left, ended, halt) = call_on(alloc, disks, act)?;
     match halt {
-        None => Ok((ended, status)),
+        None => Ok((left, ended)),
         Some(halt) => {
-            let opened = both_reopened(alloc, &ended, repo_from, spool_from, halt)?;
-            Ok((opened, status))
+            let opened = both_reopened(alloc, &left, repo_from, spool_from, halt)?;
+            Ok((opened, ended))
         }
     }
 }

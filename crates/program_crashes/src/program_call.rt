@@ -2,7 +2,9 @@
 ghost use Rattle.std.specs.Prelude.{◌≡◌, []};
 ghost use Rattle.worker_pool.specs.Pools.{links_in};
 ghost use Rattle.cmd_trait.specs.Code.{AreWorkers};
-ghost use Rattle.program_crashes.specs.Acts.{ShowsCall, LeadsCall};
+ghost use Rattle.program_run.specs.Ranges.{OnArguments};
+ghost use Rattle.program_crashes.specs.Acts.{IsCall};
+ghost use Rattle.program_crashes.specs.Led.{ShowsBetween, LeadsBetween};
 
 use archive_lookup::OtherProcesses;
 use base_devices::{
@@ -29,11 +31,15 @@ pub fn called<
 >(alloc: Global, arguments: &[String], outside: &mut Outside<D, S, T, V, A, C, K, I, O, L, U>) -> u8
     requires free { (K.state outside.old.locks).taken ≡ [] }
     requires workers { AreWorkers (links_in L.link_state outside.old.pool) }
-    // The arguments are refused and nothing is done, or the call that they ask for is, as a story has it.
-    ensures shown { ShowsCall ⟦<Outside<D, S, T, V, A, C, K, I, O, L, U> as Modelled>⟧.known
+    // It does what `run` does.
+    ensures call { OnArguments ⟦<Outside<D, S, T, V, A, C, K, I, O, L, U> as Modelled>⟧.known IsCall
         arguments.now outside.old outside.new result }
-    // Disks that keep the logs of all stanzas continue with them, whether the call ends or is stopped.
-    ensures went { LeadsCall ⟦<Outside<D, S, T, V, A, C, K, I, O, L, U> as Modelled>⟧.known
+    // The arguments are refused and nothing is done, or the call that they ask for is, as a trace has it.
+    ensures shown { OnArguments ⟦<Outside<D, S, T, V, A, C, K, I, O, L, U> as Modelled>⟧.known ShowsBetween
+        arguments.now outside.old outside.new result }
+    // From disks that keep a list of calls it leads to disks that keep it with this one, whether the call ends or is
+    // stopped. Where it succeeded it gave what it promises, and each file is there that was pushed.
+    ensures went { OnArguments ⟦<Outside<D, S, T, V, A, C, K, I, O, L, U> as Modelled>⟧.known LeadsBetween
         arguments.now outside.old outside.new result }
     ensures free { (K.state outside.new.locks).taken ≡ [] }
 {

@@ -12,29 +12,25 @@ use Rattle.options_table.specs.declared.table.Verb.{Verb}
 use Rattle.options_table.specs.declared.table.Verb.TheVariants.{Backup, Rehearse}
 use Rattle.expire_rules.specs.declared.rules.Rules.{Rules}
 use Rattle.cmd_stanza_create.specs.Server.{Server}
-use Rattle.cmd_types.specs.declared.stages.fault.StageFault.TheVariants.{NotBuilt}
-use Rattle.cmd_types.specs.declared.stages.fault.Unbuilt.{Unbuilt}
 use Rattle.cmd_types.specs.World.{World}
 use Rattle.cmd_trait.specs.declared.fault.Fault.{Fault}
-use Rattle.cmd_trait.specs.declared.fault.Fault.TheVariants.{Stage}
 use Rattle.cmd_trait.specs.CallEffect.{Carries}
 use Rattle.cmd_trait.specs.InForce.{is_on, count_in, place_in}
 use Rattle.cmd_trait.specs.Meaning.{Place, Meaning}
 use Rattle.cmd_trait.specs.Output.{Prints}
-use Rattle.cmd_trait.proofs.Carried.{carries_from, idle_from, idle_self}
+use Rattle.cmd_trait.proofs.Carried.{carries_from, idle_self}
 use Rattle.program_run.specs.Answers.{Answers, Obeys}
 use Rattle.run_backup.specs.Asking.{BackupHow, RunningHow}
 use Rattle.run_backup.specs.Offline.{backup_offline_meaning}
 use Rattle.run_backup.specs.Online.{backup_online_meaning}
 use Rattle.run_rehearse.specs.Rehearsing.{rehearse_meaning}
-use Rattle.program_run.specs.Asked.{ArgumentsResolve, asked, asked_by, backup_by, unbuilt, server_in, expires_in, backup_in, running_in}
+use Rattle.program_run.specs.Asked.{ArgumentsResolve, asked, asked_by, backup_by, server_in, expires_in, backup_in, running_in}
 use Rattle.program_run.specs.Configuring.{ConfigCause}
 use Rattle.program_run.specs.Refusals.{refusal_lines, refusal_status}
 use Rattle.program_run.proofs.Lawful.{lawful}
 
 obeys_from : (s : Resolved) (b k : World) (i : InputState) (n : ℕ) → i.files ≡ b.config.files → b.config.faults ≤ i.faults → Obeys s (record b { config = i }) k n → Obeys s b k n
-obeys_from s b k i n files le (inl x) = inl (x.0, carries_from (asked s).at (asked s).means (lawful s) s.warnings b k i n files le x.1)
-obeys_from s b k i n files le (inr u) = inr (record { what = u.what; is = u.is; idle = idle_from b k i u.idle; printed = u.printed })
+obeys_from s b k i n files le c = carries_from (asked s).at (asked s).means (lawful s) s.warnings b k i n files le c
 
 -- what was resolved is carried out
 pub runs_on : (arguments : List Text) (b k : World) (i : InputState) (n : ℕ) (c : Command) → i.files ≡ b.config.files → b.config.faults ≤ i.faults → ((s : Resolved) × ArgumentsResolve arguments b.config.files (Ok s) × IsCommand c s) →
@@ -50,24 +46,14 @@ runs_off arguments given b i o n fault none cause printed = inl (record {
   printed = subst (λ (u : List Text). Prints (refusal_lines u fault) (refusal_status fault) b.out o n) none printed;
 })
 
--- a part of it isn't supported
-pub unbuilt_at : (s : Resolved) (what : Unbuilt) (given : List Text) (b : World) (o : OutputState) (n : ℕ) → given ≡ s.warnings → unbuilt s ≡ Some what →
-    Prints (refusal_lines given (Stage (NotBuilt what))) (refusal_status (Stage (NotBuilt what))) b.out o n → Obeys s b (record b { out = o }) n
-unbuilt_at s what given b o n warnings is printed = inr (record {
-  what = what;
-  is = is;
-  idle = idle_self b b.config o;
-  printed = subst (λ (u : List Text). Prints (refusal_lines u (Stage (NotBuilt what))) (refusal_status (Stage (NotBuilt what))) b.out o n) warnings printed;
-})
-
 -- ---- the commands whose values are records
 
-module _ (s : Resolved) (none : unbuilt s ≡ None) (p : Place) (place : p ≡ place_in s) (u : List Text) (warnings : u ≡ s.warnings) (b k : World) (n : ℕ) where
+module _ (s : Resolved) (p : Place) (place : p ≡ place_in s) (u : List Text) (warnings : u ≡ s.warnings) (b k : World) (n : ℕ) where
   at_place : {F : Type 0} (m : Meaning F) → Carries p m u b k n → Carries (place_in s) m s.warnings b k n
   at_place m h = subst (λ (q : Place). Carries q m s.warnings b k n) place (subst (λ (w : List Text). Carries p m w b k n) warnings h)
 
   at_verb : (verb : Verb) → s.source.verb ≡ verb → Carries (place_in s) (asked_by verb s.source s.parameters).means s.warnings b k n → Obeys s b k n
-  at_verb verb is h = inl (none, subst (λ (v : Verb). Carries (place_in s) (asked_by v s.source s.parameters).means s.warnings b k n) (sym is) h)
+  at_verb verb is h = subst (λ (v : Verb). Carries (place_in s) (asked_by v s.source s.parameters).means s.warnings b k n) (sym is) h
 
   backed_up : (online : Bool) → s.source.verb ≡ Backup → is_on s.source Online ≡ online → Carries (place_in s) (backup_by online s.source).means s.warnings b k n → Obeys s b k n
   backed_up online verb is h = at_verb Backup verb (subst (λ (t : Bool). Carries (place_in s) (backup_by t s.source).means s.warnings b k n) (sym is) h)

@@ -5,11 +5,9 @@ use Rattle.base_devices.specs.Content.{Content}
 use Rattle.base_model.specs.Text.{Text}
 use Rattle.options_read.specs.Settings.{Resolved}
 use Rattle.options_read.specs.declared.usage.Usage.{Usage}
-use Rattle.cmd_types.specs.declared.stages.fault.StageFault.TheVariants.{NotBuilt}
 use Rattle.cmd_types.specs.declared.stages.object.Object.TheVariants.{Output}
 use Rattle.cmd_types.specs.World.{World, Failed}
 use Rattle.cmd_trait.specs.declared.fault.Fault.{Fault}
-use Rattle.cmd_trait.specs.declared.fault.Fault.TheVariants.{Stage}
 use Rattle.cmd_trait.specs.CallEffect.{IsIdle, Carries, OpensPlaces, OnlyLocked}
 use Rattle.cmd_trait.specs.Follows.{Finishes, PartDone, TurnsBack, Fulfils, LeavesRest, EndsWell}
 use Rattle.cmd_trait.specs.Meaning.{IsEarly}
@@ -17,7 +15,7 @@ use Rattle.cmd_trait.proofs.Follows as follow
 use Rattle.cmd_trait.proofs.Idle.{idle_part, idle_back, idle_rest, idle_places, idle_locked}
 use Rattle.cmd_trait.proofs.Talks.{ends_talk}
 use Rattle.program_run.specs.Answers.{PrintsRefusal, Answers, Completes, ClosesTalk}
-use Rattle.program_run.specs.Asked.{ArgumentsResolve, asked, unbuilt, MayAsk, Asks}
+use Rattle.program_run.specs.Asked.{ArgumentsResolve, asked, Asks}
 use Rattle.program_run.proofs.AskedOnce.{one_settling, ok_same}
 use Rattle.program_run.proofs.Lawful.{lawful}
 use Rattle.program_run.proofs.Refused.{never_well, only_memory, idle_talk}
@@ -31,14 +29,9 @@ pub one_asked : (arguments : List Text) (files : Option Content) (s t : Resolved
 one_asked arguments None s t known p q = cc
 one_asked arguments (Some f) s t known p q = ok_same s t (one_settling arguments f (Ok s) (Ok t) p q)
 
--- what isn't supported isn't asked for
-never_unbuilt : {X : Type 0} {P : Type 0} (o : Option X) (x : X) → o ≡ None → o ≡ Some x → P
-never_unbuilt {X} o x none some = let e : ◌≡◌ {A = Option X} None (Some x) = sym none ∙ some in cc
-
 pub found : (arguments : List Text) (b k : World) (n : ℕ) → Answers arguments b k n → (s : Resolved) → Asks arguments b.config.files s → Either s b k n
 found arguments b k n (inl r) s asks = inl (r.idle, (r.fault, r.printed))
-found arguments b k n (inr (t, settles, inl (built, c))) s asks = inr (subst (λ (x : Resolved). Carries (asked x).at (asked x).means x.warnings b k n) (one_asked arguments b.config.files t s asks.known settles asks.asks.settles) c)
-found arguments b k n (inr (t, settles, inr u)) s asks = never_unbuilt (unbuilt s) u.what asks.asks.built (sym (ap unbuilt (one_asked arguments b.config.files t s asks.known settles asks.asks.settles)) ∙ u.is)
+found arguments b k n (inr (t, settles, c)) s asks = inr (subst (λ (x : Resolved). Carries (asked x).at (asked x).means x.warnings b k n) (one_asked arguments b.config.files t s asks.known settles asks.asks) c)
 
 module _ (s : Resolved) (b k : World) (n : ℕ) where
   pub finishes : n ≡ 0 → Either s b k n → Finishes (asked s).at (asked s).means b k
@@ -71,13 +64,11 @@ module _ (s : Resolved) (b k : World) (n : ℕ) where
 
 -- where no cause of a refusal holds
 pub completes : (arguments : List Text) (b k : World) (n : ℕ) → Answers arguments b k n → Completes arguments b k n
-completes arguments b k n (inl r) no_config built none whole = only_memory [] r.fault b k n r.printed whole (λ other. no_config r.fault other r.cause)
-completes arguments b k n (inr (s, settles, inl (is, c))) no_config built none whole = follow.completes (asked s).at (asked s).means (lawful s) s.warnings b k n c
-    (λ fault other cause. none s fault (record { settles = settles; built = is }) other cause) whole
-completes arguments b k n (inr (s, settles, inr u)) no_config built none whole = never_unbuilt (unbuilt s) u.what (built s settles) u.is
+completes arguments b k n (inl r) no_config none whole = only_memory [] r.fault b k n r.printed whole (λ other. no_config r.fault other r.cause)
+completes arguments b k n (inr (s, settles, c)) no_config none whole = follow.completes (asked s).at (asked s).means (lawful s) s.warnings b k n c
+    (λ fault other cause. none s fault settles other cause) whole
 
 -- after a server's answer that is refused
 pub closes_talk : (arguments : List Text) (b k : World) (n : ℕ) → Answers arguments b k n → ClosesTalk b k n
 closes_talk arguments b k n (inl r) refusal = idle_talk b k n r.idle refusal [] r.fault r.printed
-closes_talk arguments b k n (inr (s, settles, inl (is, c))) refusal = ends_talk (asked s).at (asked s).means (lawful s) s.warnings b k n c refusal
-closes_talk arguments b k n (inr (s, settles, inr u)) refusal = idle_talk b k n u.idle refusal s.warnings (Stage (NotBuilt u.what)) u.printed
+closes_talk arguments b k n (inr (s, settles, c)) refusal = ends_talk (asked s).at (asked s).means (lawful s) s.warnings b k n c refusal

@@ -3,12 +3,12 @@ use Rattle.std.proofs.Common.{◌≡◌, ◌∙◌, ap}
 use Rattle.base_model.specs.Text.{Text}
 use Rattle.options_read.specs.declared.options.Options.{Options}
 use Rattle.options_read.specs.Filled.{AreOptions}
-use Rattle.options_read.specs.Settings.{Source, value, argument}
+use Rattle.options_read.specs.Settings.{Source}
 use Rattle.cmd_expire.specs.Rules.{rules_by}
 use Rattle.cmd_trait.specs.Meaning.{Place}
 use Rattle.program_run.specs.Asked.{rules_in}
 
-pub rules_are : (o : Options) (s : Source) → AreOptions o (value s) (argument s) → rules_by o ≡ rules_in s
+pub rules_are : (o : Options) (s : Source) → AreOptions o s → rules_by o ≡ rules_in s
 rules_are o s is =
     let full = is.repo1_retention_full in
     let counts = is.repo1_retention_full_type in

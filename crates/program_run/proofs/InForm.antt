@@ -1,19 +1,20 @@
 -- The stanza that arguments resolve to is in form.
 use Rattle.std.proofs.Common.{◌≡◌, ◌≢◌, ℕ, Bool, true, false, List, [], ◌∷◌, length, drop, codes, Option, Some, None, Result, Ok, Err, refl, sym, ap, subst, ◌∙◌}
-use Rattle.std.specs.Prelude.{string_bytes, ◌&&◌, is_some, is_none, if◌then◌else◌, option_and_then}
-use Rattle.std.specs.List.{list_all, find}
+use Rattle.std.specs.Prelude.{string_bytes, ◌&&◌, ◌||◌, is_some, is_none, if◌then◌else◌, option_and_then}
+use Rattle.std.specs.List.{list_all, list_any, find}
 use Rattle.std.specs.Option.{option_map_or, option_or}
 use Rattle.base_devices.specs.Content.{Content}
 use Rattle.base_model.specs.Text.{Text}
 use Rattle.options_table.specs.declared.table.TheConstants.{TABLE, VERBS}
 use Rattle.options_table.specs.declared.table.Opt.TheVariants.{Stanza}
 use Rattle.options_table.specs.declared.table.Verb.{Verb}
-use Rattle.options_table.specs.declared.table.Verb.TheVariants.{StanzaCreate, ArchivePush, ArchivePushAsync, ArchiveGet, ArchiveGetAsync, Backup, Expire, Restore, Verify, Info, Rehearse}
+use Rattle.options_table.specs.declared.table.Verb.TheVariants.{StanzaCreate, StanzaUpgrade, ArchivePush, ArchivePushAsync, ArchiveGet, ArchiveGetAsync, Backup, Expire, Restore, Verify, Info, Rehearse}
 use Rattle.options_read.specs.Faults.{Fault, option_missing, option_value, ◌>>=◌}
 use Rattle.options_table.specs.Table.{row, is_for, stanza as stanza_kind}
-use Rattle.options_table.specs.Values.{is_stanza, is_stanza_byte, value_of, text_where}
+use Rattle.base_model.specs.StanzaName.{is_stanza, is_stanza_byte}
+use Rattle.options_table.specs.Values.{value_of, text_where}
 use Rattle.options_read.specs.Words.{read_arguments}
-use Rattle.options_read.specs.Settings.{Source, Resolved, resolve, resolved_arguments, settled, source_of, sections_of, configured, accepted, command_of, each_is_for, stanza_of, value_given, value_configured, none_wrong, refused, is_wrong, in_force, value}
+use Rattle.options_read.specs.Settings.{Source, Resolved, resolve, resolved_arguments, settled, source_of, sections_of, configured, accepted, command_of, each_is_for, stanza_of, value_given, value_configured, none_wrong, refused, is_wrong, in_force, stated_all, value}
 use Rattle.archive_lookup.specs.Paths.{Lacks}
 use Rattle.archive_store.proofs.PathLies.{lacks_not}
 use Rattle.base_crash_lists.specs.Beside.{IsStanza}
@@ -49,6 +50,7 @@ given_is given stanza e = go (value_given given (codes "stanza")) refl
 every_has : (verb : Verb) → is_for verb Stanza ≡ true
 unfolding row
 every_has StanzaCreate = refl
+every_has StanzaUpgrade = refl
 every_has ArchivePush = refl
 every_has ArchivePushAsync = refl
 every_has ArchiveGet = refl
@@ -74,8 +76,9 @@ right_is s stanza is right = go (is_stanza stanza) refl
     go : (b : Bool) → is_stanza stanza ≡ b → is_stanza stanza ≡ true
     go true e = e
     go false e =
+        let others = list_any (λ (t : Text). is_none (value_of stanza_kind t)) (stated_all s Stanza) in
         let wrong : is_wrong s Stanza ≡ true =
-        ap (λ (o : Option Text). is_some o && is_none (option_and_then (value_of stanza_kind) o)) is ∙ ap (λ (b : Bool). is_none (text_where b stanza)) e in
+        ap (λ (o : Option Text). (is_some o && is_none (option_and_then (value_of stanza_kind) o)) || others) is ∙ ap (λ (b : Bool). is_none (text_where b stanza) || others) e in
         let u : ◌≡◌ {A = Bool} false true = sym right ∙ wrong in cc
 
 -- ---- what resolves
@@ -127,4 +130,4 @@ command_in_form arguments files c x = subst (λ (t : Text). is_stanza t ≡ true
 
 -- the stanza of what is asked for is in form
 pub asked_in_form : (arguments : List Text) (files : Option Content) (s : Resolved) → MayAsk arguments files s → IsStanza s.stanza
-asked_in_form arguments files s asks = form_lacks s.stanza (settled_stanza arguments asks.settles.bytes s asks.settles.settled)
+asked_in_form arguments files s asks = form_lacks s.stanza (settled_stanza arguments asks.bytes s asks.settled)

@@ -101,7 +101,6 @@ usage_talks usage.ParameterUtf8 = low 13 (omega arith)
 usage_talks usage.NoMemory = high 90 (omega arith)
 
 stage_long : (e : StageFault) → IsServerRefusal (stage_status e) → stage_status e ≡ 70
-stage_long (stage.NotBuilt a) = high 100 (omega arith)
 stage_long (stage.ConfigMissing a) = low 10 (omega arith)
 stage_long (stage.ConfigLong a b) = λ is. refl
 stage_long (stage.Held a) = low 20 (omega arith)

@@ -1,22 +1,19 @@
 -- What the program answers and does, from the arguments on.
-use Rattle.std.specs.Prelude.{◌≡◌, ◌≢◌, ◌⊎◌, ◌+◌, ℕ, List, [], Option, None, Some, Ok}
+use Rattle.std.specs.Prelude.{◌≡◌, ◌≢◌, ◌⊎◌, ◌+◌, ℕ, List, [], Option, Ok}
 use Rattle.base_crash_lists.specs.Beside.{KeepsOthers}
 use Rattle.base_model.specs.Text.{Text}
 use Rattle.options_read.specs.declared.usage.Usage.{Usage}
 use Rattle.options_read.specs.Settings.{Resolved}
-use Rattle.cmd_types.specs.declared.stages.fault.Unbuilt.{Unbuilt}
-use Rattle.cmd_types.specs.declared.stages.fault.StageFault.TheVariants.{NotBuilt}
 use Rattle.cmd_types.specs.declared.stages.object.Object.TheVariants.{Config, Output}
 use Rattle.cmd_types.specs.World.{World, Failed}
 use Rattle.cmd_trait.specs.declared.fault.Fault.{Fault}
-use Rattle.cmd_trait.specs.declared.fault.Fault.TheVariants.{Stage}
 use Rattle.cmd_trait.specs.CallEffect.{IsIdle, Carries, Cause, OpensPlaces as OpensPlacesAt, OnlyLocked as OnlyLockedAt}
 use Rattle.cmd_trait.specs.Ends.{status_of}
 use Rattle.cmd_trait.specs.Follows.{EndsWell, Fulfils, TurnsBack, Finishes as FinishesAt, PartDone as PartDoneAt, LeavesRest as LeavesRestAt}
 use Rattle.cmd_trait.specs.KnownWorld.{known_world}
 use Rattle.cmd_trait.specs.Meaning.{TurnsKnown, IsEarly, IsServerRefusal, EndsTalk}
 use Rattle.cmd_trait.specs.Output.{IsPrinted}
-use Rattle.program_run.specs.Asked.{Asked, asked, unbuilt, ArgumentsResolve, MayAsk}
+use Rattle.program_run.specs.Asked.{Asked, asked, ArgumentsResolve, MayAsk}
 use Rattle.program_run.specs.Configuring.{ConfigCause}
 use Rattle.program_run.specs.Refusals.{refusal_status, refusal_lines}
 
@@ -33,31 +30,20 @@ pub record Refuses (arguments : List Text) (before after : World) (result : ℕ)
   pub idle : IsIdle before after
   pub printed : PrintsRefusal [] fault before after result
 
--- A part of what is asked for isn't supported, and nothing is done.
-pub record IsUnbuilt (s : Resolved) (before after : World) (result : ℕ) : Type 0 where
-  pub what : Unbuilt
-  pub is : unbuilt s ≡ Some what
-  pub idle : IsIdle before after
-  pub printed : PrintsRefusal s.warnings (Stage (NotBuilt what)) before after result
-
--- What the resolved arguments ask for is done and reported; or it isn't supported.
+-- What the resolved arguments ask for is done and reported.
 abbrev pub Obeys : Resolved → World → World → ℕ → Type 0
-Obeys s before after result =
-    ((unbuilt s ≡ None) × Carries (asked s).at (asked s).means s.warnings before after result)
-    ⊎ IsUnbuilt s before after result
+Obeys s before after result = Carries (asked s).at (asked s).means s.warnings before after result
 
 -- The arguments are refused, or they resolve to a command, which is obeyed.
 abbrev pub Answers : List Text → World → World → ℕ → Type 0
 Answers arguments before after result = Refuses arguments before after result
     ⊎ ((s : Resolved) × ArgumentsResolve arguments before.config.files (Ok s) × Obeys s before after result)
 
--- Where no cause of a refusal holds, what is asked for is supported, and the output didn't fail, the command succeeded,
--- or memory ran out.
+-- Where no cause of a refusal holds, and the output didn't fail, the command succeeded, or memory ran out.
 abbrev pub Completes : List Text → World → World → ℕ → Type 0
 Completes arguments before after result =
     ((fault : Fault Usage) → refusal_status fault ≢ 90
     → ¬ ConfigCause arguments before.config.files (Failed before after Config) fault)
-    → ((s : Resolved) → ArgumentsResolve arguments before.config.files (Ok s) → unbuilt s ≡ None)
     → ((s : Resolved) (fault : Fault (asked s).fault) → MayAsk arguments before.config.files s
     → status_of (asked s).means fault ≢ 90 → ¬ Cause (asked s).at (asked s).means before after fault)
     → ¬ Failed before after Output → EndsWell result ⊎ (result ≡ 90)

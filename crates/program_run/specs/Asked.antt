@@ -2,19 +2,18 @@
 use Rattle.std.specs.Prelude.{◌≡◌, ◌^◌, ◌≤◌, ℕ, Bool, true, false, List, [], Option, None, Some, Result, Ok, IfSome, IsSome, length, if◌then◌else◌}
 use Rattle.base_devices.specs.Content.{Content}
 use Rattle.base_model.specs.Text.{Text}
-use Rattle.options_table.specs.declared.table.Opt.TheVariants.{ArchiveAsync, ArchiveGetQueueMax, ArchiveTimeout, BackupType, Delta, ExpireAuto, Number, Online, Output, Pg1Database, Pg1Port, Pg1SocketPath, Pg1User, ProcessMax, Repo1Bundle, Repo1RetentionArchive, Repo1RetentionArchiveType, Repo1RetentionDiff, Repo1RetentionFull, Repo1RetentionFullType, SpoolPath, StartFast}
+use Rattle.options_table.specs.declared.table.Opt.TheVariants.{ArchiveAsync, ArchiveGetQueueMax, ArchiveTimeout, BackupType, Delta, ExpireAuto, Number, Online, Output, Pg1Database, Pg1Port, Pg1SocketPath, Pg1User, ProcessMax, Repo1Bundle, Repo1BundleLimit, Repo1BundleSize, Repo1RetentionArchive, Repo1RetentionArchiveType, Repo1RetentionDiff, Repo1RetentionFull, Repo1RetentionFullType, SpoolPath, StartFast}
 use Rattle.options_table.specs.declared.table.Verb.{Verb}
-use Rattle.options_table.specs.declared.table.Verb.TheVariants.{StanzaCreate, ArchivePush, ArchivePushAsync, ArchiveGet, ArchiveGetAsync, Backup, Restore, Info, Verify, Expire, Rehearse}
+use Rattle.options_table.specs.declared.table.Verb.TheVariants.{StanzaCreate, StanzaUpgrade, ArchivePush, ArchivePushAsync, ArchiveGet, ArchiveGetAsync, Backup, Restore, Info, Verify, Expire, Rehearse}
 use Rattle.options_read.specs.Faults.{Fault}
 use Rattle.options_read.specs.Filled.{or_else, number_in, word_in, kind_word, retention_word, output_word}
 use Rattle.options_read.specs.Paths.{Path, nowhere, usual, named, path_of_arguments}
 use Rattle.options_read.specs.Settings.{Source, Resolved, value, resolved_arguments}
-use Rattle.cmd_types.specs.declared.stages.fault.Unbuilt.{Unbuilt}
-use Rattle.cmd_types.specs.declared.stages.fault.Unbuilt.TheVariants.{Bundles}
 use Rattle.cmd_trait.specs.InForce.{is_on, first_of, second_of, path_in, count_in, size_in, place_in}
 use Rattle.cmd_trait.specs.Meaning.{Place, Meaning}
 use Rattle.cmd_stanza_create.specs.Server.{Server}
 use Rattle.cmd_stanza_create.specs.declared.fault.CreateFault.{CreateFault}
+use Rattle.cmd_stanza_upgrade.specs.declared.fault.UpgradeCommandFault.{UpgradeCommandFault}
 use Rattle.cmd_archive_push.specs.declared.fault.PushFault.{PushFault}
 use Rattle.cmd_archive_get.specs.declared.fault.GetFault.{GetFault}
 use Rattle.cmd_backup_offline.specs.declared.fault.OfflineFault.{OfflineFault}
@@ -25,8 +24,10 @@ use Rattle.cmd_verify.specs.declared.command.fault.VerifyCommandFault.{VerifyCom
 use Rattle.cmd_expire.specs.declared.fault.ExpireCommandFault.{ExpireCommandFault}
 use Rattle.cmd_expire.specs.Rules.{full_rule, kind_by}
 use Rattle.cmd_rehearse.specs.declared.fault.RehearseFault.{RehearseFault}
+use Rattle.backup_plan.specs.declared.values.PlanSettings.{PlanSettings}
 use Rattle.expire_rules.specs.declared.rules.Rules.{Rules}
 use Rattle.run_stanza_create.specs.Creating.{create_meaning}
+use Rattle.run_stanza_upgrade.specs.Upgrading.{upgrade_meaning}
 use Rattle.run_archive_push.specs.declared.fault.QueuedPushFault.{QueuedPushFault}
 use Rattle.run_archive_push.specs.Pushing.{push_meaning}
 use Rattle.run_archive_push.specs.Queueing.{queued_push_meaning}
@@ -92,6 +93,10 @@ server_in s = record {
   database = path_in s Pg1Database;
 }
 
+-- where one is
+abbrev pub asked_in : Source → Option Server
+asked_in s = if is_on s Online then Some (server_in s) else None
+
 -- what the options of retention say (pgBackRest configuration reference, "Repository Options")
 abbrev pub rules_in : Source → Rules
 rules_in s = record {
@@ -105,12 +110,22 @@ rules_in s = record {
 abbrev pub expires_in : Source → Option Rules
 expires_in s = if is_on s ExpireAuto then Some (rules_in s) else None
 
+-- how the files of a backup are taken: whether those of the prior backup are distinguished by their digests, and how
+-- small ones are stored together (pgBackRest configuration reference, "Backup Options" and "Repository Options")
+abbrev pub settings_in : Source → PlanSettings
+settings_in s = record {
+  delta = is_on s Delta;
+  bundle = is_on s Repo1Bundle;
+  bundle_size = size_in s Repo1BundleSize;
+  bundle_limit = size_in s Repo1BundleLimit;
+}
+
 -- how a server is backed up
 abbrev pub backup_in : Source → BackupHow
 backup_in s = record {
   workers = count_in s ProcessMax;
   kind = kind_by (kind_word (word_in (value s BackupType)));
-  delta = is_on s Delta;
+  settings = settings_in s;
 }
 
 abbrev pub running_in : Source → RunningHow
@@ -144,8 +159,8 @@ backup_by true s = record {
 
 -- of each verb, with its parameters
 abbrev pub asked_by : Verb → Source → List Text → Meant
-asked_by StanzaCreate s given =
-    record { fault = CreateFault; means = create_meaning (if is_on s Online then Some (server_in s) else None) }
+asked_by StanzaCreate s given = record { fault = CreateFault; means = create_meaning (asked_in s) }
+asked_by StanzaUpgrade s given = record { fault = UpgradeCommandFault; means = upgrade_meaning (asked_in s) }
 asked_by ArchivePush s given = push_by (is_on s ArchiveAsync) s (first_of given)
 asked_by ArchivePushAsync s given = record { fault = PushFault; means = drain_meaning (path_in s SpoolPath) }
 asked_by ArchiveGet s given =
@@ -170,18 +185,9 @@ meant s = asked_by s.source.verb s.source s.parameters
 abbrev pub asked : Resolved → Asked
 asked s = record { at = place_in s; fault = (meant s).fault; means = (meant s).means }
 
--- what isn't supported of it
-abbrev pub unbuilt_by : Verb → Source → Option Unbuilt
-unbuilt_by Backup s = if is_on s Repo1Bundle then Some Bundles else None
-unbuilt_by other s = None
-
-abbrev pub unbuilt : Resolved → Option Unbuilt
-unbuilt s = unbuilt_by s.source.verb s.source
-
 -- the arguments ask for this, as far as the configuration is known
-pub record MayAsk (arguments : List Text) (files : Option Content) (s : Resolved) : Type 0 where
-  pub settles : ArgumentsResolve arguments files (Ok s)
-  pub built : unbuilt s ≡ None
+abbrev pub MayAsk : List Text → Option Content → Resolved → Type 0
+MayAsk arguments files s = ArgumentsResolve arguments files (Ok s)
 
 -- the arguments ask for this
 pub record Asks (arguments : List Text) (files : Option Content) (s : Resolved) : Type 0 where

@@ -1,6 +1,6 @@
 -- Of which commands the clauses of the top calls speak: each that the arguments ask for, or the one that is resolved.
 -- Own.
-use Rattle.std.specs.Prelude.{◌≡◌, ℕ, false, List, map, String, string_bytes, Option, None, IfSome}
+use Rattle.std.specs.Prelude.{◌≡◌, ℕ, false, List, map, String, string_bytes, Option}
 use Rattle.std.specs.declared.alloc.Global.{Global}
 use Rattle.base_devices.specs.Content.{Content}
 use Rattle.base_model.specs.Text.{Text}
@@ -8,7 +8,7 @@ use Rattle.cmd_types.specs.World.{World}
 use Rattle.options_read.specs.declared.resolve.Command.{Command}
 use Rattle.options_read.specs.Commands.{IsCommand}
 use Rattle.options_read.specs.Settings.{Resolved}
-use Rattle.program_run.specs.Asked.{Asked, asked, unbuilt, MayAsk, Asks}
+use Rattle.program_run.specs.Asked.{Asked, asked, MayAsk, Asks}
 
 -- ---- what a command doesn't use
 
@@ -38,11 +38,7 @@ OnResolved known P command old new result = (s : Resolved) → IsCommand command
 
 -- where it asks for something of this kind, this holds
 abbrev pub WhereResolved : Command → (Asked → Type 0) → Type 0 → Type 0
-WhereResolved command P Q = (s : Resolved) → IsCommand command s → unbuilt s ≡ None → P (asked s) → Q
-
--- where it asks for something that isn't supported, this holds
-abbrev pub WhereUnbuilt : Command → Type 0 → Type 0
-WhereUnbuilt command Q = (s : Resolved) → IsCommand command s → IfSome (unbuilt s) (λ what. Q)
+WhereResolved command P Q = (s : Resolved) → IsCommand command s → P (asked s) → Q
 
 -- ---- the commands that the arguments ask for
 

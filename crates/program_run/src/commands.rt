@@ -2,21 +2,19 @@
 ghost use Rattle.std.specs.Prelude.{◌≡◌, true, [], string_bytes};
 ghost use Rattle.options_read.specs.Commands.{IsCommand};
 ghost use Rattle.options_read.specs.Settings.{Resolved};
-ghost use Rattle.options_table.specs.Values.{is_stanza};
+ghost use Rattle.base_model.specs.StanzaName.{is_stanza};
 ghost use Rattle.worker_pool.specs.Pools.{links_in};
 ghost use Rattle.cmd_trait.specs.Code.{AreWorkers};
 ghost use Rattle.cmd_trait.specs.Kept.{KeepsFolder, KeepsServer, KeepsSpool, KeepsWorkers};
 ghost use Rattle.program_run.specs.Answers.{Obeys};
-ghost use Rattle.program_run.specs.Ranges.{AsksNoServer, UsesNoSpool, UsesNoWorkers, IsOnRepository, OnResolved, WhereResolved, WhereUnbuilt};
+ghost use Rattle.program_run.specs.Ranges.{AsksNoServer, UsesNoSpool, UsesNoWorkers, IsOnRepository, OnResolved, WhereResolved};
 
-use crate::given::{create_of, offline_of, online_of, places_of, rules, unbuilt_of};
-use crate::refusal::refuse;
+use crate::given::{create_of, offline_of, online_of, places_of, rules, upgrade_of};
 use archive_lookup::OtherProcesses;
 use base_devices::{
     Clock, DataFolder, Disk, InputFiles, Link, Locks, OutputStream, Scheduler, ServerConnection,
 };
-use cmd_trait::{Fault, Modelled, Outside, first_of, second_of};
-use cmd_types::StageFault;
+use cmd_trait::{Modelled, Outside, first_of, second_of};
 use options_read::Command;
 use options_table::Verb;
 use run_archive_get::{ArchiveGet, ArchiveGetThrough};
@@ -56,18 +54,14 @@ pub fn carry<
     ensures alone { WhereResolved command.now UsesNoWorkers (KeepsWorkers outside.old outside.new) }
     ensures waits { WhereResolved command.now UsesNoSpool (KeepsSpool outside.old outside.new) }
     ensures unused { WhereResolved command.now IsOnRepository (KeepsFolder outside.old outside.new) }
-    ensures unbuilt { WhereUnbuilt command.now (outside.new ≡ record outside.old { out = outside.new.out }) }
     ensures config { outside.new.config ≡ outside.old.config }
 {
-    if let Some(what) = unbuilt_of(command) {
-        let fault = Fault::Stage(StageFault::NotBuilt { what });
-        return refuse(alloc, &mut outside.out, &command.warnings, fault);
-    }
     let places = places_of(command);
     let options = &command.options;
     let unknown = &command.warnings;
     match command.verb {
         Verb::StanzaCreate => outside.obey(alloc, &create_of(command), &places, unknown),
+        Verb::StanzaUpgrade => outside.obey(alloc, &upgrade_of(command), &places, unknown),
         Verb::ArchivePush => {
             let path = first_of(&command.given);
             if options.archive_async {

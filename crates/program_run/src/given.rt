@@ -3,22 +3,22 @@ ghost use Rattle.std.specs.Prelude.{◌≡◌, [], true, option_map, string_byte
 ghost use Rattle.options_read.specs.Commands.{IsCommand};
 ghost use Rattle.options_read.specs.Filled.{or_else};
 ghost use Rattle.options_read.specs.Settings.{Resolved};
-ghost use Rattle.options_table.specs.Values.{is_stanza};
+ghost use Rattle.base_model.specs.StanzaName.{is_stanza};
 ghost use Rattle.cmd_stanza_create.specs.Server.{server_view};
 ghost use Rattle.cmd_trait.specs.Code.{place_of};
 ghost use Rattle.cmd_trait.specs.InForce.{place_in};
-ghost use Rattle.program_run.specs.Asked.{server_in, rules_in, expires_in, unbuilt};
-ghost use Rattle.program_run.specs.Given.{IsOffline, IsOnline, IsCreate};
+ghost use Rattle.program_run.specs.Asked.{server_in, rules_in, expires_in, settings_in};
+ghost use Rattle.program_run.specs.Given.{IsOffline, IsOnline, IsCreate, IsUpgrade, IsAskedOf};
 
+use backup_plan::PlanSettings;
 use cmd_expire::{kind_by, rules_of};
 use cmd_stanza_create::Server;
 use cmd_trait::Places;
-use cmd_types::Unbuilt;
 use expire_rules::Rules;
 use options_read::Command;
-use options_table::Verb;
 use run_backup::{BackupOffline, BackupOnline};
 use run_stanza_create::StanzaCreate;
+use run_stanza_upgrade::StanzaUpgrade;
 
 // A path, or nothing.
 fn path_of(path: &Option<String>) -> &str
@@ -41,21 +41,6 @@ pub(crate) fn places_of(command: &Command) -> Places<'_>
         data_folder: path_of(&command.options.pg1_path),
         repository: &command.options.repo1_path,
         lock_folder: &command.options.lock_path,
-    }
-}
-
-/// What isn't supported of the command.
-pub(crate) fn unbuilt_of(command: &Command) -> Option<Unbuilt>
-    ensures { (s : Resolved) → IsCommand command.now s → result ≡ unbuilt s }
-{
-    match command.verb {
-        Verb::Backup => {
-            if command.options.repo1_bundle {
-                return Some(Unbuilt::Bundles);
-            }
-            None
-        }
-        _ => None,
     }
 }
 
@@ -89,17 +74,47 @@ fn server(command: &Command) -> Server<'_>
     }
 }
 
+// The server that a command asks where it is online.
+fn asked_server(command: &Command) -> Option<Server<'_>>
+    requires { (s : Resolved) × IsCommand command.now s }
+    ensures { (s : Resolved) → IsCommand command.now s → IsAskedOf s.source result }
+{
+    if command.options.online {
+        return Some(server(command));
+    }
+    None
+}
+
 /// stanza-create: where it is online, of a server that is asked.
 pub(crate) fn create_of(command: &Command) -> StanzaCreate<'_>
     requires { (s : Resolved) × IsCommand command.now s }
     ensures { (s : Resolved) → IsCommand command.now s → IsCreate s.source result }
 {
-    let server = if command.options.online {
-        Some(server(command))
-    } else {
-        None
-    };
-    StanzaCreate { server }
+    StanzaCreate {
+        server: asked_server(command),
+    }
+}
+
+/// stanza-upgrade, in the same way.
+pub(crate) fn upgrade_of(command: &Command) -> StanzaUpgrade<'_>
+    requires { (s : Resolved) × IsCommand command.now s }
+    ensures { (s : Resolved) → IsCommand command.now s → IsUpgrade s.source result }
+{
+    StanzaUpgrade {
+        server: asked_server(command),
+    }
+}
+
+// How the files of a backup are taken.
+fn plan_settings(command: &Command) -> PlanSettings
+    ensures { (s : Resolved) → IsCommand command.now s → result ≡ settings_in s.source }
+{
+    PlanSettings {
+        delta: command.options.delta,
+        bundle: command.options.repo1_bundle,
+        bundle_size: command.options.repo1_bundle_size,
+        bundle_limit: command.options.repo1_bundle_limit,
+    }
 }
 
 /// backup of a stopped server.
@@ -109,7 +124,7 @@ pub(crate) fn offline_of(command: &Command) -> BackupOffline
     BackupOffline {
         workers: command.options.process_max,
         kind: kind_by(command.options.backup_type),
-        delta: command.options.delta,
+        settings: plan_settings(command),
         expires: expires(command),
     }
 }
@@ -123,7 +138,7 @@ pub(crate) fn online_of(command: &Command) -> BackupOnline<'_>
         server: server(command),
         workers: command.options.process_max,
         kind: kind_by(command.options.backup_type),
-        delta: command.options.delta,
+        settings: plan_settings(command),
         fast: command.options.start_fast,
         turns: command.options.archive_timeout,
         expires: expires(command),

@@ -13,8 +13,8 @@ fn place_of(at: u8, bytes: &[u8]) -> Option<usize>
     bytes.iter().position(|b| *b == at)
 }
 
-// What comes before the first such byte, and after it.
-pub(crate) fn cut_at(at: u8, bytes: &[u8]) -> Option<(&[u8], &[u8])>
+/// What comes before the first such byte, and after it.
+pub fn cut_at(at: u8, bytes: &[u8]) -> Option<(&[u8], &[u8])>
     ensures { option_map (λ p. (p.0.now, p.1.now)) result ≡ cut_at at bytes.now }
 {
     match place_of(at, bytes) {
@@ -26,8 +26,8 @@ pub(crate) fn cut_at(at: u8, bytes: &[u8]) -> Option<(&[u8], &[u8])>
     }
 }
 
-// The first line, and what comes after its newline.
-pub(crate) fn next_piece(bytes: &[u8]) -> (&[u8], Option<&[u8]>)
+/// The first line, and what comes after its newline.
+pub fn next_piece(bytes: &[u8]) -> (&[u8], Option<&[u8]>)
     ensures { pieces bytes.now ≡ result.0.now ∷ rest_pieces result.1 }
 {
     match cut_at(b'\n', bytes) {
@@ -72,7 +72,8 @@ fn is_blank(b: u8) -> bool
     b == b' ' || b == b'\t'
 }
 
-pub(crate) fn trim_start(text: &[u8]) -> &[u8]
+/// The text without blanks and tabs at its start.
+pub fn trim_start(text: &[u8]) -> &[u8]
     ensures { result.now ≡ trim_start text.now }
 {
     let mut rest = text;
@@ -85,7 +86,8 @@ pub(crate) fn trim_start(text: &[u8]) -> &[u8]
     rest
 }
 
-pub(crate) fn trim_end(text: &[u8]) -> &[u8]
+/// The text without blanks and tabs at its end.
+pub fn trim_end(text: &[u8]) -> &[u8]
     ensures { result.now ≡ trim_end text.now }
 {
     let mut rest = text;

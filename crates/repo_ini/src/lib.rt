@@ -8,6 +8,7 @@
 //!   which no info text continues is reported, or the wrong sum.
 //! - `read_config`: the settings of a configuration, each with its section and its line, or the first line that is
 //!   none.
+//! - `next_piece`, `cut_at`, `trim_start`, `trim_end`: the first line of a text, and the parts of a line.
 #![tactic(auto)]
 
 mod config;
@@ -23,6 +24,7 @@ mod values;
 mod write;
 
 pub use config::{ConfigLine, read_config};
+pub use cuts::{cut_at, next_piece, trim_end, trim_start};
 pub use fault::IniFault;
 pub use names::is_before;
 pub use part::Part;

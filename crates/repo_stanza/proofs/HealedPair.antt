@@ -11,13 +11,13 @@ use Rattle.base_model.specs.declared.clusters.Cluster.{Cluster}
 use Rattle.base_model.specs.declared.labels.Label.{Label}
 use Rattle.base_model.specs.Text.{Text, In}
 use Rattle.base_model.specs.Names.{archive_info, backup_info, copy_of, manifest_name, label_text}
-use Rattle.base_model.specs.Values.{BackupInfo, Entry, Manifest}
+use Rattle.base_model.specs.Values.{BackupInfo, Manifest}
 use Rattle.base_model.specs.Fields.{Field}
 use Rattle.base_model.specs.InfoFiles.{IsArchiveText, IsBackupText, entry_field}
 use Rattle.base_model.specs.ManifestText.{IsManifestText}
 use Rattle.base_model.specs.Pair.{PairIs, MemberIs}
 use Rattle.base_model.specs.Repository.{Stanza, Backup}
-use Rattle.base_model.specs.Represents.{Represents, HasStanza, IsManifestOf, IsPending, IsArchiveFile, archive_value, backup_value}
+use Rattle.base_model.specs.Represents.{Represents, HasStanza, IsPending, IsArchiveFile, archive_value, backup_value}
 use Rattle.base_model.specs.Log.{IsPlaceOf, Lists}
 use Rattle.base_model.specs.Now.{NowRepresents}
 use Rattle.base_model.specs.Steady.{IsSteady, EachImage}
@@ -30,16 +30,17 @@ use Rattle.repo_keys.proofs.Numbers.{in_map, map_in}
 use Rattle.repo_stanza.specs.HealingPair.{mending_writes}
 use Rattle.base_model.proofs.BackupNames.{IsBackupMember, main_member, copy_member, manifest_apart, place_apart, manifest_same, place_same}
 use Rattle.repo_stanza.proofs.OneBackup.{pair_agrees}
+use Rattle.repo_stanza.proofs.ManifestKept.{entries_of, manifest_kept}
 
 -- g has the stanza, and no place that f doesn't have
-record Keeps (stanza : Text) (s : Stanza) (f g : Content) : Type 0 where
-  has : HasStanza stanza g s
-  places : (n : Text) → IsPlaceOf stanza g n → IsPlaceOf stanza f n
+pub record Keeps (stanza : Text) (s : Stanza) (f g : Content) : Type 0 where
+  pub has : HasStanza stanza g s
+  pub places : (n : Text) → IsPlaceOf stanza g n → IsPlaceOf stanza f n
 
-abbrev WriteKeeps : Text → Stanza → Write → Type 0
+abbrev pub WriteKeeps : Text → Stanza → Write → Type 0
 WriteKeeps stanza s w = (f : Content) → HasStanza stanza f s → Keeps stanza s f (put w.0 (Some w.1) f)
 
-alike_keeps : (stanza : Text) (s : Stanza) (f g : Content) → HasStanza stanza f s → Alike f g → Keeps stanza s f g
+pub alike_keeps : (stanza : Text) (s : Stanza) (f g : Content) → HasStanza stanza f s → Alike f g → Keeps stanza s f g
 alike_keeps stanza s f g h a = record { has = alike_represents stanza f g (Some s) a h; places = λ n p. place_past stanza f g (past_alike stanza f g a) n p }
 
 -- what each write keeps some of the writes keep
@@ -60,17 +61,13 @@ module _ (stanza : Text) (s : Stanza) (text : Text) (is : IsArchiveText (archive
     places = λ n p. place_past stanza f (put (archive_info stanza) (Some text) f) (put_past stanza (archive_info stanza) text f refl) n p;
   }
 
-  archive_copy : WriteKeeps stanza s (copy_of (archive_info stanza), text)
+  pub archive_copy : WriteKeeps stanza s (copy_of (archive_info stanza), text)
   archive_copy f h = record {
     has = healed_represents stanza s text is f (put (copy_of (archive_info stanza)) (Some text) f) h (inl (inr (alike_refl _)));
     places = λ n p. place_past stanza f (put (copy_of (archive_info stanza)) (Some text) f) (put_past stanza (copy_of (archive_info stanza)) text f refl) n p;
   }
 
 -- ---- the backup pair
-
-entries_of : (s : Stanza) (c : Option Cluster) → (backup_value s c).backups ≡ map (λ b. b.entry) s.backups
-entries_of s None = refl
-entries_of s (Some c) = refl
 
 -- a write at a name of no other kind
 record IsApart (stanza name : Text) : Type 0 where
@@ -92,37 +89,8 @@ module _ (stanza : Text) (s : Stanza) (name text : Text) (apart : IsApart stanza
   other : (n : Text) → n ≢ name → g n ≡ f n
   other n e = put_other name (Some text) f n e
 
-  lists : (b : Backup) → In b s.backups → Lists stanza f b.entry.label
-  lists b at = (backup_value s h.pending, h.backup_pair, (b.entry, subst (λ (es : List Entry). In b.entry es) (sym (entries_of s h.pending)) (in_map (λ (b : Backup). b.entry) s.backups b at), refl))
-
-  manifest_of : (b : Backup) → In b s.backups → (m : Manifest) → PairIs IsManifestText f (manifest_name stanza b.entry.label) m → IsManifestOf stanza f s b m → IsManifestOf stanza g s b m
-  manifest_of b at m reads of = record {
-    label = of.label;
-    kind = of.kind;
-    prior = of.prior;
-    start = of.start;
-    stop = of.stop;
-    cluster = of.cluster;
-    wal = of.wal;
-    choices = of.choices;
-    folders = of.folders;
-    paths = of.paths;
-    references = of.references;
-    ancestors = of.ancestors;
-    files = λ e in_m. let x = of.files e in_m in (
-      x.0,
-      x.1,
-      record {
-        size = x.2.size;
-        time = x.2.time;
-        sum = x.2.sum;
-        stored = λ filled.
-            let y = x.2.stored filled in
-            let p : IsPlaceOf stanza f _ = record { label = b.entry.label; listed = lists b at; manifest = m; reads = reads; entry = e; of_it = in_m; filled = filled; is = refl } in
-            (y.0, other _ (place_apart stanza f _ name p apart.member) ∙ y.1, y.2);
-      },
-    );
-  }
+  at_place : (n : Text) → IsPlaceOf stanza f n → g n ≡ f n
+  at_place n p = other n (place_apart stanza f n name p apart.member)
 
   manifest_there : (l : Label) (m : Manifest) → PairIs IsManifestText f (manifest_name stanza l) m → PairIs IsManifestText g (manifest_name stanza l) m
   manifest_there l m p = pair_same IsManifestText f g (manifest_name stanza l) m
@@ -139,7 +107,7 @@ module _ (stanza : Text) (s : Stanza) (name text : Text) (apart : IsApart stanza
       pending = pending;
       is_pending = fits;
       backup_pair = pair;
-      manifests = λ b at. let x = h.manifests b at in (x.0, manifest_there b.entry.label x.0 x.1, manifest_of b at x.0 x.1 x.2);
+      manifests = λ b at. let x = h.manifests b at in (x.0, manifest_there b.entry.label x.0 x.1, manifest_kept stanza f s h b at g s at_place (λ d is. is) (λ l a. a) x.0 x.1 x.2);
       archived = λ n bytes file. let e = other n (apart.files n file) in ((λ is. (h.archived n bytes file).0 (sym e ∙ is)), (λ x. e ∙ (h.archived n bytes file).1 x));
       named = h.named;
     }
@@ -170,10 +138,10 @@ module _ (stanza : Text) (s : Stanza) (name text : Text) (apart : IsApart stanza
     written = record { has = has_it; places = place_back }
 
 module _ (stanza : Text) (s : Stanza) (pending : Option Cluster) (fits : IsPending s pending) (text : Text) (is : IsBackupText (backup_value s pending) text) where
-  backup_main : WriteKeeps stanza s (backup_info stanza, text)
+  pub backup_main : WriteKeeps stanza s (backup_info stanza, text)
   backup_main f h = written stanza s (backup_info stanza) text (main_is_apart stanza) f h pending fits (inl (text, put_same (backup_info stanza) (Some text) f, is))
 
-  backup_copy : WriteKeeps stanza s (copy_of (backup_info stanza), text)
+  pub backup_copy : WriteKeeps stanza s (copy_of (backup_info stanza), text)
   backup_copy f h = ⊎_elim
       (λ (m : MemberIs IsBackupText f (backup_info stanza) (backup_value s h.pending)). by h.pending h.is_pending (inl (m.0, main ∙ m.1, m.2)))
       (λ (q : ((w : BackupInfo) → ¬ MemberIs IsBackupText f (backup_info stanza) w) × MemberIs IsBackupText f (copy_of (backup_info stanza)) (backup_value s h.pending)).

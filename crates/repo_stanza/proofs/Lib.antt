@@ -5,6 +5,7 @@ pub mod NewStanza
 pub mod Settled
 pub mod Alikes
 pub mod OneBackup
+pub mod ManifestKept
 mod HealedPair
 pub mod Lengths
 mod Shorter
@@ -14,3 +15,8 @@ mod Looked
 mod SameStanza
 mod LabelTexts
 mod Leftovers
+mod Longer
+mod Advanced
+mod Nexts
+mod Upgradings
+mod SavedTexts

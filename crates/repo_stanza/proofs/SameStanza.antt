@@ -33,29 +33,29 @@ use Rattle.repo_stanza.proofs.Settled.{same_prefix}
 use Rattle.repo_stanza.proofs.Shorter.{last_number, shorter_rules, shorter_text}
 use Rattle.repo_stanza.proofs.HealedPair.{healed_pair_moves, healed_pair_steady, healed_pair_now}
 
-archive_text_is : (f : Content) (name : Text) (v : ArchiveInfo) → PairIs IsArchiveText f name v → IsArchiveText v (archive_text v)
+pub archive_text_is : (f : Content) (name : Text) (v : ArchiveInfo) → PairIs IsArchiveText f name v → IsArchiveText v (archive_text v)
 archive_text_is f name v (inl m) = subst (IsArchiveText v) m.2.spelled m.2
 archive_text_is f name v (inr q) = subst (IsArchiveText v) q.1.2.spelled q.1.2
 
-backup_text_is : (f : Content) (name : Text) (v : BackupInfo) → PairIs IsBackupText f name v → IsBackupText v (backup_text v)
+pub backup_text_is : (f : Content) (name : Text) (v : BackupInfo) → PairIs IsBackupText f name v → IsBackupText v (backup_text v)
 backup_text_is f name v (inl m) = subst (IsBackupText v) m.2.spelled m.2
 backup_text_is f name v (inr q) = subst (IsBackupText v) q.1.2.spelled q.1.2
 
 -- what a mapped list has at a place
-get_map : {X Y : Type 0} (g : X → Y) (xs : List X) (n : ℕ) (y : Y) → slice_get (map g xs) n ≡ Some y → (x : X) × (slice_get xs n ≡ Some x) × (y ≡ g x)
+pub get_map : {X Y : Type 0} (g : X → Y) (xs : List X) (n : ℕ) (y : Y) → slice_get (map g xs) n ≡ Some y → (x : X) × (slice_get xs n ≡ Some x) × (y ≡ g x)
 get_map {X} {Y} g [] n y e = let no : ◌≡◌ {A = Option Y} None (Some y) = e in cc
 get_map {X} {Y} g (x ∷ xs) zero y e = let is : ◌≡◌ {A = Option Y} (Some (g x)) (Some y) = e in (x, refl, (let same : y ≡ g x = cc in same))
 get_map g (x ∷ xs) (suc n) y e = get_map g xs n y e
 
 -- the sections describe the backups by their fields
-sections_by : (n : ℕ) (hs : List Cluster) (xs ys : List Entry) → map entry_field xs ≡ map entry_field ys → backup_sections (record { current = n; history = hs; backups = xs }) ≡ backup_sections (record { current = n; history = hs; backups = ys })
+pub sections_by : (n : ℕ) (hs : List Cluster) (xs ys : List Entry) → map entry_field xs ≡ map entry_field ys → backup_sections (record { current = n; history = hs; backups = xs }) ≡ backup_sections (record { current = n; history = hs; backups = ys })
 unfolding backup_sections
 sections_by n hs xs ys e = rw e refl
 
 -- ---- the texts that are kept
 
 -- the stanza without what is to come has a text
-without_text : (s : Stanza) (c : Cluster) → 1 ≤ length s.history → IsPending s (Some c) → IsBackupText (backup_value s (Some c)) (backup_text (backup_value s (Some c))) → IsBackupText (backup_value s None) (backup_text (backup_value s None))
+pub without_text : (s : Stanza) (c : Cluster) → 1 ≤ length s.history → IsPending s (Some c) → IsBackupText (backup_value s (Some c)) (backup_text (backup_value s (Some c))) → IsBackupText (backup_value s None) (backup_text (backup_value s None))
 without_text s c some unused is =
     let v = backup_value s (Some c) in
     let number = last_number s.history c 1 is.rules.numbers in

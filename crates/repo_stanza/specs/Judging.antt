@@ -62,6 +62,16 @@ pub record KeepsStanza (stanza : Text) (known : Control) (f : Content) (a : Arch
   pub settles : Validates a backup w
   pub of : IsOf known a
 
+-- f's two pairs have values: that of the archive pair is this one, and the other's validates to this list
+pub record HasList (stanza : Text) (f : Content) (archive : ArchiveInfo) (list : BackupInfo) : Type 0 where
+  pub backup : BackupInfo
+  pub pairs : HavePairs stanza f archive backup
+  pub settles : Validates archive backup list
+
+-- where its contents are known, the disk's pairs have such values
+abbrev pub HoldsList : Text → ArchiveInfo → BackupInfo → DiskState → Type 0
+HoldsList stanza archive list d = IfSome d.view.now (λ f. HasList stanza f archive list)
+
 -- why two values, or the lack of one, are refused; the name is that of the backup pair's main member
 pub data Refuses (known : Control) (archive : Option rust_archive_info.ArchiveInfo)
     (backup : Option rust_backup_info.BackupInfo) (name : String Global) (e : StanzaFault) : Type 0 where

@@ -9,3 +9,6 @@ pub mod Owned
 pub mod Unused
 pub mod Saved
 pub mod Making
+pub mod Upgrading
+pub mod UpgradeCauses
+pub mod LongerTexts

@@ -13,6 +13,7 @@ use Rattle.repo_pair.specs.Writes.{HealsBoth, HealsNow, SavesBoth, SavesNow, End
 use Rattle.repo_stanza.specs.declared.pair_rules.PairValues.{PairValues}
 use Rattle.repo_stanza.specs.Synced.{AreSynced}
 use Rattle.repo_stanza.specs.HealingPair.{archive_text, backup_text, mending_writes, HoldBoth, HaveTexts}
+use Rattle.repo_stanza.specs.Upgrading.{upgrade_writes}
 
 -- ---- one pair: its main member's name, and the text of both members
 
@@ -86,3 +87,29 @@ abbrev pub PairsHaveTexts : Text → PairValues → DiskState → DiskState → 
 PairsHaveTexts stanza k old new = IsSome old.view.now
     → IfSome new.view.now
     (HaveTexts stanza (archive_text (archive_info_of k.archive)) (backup_text (backup_info_of k.backup)))
+
+-- ---- both pairs, with these texts
+
+-- the members of one of them
+abbrev pub archive_of : Text → Text → Write
+archive_of stanza text = (archive_info stanza, text)
+
+abbrev pub backup_of : Text → Text → Write
+backup_of stanza text = (backup_info stanza, text)
+
+-- first ones of the writes are made, or at the end all
+abbrev pub SavesTexts : Text → Text → Text → DiskState → DiskState → Type 0
+SavesTexts stanza backup archive old new = AreSynced stanza old.view
+    → Crash (FirstOf (upgrade_writes stanza backup archive)) old.view new.view
+
+abbrev pub SavesTextsNow : Text → Text → Text → DiskState → DiskState → Type 0
+SavesTextsNow stanza backup archive old new =
+    NowChanges (FirstOf (upgrade_writes stanza backup archive)) old.view.now new.view.now
+
+abbrev pub EndsTexts : Text → Text → Text → DiskState → DiskState → Type 0
+EndsTexts stanza backup archive old new = AreSynced stanza old.view
+    → Ends (AllOf (upgrade_writes stanza backup archive)) old.view new.view
+
+abbrev pub EndsTextsNow : Text → Text → Text → DiskState → DiskState → Type 0
+EndsTextsNow stanza backup archive old new =
+    NowChanges (AllOf (upgrade_writes stanza backup archive)) old.view.now new.view.now

@@ -125,6 +125,16 @@ pub fn validate_list(archive: &ArchiveInfo, backup: BackupInfo) -> Result<Backup
     })
 }
 
+/// Whether the current cluster is of the system identifier and version that are given.
+pub(crate) fn is_of(archive: &ArchiveInfo, known: &Control) -> bool
+    requires { IsArchiveInfo (archive_info_of archive.now) }
+    ensures same { result ≡ true → IsOf known.now (archive_info_of archive.now) }
+    ensures other { result ≡ false → ¬ IsOf known.now (archive_info_of archive.now) }
+{
+    let current = &archive.history[archive.current as usize - 1];
+    current.system == known.system && current.version == known.version
+}
+
 // Whether the current cluster is the one that is given.
 fn check_current(archive: &ArchiveInfo, known: &Control) -> Result<(), StanzaFault>
     requires { IsArchiveInfo (archive_info_of archive.now) }

@@ -16,7 +16,7 @@ use Rattle.worker_pool.specs.Run.{JobsFault}
 use Rattle.worker_pool.specs.declared.dispatch.fault.Lost.{Lost}
 use Rattle.worker_pool.specs.declared.dispatch.fault.DispatchFault.{DispatchFault}
 use Rattle.worker_pool.specs.declared.dispatch.fault.DispatchFault.TheVariants as dispatch
-use Rattle.restore_steps.specs.Clearing.{HasFile}
+use Rattle.restore_steps.specs.Clearing.{HasTimed}
 use Rattle.restore_steps.specs.declared.contents.files.Wanted.{Wanted}
 use Rattle.restore_steps.specs.declared.contents.files.Filed.{Filed}
 use Rattle.restore_steps.specs.Files.{temporary_path, is_wanted, wanted_of}
@@ -75,7 +75,7 @@ module _ (links : List LinkState) (nodes : Option Nodes) (jobs : List Job) (ws :
       let path : f.wanted.path.now ≡ w.path.now = ap (λ (y : Wanted). y.path.now) is in
       record {
         bytes = x.bytes;
-        file = subst (λ (p : Text). HasFile p x.bytes g) path put.0;
+        file = subst (λ (y : Wanted). HasTimed y.path.now x.bytes y.time g) is put.0;
         size = sym x.number ∙ num.0 ∙ ap (λ (y : Wanted). y.size) is;
         sum = sym x.digest ∙ num.1 ∙ ap (λ (y : Wanted). y.sum.0) is;
         item = x.item;

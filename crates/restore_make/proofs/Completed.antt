@@ -5,7 +5,7 @@ use Rattle.base_devices.specs.Content.{at, SameBut}
 use Rattle.base_devices.specs.Links.{LinkState}
 use Rattle.base_devices.specs.declared.data_folder.Node.{Node}
 use Rattle.base_devices.specs.declared.data_folder.Node.TheVariants.{File}
-use Rattle.base_devices.specs.DataFolder.{Nodes, Held, file, folder, link, other, file_bytes, IsTreeListing}
+use Rattle.base_devices.specs.DataFolder.{Nodes, Held, file, folder, link, other, file_bytes, with_time, IsTreeListing}
 use Rattle.base_model.specs.Text.{Text, In}
 use Rattle.base_model.specs.Values.{FileEntry, Manifest}
 use Rattle.restore_steps.specs.Clearing.{control_path}
@@ -37,9 +37,8 @@ module _ (stanza : Text) (links : List LinkState) (o : Options) (m : Manifest) (
     delta = x.delta;
     ordinary = x.ordinary;
     bytes = x.bytes;
-    time = x.time;
+    was = (x.was.0, sym (but e.path (ordinary_off o.recovery e x.ordinary)) ∙ x.was.1);
     is = x.is;
-    same = sym (but e.path (ordinary_off o.recovery e x.ordinary)) ∙ x.same;
     size = x.size;
     digested = x.digested;
   }
@@ -51,16 +50,17 @@ module _ (stanza : Text) (links : List LinkState) (o : Options) (m : Manifest) (
   alike : (f : Nodes) → IsMarked stanza links o m marks mid f → KeepsAlike links o m.files old f
   alike f done tree repo read files delta e i ordinary = by old refl
     where
-      one : (g : Nodes) → old ≡ Some g → (bytes : Text) → file_bytes (g e.path) ≡ Some bytes → AreOf e bytes → f e.path ≡ g e.path
+      one : (g : Nodes) → old ≡ Some g → (bytes : Text) → file_bytes (g e.path) ≡ Some bytes → AreOf e bytes → f e.path ≡ with_time e.time (g e.path)
       one g is bytes has are =
           let listed = subst (λ (x : Option Nodes). IfSome x (λ h. IsTreeListing h seen)) is listing in
           let held = subst (λ (x : Option Nodes). AreFilesOf x tree) is files in
           let mark = all tree repo read delta e i ordinary (shown_file seen e g listed bytes has are) bytes (held e.path ∙ has) are in
           let x = kept_first f e (done.kept e mark) in
-          let h : ◌≡◌ {A = Option (Option Held)} (Some (g e.path)) (Some (f e.path)) = ap (at e.path) (sym is) ∙ x.same in
-          cc
+          let h : ◌≡◌ {A = Option (Option Held)} (Some (g e.path)) (Some (Some (file x.bytes x.was.0))) = ap (at e.path) (sym is) ∙ x.was.1 in
+          let held_node : g e.path ≡ Some (file x.bytes x.was.0) = cc in
+          x.is ∙ sym (ap (with_time e.time) held_node)
 
-      by : (x : Option Nodes) → old ≡ x → IfSome x (λ g. (bytes : Text) → file_bytes (g e.path) ≡ Some bytes → AreOf e bytes → f e.path ≡ g e.path)
+      by : (x : Option Nodes) → old ≡ x → IfSome x (λ g. (bytes : Text) → file_bytes (g e.path) ≡ Some bytes → AreOf e bytes → f e.path ≡ with_time e.time (g e.path))
       by None is = tt
       by (Some g) is = one g is
 

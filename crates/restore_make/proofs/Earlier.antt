@@ -6,8 +6,8 @@ use Rattle.base_devices.specs.Content.{Content}
 use Rattle.base_devices.specs.Links.{LinkState, Modelled}
 use Rattle.base_devices.specs.DataFolder.{Nodes}
 use Rattle.base_model.specs.declared.labels.Label.{Label}
-use Rattle.base_model.specs.Restored.{Recovery, conf_path}
-use Rattle.base_model.specs.Restored.Recovery.{ToTheEnd, Nothing}
+use Rattle.restore_make.specs.Recovered.{Recovery, conf_path}
+use Rattle.restore_make.specs.Recovered.Recovery.{FromArchive, Nothing}
 use Rattle.base_model.specs.Text.{Text}
 use Rattle.base_model.specs.Values.{FileEntry, Manifest}
 use Rattle.worker_protocol.specs.Frames.{Item}
@@ -55,11 +55,11 @@ module _ (stanza : Text) (links now : List LinkState) (before after : List Lost)
 
   come_before : (own : Label) (o : Options) (e : FileEntry) (old : Option Nodes) (f : Nodes) → HasCome stanza own now o e old f → HasCome stanza own links o e old f
   come_before own o e old f (inl x) = inl (record { bytes = x.bytes; file = x.file; are = x.are; read = λ some. read_before links now before after (source stanza own e) x.bytes left (x.read some) })
-  come_before own o e old f (inr x) = inr (record { delta = x.delta; ordinary = x.ordinary; bytes = x.bytes; time = x.time; is = x.is; same = x.same; size = x.size; digested = digested_before _ e.size e.sum x.digested })
+  come_before own o e old f (inr x) = inr (record { delta = x.delta; ordinary = x.ordinary; bytes = x.bytes; was = x.was; is = x.is; size = x.size; digested = digested_before _ e.size e.sum x.digested })
 
   added_before : (own : Label) (es : List FileEntry) (r : Recovery) (f : Nodes) → HasAdded stanza own now es r f → HasAdded stanza own links es r f
   added_before own es Nothing f x = tt
-  added_before own es (ToTheEnd fetch) f x = record { held = x.held; was = held_before stanza own links now before after left es conf_path x.held x.was; conf = x.conf; signal = x.signal }
+  added_before own es (FromArchive fetch) f x = record { held = x.held; was = held_before stanza own links now before after left es conf_path x.held x.was; conf = x.conf; signal = x.signal }
 
   pub finished_before : (o : Options) (m : Manifest) (old new : Option Nodes) → IfSome new (IsFinished stanza now o m old) → IfSome new (IsFinished stanza links o m old)
   finished_before o m old None done = tt

@@ -14,13 +14,13 @@ use Rattle.restore_steps.specs.declared.contents.files.Wanted.{Wanted}
 use Rattle.restore_steps.specs.Files.{temporary_path}
 use Rattle.restore_steps.specs.Apart.{AreApart}
 use Rattle.restore_steps.specs.Keeping.{IsNoneOf}
-use Rattle.restore_steps.specs.Clearing.{HasFile}
+use Rattle.restore_steps.specs.Clearing.{HasTimed}
 use Rattle.restore_steps.proofs.Nodes.{set_other, set_same}
 use Rattle.restore_steps.specs.Sources.{source, reading, IsEntry}
 use Rattle.restore_make.specs.declared.fault.FillFault.{FillFault}
 use Rattle.restore_make.specs.declared.fault.FillFault.TheVariants as faults
 use Rattle.restore_make.specs.Written.{IsJobOf, AreJobsOf, IsReadOf, IsFetched}
-use Rattle.restore_make.specs.Finished.{HasEntry}
+use Rattle.restore_make.specs.Finished.{HasEntry, IsAway}
 use Rattle.restore_make.specs.Faults.{WriteFails, FillFails, Renames}
 use Rattle.restore_make.proofs.Names.{not_temporary}
 use Rattle.restore_make.proofs.Filled.{one_left, the_one, all_gone}
@@ -62,19 +62,19 @@ one_none w q off off_temp x (inl e) = (λ is. off (is ∙ ap (λ (y : Wanted). y
 one_none w q off off_temp x (inr i) = absurd i
 
 -- a fetched file is an entry's
-pub entry_fetched : (stanza : Text) (own : Label) (links : List LinkState) (e : FileEntry) (j : Job) (w : Wanted) (path : Text) (o : Option Nodes) → j.items ≡ source stanza own e ∷ [] → w.path.now ≡ path → w.size ≡ e.size → w.sum.0 ≡ e.sum → IfSome o (IsFetched links j w) → IfSome o (HasEntry stanza own links e path)
-entry_fetched stanza own links e j w path None items is size sum x = tt
-entry_fetched stanza own links e j w path (Some g) items is size sum x =
+pub entry_fetched : (stanza : Text) (own : Label) (links : List LinkState) (e : FileEntry) (j : Job) (w : Wanted) (path : Text) (o : Option Nodes) → j.items ≡ source stanza own e ∷ [] → w.path.now ≡ path → w.size ≡ e.size → w.sum.0 ≡ e.sum → w.time ≡ e.time → IfSome o (IsFetched links j w) → IfSome o (HasEntry stanza own links e path)
+entry_fetched stanza own links e j w path None items is size sum time x = tt
+entry_fetched stanza own links e j w path (Some g) items is size sum time x =
     let item : x.item ≡ source stanza own e = (let h : ◌≡◌ {A = List Item} (x.item ∷ []) (source stanza own e ∷ []) = sym x.items ∙ items in cc) in
     record {
       bytes = x.bytes;
-      file = subst (λ (p : Text). HasFile p x.bytes g) is x.file;
+      file = subst (λ (p : Text). HasTimed p x.bytes e.time g) is (subst (λ (n : ℕ). HasTimed w.path.now x.bytes n g) time x.file);
       are = (x.size ∙ size, x.sum ∙ sum);
       read = λ some. subst (λ (i : Item). IsReadOf links i x.bytes) item x.read;
     }
 
 -- one of no bytes that was begun
-pub entry_begun : (stanza : Text) (own : Label) (links : List LinkState) (e : FileEntry) (path : Text) (o : Option Nodes) → IsEntry e → e.size ≡ 0 → IfSome o (HasFile path []) → IfSome o (HasEntry stanza own links e path)
+pub entry_begun : (stanza : Text) (own : Label) (links : List LinkState) (e : FileEntry) (path : Text) (o : Option Nodes) → IsEntry e → e.size ≡ 0 → IfSome o (HasTimed path [] e.time) → IfSome o (HasEntry stanza own links e path)
 entry_begun stanza own links e path None entry none has = tt
 entry_begun stanza own links e path (Some g) entry none has = record { bytes = []; file = has; are = (sym none, sym (entry.1.empty none).0); read = λ some. absurd (omega (arith, some, none)) }
 
@@ -84,7 +84,7 @@ entry_moved stanza own links e from to o new has is = subst (λ (x : Option Node
   where
     go : (x : Option Nodes) → IfSome x (HasEntry stanza own links e from) → IfSome (option_map (moved_node from to) x) (HasEntry stanza own links e to)
     go None h = tt
-    go (Some g) h = record { bytes = h.bytes; file = (h.file.0, set_same to (g from) (with_node from None g) ∙ h.file.1); are = h.are; read = h.read }
+    go (Some g) h = record { bytes = h.bytes; file = set_same to (g from) (with_node from None g) ∙ h.file; are = h.are; read = h.read }
 
 pub moved_at : (from to q : Text) (o new : Option Nodes) → q ≢ from → q ≢ to → new ≡ option_map (moved_node from to) o → at q new ≡ at q o
 moved_at from to q o new off off_to is = ap (at q) is ∙ go o
@@ -96,6 +96,12 @@ moved_at from to q o new off off_to is = ap (at q) is ∙ go o
 pub away_fetched : (links : List LinkState) (j : Job) (w : Wanted) (path : Text) (o : Option Nodes) → w.path.now ≡ path → IfSome o (IsFetched links j w) → IfSome o (λ f. f (temporary_path path) ≡ None)
 away_fetched links j w path None is x = tt
 away_fetched links j w path (Some g) is x = subst (λ (p : Text). g (temporary_path p) ≡ None) is x.alone
+
+-- a path where nothing is
+pub away_still : (q : Text) (old new : Option Nodes) → at q new ≡ at q old → IsAway q old → IsAway q new
+away_still q old None same away = tt
+away_still q None (Some g) same away = let h : ◌≡◌ {A = Option (Option Held)} (Some (g q)) None = same in cc
+away_still q (Some f) (Some g) same away = let h : ◌≡◌ {A = Option (Option Held)} (Some (g q)) (Some (f q)) = same in let one : g q ≡ f q = cc in one ∙ away
 
 pub on_err : {A E : Type 0} (r : Result A E) (P : Type 0) → P → OnErr r P
 on_err (Ok x) P p = tt

@@ -6,14 +6,14 @@ use Rattle.base_devices.specs.Links.{LinkState, Modelled}
 use Rattle.base_devices.specs.DataFolder.{Nodes}
 use Rattle.base_text.specs.declared.sum.Sum.{Sum}
 use Rattle.base_model.specs.declared.labels.Label.{Label}
-use Rattle.base_model.specs.Restored.{Recovery}
+use Rattle.restore_make.specs.Recovered.{Recovery}
 use Rattle.base_model.specs.Text.{Text, In}
 use Rattle.base_model.specs.Values.{FileEntry}
 use Rattle.worker_protocol.specs.Frames.{Item, Job}
 use Rattle.worker_pool.specs.Reads.{UnreadBy}
 use Rattle.worker_pool.specs.Run.{AllLost, begun}
 use Rattle.worker_pool.specs.declared.dispatch.fault.Lost.{Lost}
-use Rattle.restore_steps.specs.Clearing.{control_path, HasFile}
+use Rattle.restore_steps.specs.Clearing.{control_path, HasTimed}
 use Rattle.restore_steps.specs.declared.contents.files.Wanted.{Wanted}
 use Rattle.restore_steps.specs.Files.{temporary_path}
 use Rattle.restore_steps.specs.Keeping.{IsNoneOf, HaveFolders}
@@ -59,7 +59,7 @@ module _ (stanza : Text) (own : Label) (links : List LinkState) (r : Recovery) (
       let path : w.path.now ≡ e.path = ap (λ (y : Want). y.path) is in
       record {
         bytes = x.bytes;
-        file = subst (λ (p : Text). HasFile p x.bytes g) path x.file;
+        file = subst (λ (p : Text). HasTimed p x.bytes e.time g) path (subst (λ (n : ℕ). HasTimed w.path.now x.bytes n g) (ap (λ (y : Want). y.time) is) x.file);
         are = (x.size ∙ ap (λ (y : Want). y.size) is, x.sum ∙ ap (λ (y : Want). y.sum) is);
         read = subst (λ (i : Item). IsReadOf links i x.bytes) item x.read;
         alone = ap (λ (p : Text). g (temporary_path p)) (sym path) ∙ x.alone;

@@ -9,8 +9,8 @@ use Rattle.base_devices.specs.Links.{LinkState}
 use Rattle.base_devices.specs.declared.data_folder.Node.{Node}
 use Rattle.base_devices.specs.DataFolder.{Nodes, Held, file, folder, link, other, shown, file_bytes, with_node, ChangesTree, IsTreeListing}
 use Rattle.base_model.specs.declared.labels.Label.{Label}
-use Rattle.base_model.specs.Restored.{Recovery, conf_path, signal_path}
-use Rattle.base_model.specs.Restored.Recovery.{ToTheEnd, Nothing}
+use Rattle.restore_make.specs.Recovered.{LogFetch, Recovery, conf_path, signal_path}
+use Rattle.restore_make.specs.Recovered.Recovery.{FromArchive, Nothing}
 use Rattle.base_model.specs.Text.{Text, In}
 use Rattle.base_model.specs.Values.{FileEntry, Manifest}
 use Rattle.base_model.specs.ManifestText.{IsManifest}
@@ -39,16 +39,15 @@ kept_moved links o e old f g x same = record {
   delta = x.delta;
   ordinary = x.ordinary;
   bytes = x.bytes;
-  time = x.time;
+  was = x.was;
   is = same ∙ x.is;
-  same = x.same ∙ ap (λ (v : Option Held). Some v) (sym same);
   size = x.size;
   digested = x.digested;
 }
 
-pub added_moved : (stanza : Text) (own : Label) (links : List LinkState) (es : List FileEntry) (r : Recovery) (f g : Nodes) → HasAdded stanza own links es r f → g conf_path ≡ f conf_path → g signal_path ≡ f signal_path → HasAdded stanza own links es r g
+pub added_moved : (stanza : Text) (own : Label) (links : List LinkState) (es : List FileEntry) (r : Recovery) (f g : Nodes) → HasAdded stanza own links es r f → g conf_path ≡ f conf_path → ((fetch : LogFetch) → g (signal_path fetch) ≡ f (signal_path fetch)) → HasAdded stanza own links es r g
 added_moved stanza own links es Nothing f g x conf signal = tt
-added_moved stanza own links es (ToTheEnd fetch) f g x conf signal = record { held = x.held; was = x.was; conf = (x.conf.0, conf ∙ x.conf.1); signal = (x.signal.0, signal ∙ x.signal.1) }
+added_moved stanza own links es (FromArchive fetch) f g x conf signal = record { held = x.held; was = x.was; conf = (x.conf.0, conf ∙ x.conf.1); signal = (x.signal.0, signal fetch ∙ x.signal.1) }
 
 module _ (stanza : Text) (links : List LinkState) (o : Options) (m : Manifest) (marks : List Bool) (start : Option Nodes) (rules : IsManifest m) where
   bare_is : (e : FileEntry) → e.size ≡ 0 → e.path ≢ control_path → is_bare e ≡ true
@@ -59,9 +58,9 @@ module _ (stanza : Text) (links : List LinkState) (o : Options) (m : Manifest) (
   plain_entry f g plain e i off own same = ⊎_elim
       (λ (some : 0 < e.size). ⊎_elim
       (λ (kept : In (e, true) (marked m.files marks)). inr (kept_moved links o e start f g (plain.kept e kept) same))
-      (λ (read : In (e, false) (marked m.files marks)). let x = plain.filled e read (ordinary_by o.recovery e some off own) in inl (record { bytes = x.bytes; file = (x.file.0, same ∙ x.file.1); are = x.are; read = λ _. x.read }))
+      (λ (read : In (e, false) (marked m.files marks)). let x = plain.filled e read (ordinary_by o.recovery e some off own) in inl (record { bytes = x.bytes; file = same ∙ x.file; are = x.are; read = λ _. x.read }))
       (in_marked m.files marks e i))
-      (λ (none : e.size ≡ 0). let x = plain.bare e i (bare_is e none off) own in inl (record { bytes = []; file = (x.0, same ∙ x.1); are = (sym none, sym ((rules.files e i).empty none).0); read = λ some. absurd (omega (arith, some, none)) }))
+      (λ (none : e.size ≡ 0). let x = plain.bare e i (bare_is e none off) own in inl (record { bytes = []; file = same ∙ x; are = (sym none, sym ((rules.files e i).empty none).0); read = λ some. absurd (omega (arith, some, none)) }))
       (no_size e.size)
 
   -- there is no control file to be put
@@ -112,7 +111,7 @@ module _ (stanza : Text) (links : List LinkState) (o : Options) (m : Manifest) (
       kept = kept_still;
       settings = added_moved stanza m.label links m.files o.recovery f g plain.settings
           (others conf_path conf_off (conf_lasts control_path) (conf_lasts waiting_path))
-          (others signal_path signal_off (signal_lasts control_path) (signal_lasts waiting_path));
+          (λ fetch. others (signal_path fetch) (signal_off fetch) (signal_lasts fetch control_path) (signal_lasts fetch waiting_path));
       folder = folder_still;
       nothing = λ p off apart own. nothing_else p off apart own (bytes_eq p waiting_path) (bytes_eq p (temporary_path waiting_path)) refl refl;
     }

@@ -20,9 +20,10 @@ use Rattle.base_model.specs.Represents.{IsManifestOf, IsEntryOf}
 use Rattle.worker_protocol.specs.Frames.{Item}
 use Rattle.worker_pool.specs.Reads.{Reads, ReadBy, SumsBy, IsSumOf, IsPayload, file_of}
 use Rattle.worker_pool.specs.Payloads.{AllRead}
-use Rattle.restore_steps.specs.Clearing.{HasFile}
-use Rattle.base_model.specs.Restored.Recovery.{ToTheEnd, Nothing}
-use Rattle.base_model.specs.Restored.{Recovery, conf_path, signal_path, with_block, contents, IsRestored}
+use Rattle.restore_steps.specs.Clearing.{HasTimed}
+use Rattle.restore_make.specs.Recovered.Recovery.{FromArchive, Nothing}
+use Rattle.base_model.specs.Restored.{contents, listed_times, HasTimes}
+use Rattle.restore_make.specs.Recovered.{LogFetch, Recovery, conf_path, signal_path, with_block, IsRestored}
 use Rattle.restore_steps.proofs.Paths.{take_whole}
 use Rattle.restore_make.specs.Options.{Options, is_added}
 use Rattle.restore_make.specs.Entries.{AreOf}
@@ -99,27 +100,31 @@ module _ (stanza : Text) (links : List LinkState) (tree repo : Content) (read : 
       (λ (none : e.size ≡ 0). no_bytes bytes (are.0 ∙ none) ∙ sym (no_bytes x.bytes (sym of.size ∙ none)))
       (either e.size)
 
-  entry_exact : (own : Label) (e : FileEntry) (x : File) (f : Nodes) → IsEntryOf stanza repo own x e → HasEntry stanza own links e e.path f → HasFile e.path x.bytes f
-  entry_exact own e x f of has = subst (λ (b : Text). HasFile e.path b f) (entry_bytes own e x has.bytes of has.are has.read) has.file
+  -- a file of the entry's bytes and time is the backup's
+  timed_as : (e : FileEntry) (x : File) (bytes : Text) (f : Nodes) → bytes ≡ x.bytes → e.time ≡ x.time → HasTimed e.path bytes e.time f → HasTimed e.path x.bytes x.time f
+  timed_as e x bytes f same time has = has ∙ ap (λ (b : Text). Some (file b e.time)) same ∙ ap (λ (n : ℕ). Some (file x.bytes n)) time
+
+  entry_exact : (own : Label) (e : FileEntry) (x : File) (f : Nodes) → IsEntryOf stanza repo own x e → HasEntry stanza own links e e.path f → HasTimed e.path x.bytes x.time f
+  entry_exact own e x f of has = timed_as e x has.bytes f (entry_bytes own e x has.bytes of has.are has.read) of.time has.file
 
   -- a file that was kept, whose bytes no digest takes for others
   kept_exact : (o : Options) (own : Label) (e : FileEntry) (x : File) (old : Option Nodes) (f : Nodes) → IsEntryOf stanza repo own x e → IsKept links o e old f → AreFilesOf old tree
-      → ((bytes : Text) → tree e.path ≡ Some bytes → length bytes ≡ length x.bytes → sha1 bytes ≡ sha1 x.bytes → bytes ≡ x.bytes) → HasFile e.path x.bytes f
-  kept_exact o own e x None f of has files single = let h : ◌≡◌ {A = Option (Option Held)} None (Some (f e.path)) = has.same in cc
+      → ((bytes : Text) → tree e.path ≡ Some bytes → length bytes ≡ length x.bytes → sha1 bytes ≡ sha1 x.bytes → bytes ≡ x.bytes) → HasTimed e.path x.bytes x.time f
+  kept_exact o own e x None f of has files single = let h : ◌≡◌ {A = Option (Option Held)} None (Some (Some (file has.bytes has.was.0))) = has.was.1 in cc
   kept_exact o own e x (Some g) f of has files single =
-      let h : ◌≡◌ {A = Option (Option Held)} (Some (g e.path)) (Some (f e.path)) = has.same in
-      let same : g e.path ≡ f e.path = cc in
-      let there : tree e.path ≡ Some has.bytes = files e.path ∙ ap file_bytes (same ∙ has.is) in
+      let h : ◌≡◌ {A = Option (Option Held)} (Some (g e.path)) (Some (Some (file has.bytes has.was.0))) = has.was.1 in
+      let held : g e.path ≡ Some (file has.bytes has.was.0) = cc in
+      let there : tree e.path ≡ Some has.bytes = files e.path ∙ ap file_bytes held in
       let d = has.digested in
       let sums = summed_as tree repo d.from.known (in_folder e) e.size e.sum (all_at (λ s. IsSomeAnd s.known (Reads tree repo)) links d.link d.from read d.is) d.sums in
       let whole : sums.0 ≡ has.bytes = by_value (in_folder e) (tree e.path) has.bytes sums.0 there sums.1 ∙ take_whole has.bytes e.size has.size in
       let digest : sha1 has.bytes ≡ sha1 x.bytes = ap sha1 (sym whole) ∙ sym sums.2.digest ∙ of.sum in
-      subst (λ (b : Text). HasFile e.path b f) (single has.bytes there (has.size ∙ of.size) digest) (has.time, has.is)
+      timed_as e x has.bytes f (single has.bytes there (has.size ∙ of.size) digest) of.time has.is
 
   -- ---- the tree is that of the backup
 
   module _ (s : Stanza) (b : Backup) (o : Options) (m : Manifest) (old : Option Nodes) (f : Nodes) (of : IsManifestOf stanza repo s b m) (alike : AreKnown o b old tree) (done : IsFinished stanza links o m old f) where
-    come : (e : FileEntry) (x : File) → get b.files e.path ≡ Some x → IsEntryOf stanza repo m.label x e → HasCome stanza m.label links o e old f → HasFile e.path x.bytes f
+    come : (e : FileEntry) (x : File) → get b.files e.path ≡ Some x → IsEntryOf stanza repo m.label x e → HasCome stanza m.label links o e old f → HasTimed e.path x.bytes x.time f
     come e x is entry (inl has) = entry_exact m.label e x f entry has
     come e x is entry (inr has) = let t = alike has.delta in kept_exact o m.label e x old f entry has t.0 (λ bytes. t.1 e.path bytes x is)
 
@@ -133,6 +138,22 @@ module _ (stanza : Text) (links : List LinkState) (tree repo : Content) (read : 
         let own : m.label ≡ b.entry.label = of.label in
         (e.0, e.1, e.2, subst (λ (l : Label). IsEntryOf stanza repo l x e.0) (sym own) (subst (λ (z : File). IsEntryOf stanza repo b.entry.label z e.0) one y.2))
 
+    -- each file is there, as the backup has it
+    there_as : (p : Text) (x : File) → get b.files p ≡ Some x → is_added o.recovery p ≡ false → HasTimed p x.bytes x.time f
+    there_as p x is own =
+        let d = entry_of p x is in
+        ap f d.2 ∙ come d.0 x (ap (get b.files) (sym d.2) ∙ is) d.3 (done.file d.0 d.1 (ap (is_added o.recovery) (sym d.2) ∙ own))
+
+    timed : (p : Text) (time : ℕ) → listed_times b p ≡ Some time → is_added o.recovery p ≡ false → (bytes : Text) × (f p ≡ Some (file bytes time))
+    timed p time e own = by (get b.files p) refl e
+      where
+        by : (y : Option File) → get b.files p ≡ y → option_map (λ (x : File). x.time) y ≡ Some time → (bytes : Text) × (f p ≡ Some (file bytes time))
+        by None is h = cc
+        by (Some x) is h =
+            let k : ◌≡◌ {A = Option ℕ} (Some x.time) (Some time) = h in
+            let same : x.time ≡ time = cc in
+            (x.bytes, there_as p x is own ∙ ap (λ (n : ℕ). Some (file x.bytes n)) same)
+
     each : (p bytes : Text) → contents b p ≡ Some bytes → is_added o.recovery p ≡ false → (time : ℕ) × (f p ≡ Some (file bytes time))
     each p bytes e own = by (get b.files p) refl e
       where
@@ -141,9 +162,7 @@ module _ (stanza : Text) (links : List LinkState) (tree repo : Content) (read : 
         by (Some x) is h =
             let k : ◌≡◌ {A = Option Text} (Some x.bytes) (Some bytes) = h in
             let same : x.bytes ≡ bytes = cc in
-            let d = entry_of p x is in
-            let has = come d.0 x (ap (get b.files) (sym d.2) ∙ is) d.3 (done.file d.0 d.1 (ap (is_added o.recovery) (sym d.2) ∙ own)) in
-            (has.0, ap f d.2 ∙ has.1 ∙ ap (λ (t : Text). Some (file t has.0)) same)
+            (x.time, there_as p x is own ∙ ap (λ (t : Text). Some (file t x.time)) same)
 
     absent : (p : Text) → contents b p ≡ None → get b.files p ≡ None
     absent p e = by (get b.files p) refl e
@@ -172,43 +191,54 @@ module _ (stanza : Text) (links : List LinkState) (tree repo : Content) (read : 
         let entry = subst (λ (l : Label). IsEntryOf stanza repo l y.0 was.0) (sym of.label) y.2 in
         ap (λ (t : Text). Some t) (entry_bytes m.label was.0 y.0 bytes entry was.3.are was.3.read) ∙ sym (ap (option_map (λ (x : File). x.bytes)) (ap (get b.files) (sym was.2) ∙ y.1))
 
-    module _ (fetch : Text) (is : o.recovery ≡ ToTheEnd fetch) (added : HasSettings stanza m.label links m.files fetch f) where
-      own : (p : Text) → bytes_eq signal_path p ≡ false → bytes_eq conf_path p ≡ false → is_added o.recovery p ≡ false
-      own p off_signal off_conf = ap (λ (r : Recovery). is_added r p) is ∙ own_path fetch p (λ e. other_path conf_path p off_conf (sym e)) (λ e. other_path signal_path p off_signal (sym e))
+    module _ (fetch : LogFetch) (is : o.recovery ≡ FromArchive fetch) (added : HasSettings stanza m.label links m.files fetch f) where
+      own : (p : Text) → bytes_eq (signal_path fetch) p ≡ false → bytes_eq conf_path p ≡ false → is_added o.recovery p ≡ false
+      own p off_signal off_conf = ap (λ (r : Recovery). is_added r p) is ∙ own_path fetch p (λ e. other_path conf_path p off_conf (sym e)) (λ e. other_path (signal_path fetch) p off_signal (sym e))
 
       abbrev block : Text
       block = with_block fetch (contents b conf_path)
 
-      there : (p bytes : Text) (at_signal at_conf : Bool) → bytes_eq signal_path p ≡ at_signal → bytes_eq conf_path p ≡ at_conf → cond at_signal (Some []) (cond at_conf (Some block) (contents b p)) ≡ Some bytes → (time : ℕ) × (f p ≡ Some (file bytes time))
+      there : (p bytes : Text) (at_signal at_conf : Bool) → bytes_eq (signal_path fetch) p ≡ at_signal → bytes_eq conf_path p ≡ at_conf → cond at_signal (Some []) (cond at_conf (Some block) (contents b p)) ≡ Some bytes → (time : ℕ) × (f p ≡ Some (file bytes time))
       there p bytes true at_conf same other e =
           let h : ◌≡◌ {A = Option Text} (Some []) (Some bytes) = e in
           let empty : [] ≡ bytes = cc in
-          (added.signal.0, ap f (sym ((bytes_eq-Decides signal_path p).0 same)) ∙ added.signal.1 ∙ ap (λ (t : Text). Some (file t added.signal.0)) empty)
+          (added.signal.0, ap f (sym ((bytes_eq-Decides (signal_path fetch) p).0 same)) ∙ added.signal.1 ∙ ap (λ (t : Text). Some (file t added.signal.0)) empty)
       there p bytes false true other same e =
           let h : ◌≡◌ {A = Option Text} (Some block) (Some bytes) = e in
           let whole : with_block fetch added.held ≡ bytes = ap (with_block fetch) (held_is conf_path added.held added.was) ∙ cc in
           (added.conf.0, ap f (sym ((bytes_eq-Decides conf_path p).0 same)) ∙ added.conf.1 ∙ ap (λ (t : Text). Some (file t added.conf.0)) whole)
       there p bytes false false other same e = each p bytes e (own p other same)
 
-      nowhere : (p : Text) (at_signal at_conf : Bool) → bytes_eq signal_path p ≡ at_signal → bytes_eq conf_path p ≡ at_conf → cond at_signal (Some []) (cond at_conf (Some block) (contents b p)) ≡ None → ¬ In p b.folders → f p ≡ None
+      nowhere : (p : Text) (at_signal at_conf : Bool) → bytes_eq (signal_path fetch) p ≡ at_signal → bytes_eq conf_path p ≡ at_conf → cond at_signal (Some []) (cond at_conf (Some block) (contents b p)) ≡ None → ¬ In p b.folders → f p ≡ None
       nowhere p true at_conf same other e off = let h : ◌≡◌ {A = Option Text} (Some []) None = e in cc
       nowhere p false true other same e off = let h : ◌≡◌ {A = Option Text} (Some block) None = e in cc
       nowhere p false false other same e off = none p e off (own p other same)
 
-      with_settings : IsRestored b (ToTheEnd fetch) f
+      timed_there : (p : Text) (time : ℕ) (at_signal at_conf : Bool) → bytes_eq (signal_path fetch) p ≡ at_signal → bytes_eq conf_path p ≡ at_conf → cond at_signal None (cond at_conf None (listed_times b p)) ≡ Some time → (bytes : Text) × (f p ≡ Some (file bytes time))
+      timed_there p time true at_conf same other e = cc
+      timed_there p time false true other same e = cc
+      timed_there p time false false other same e = timed p time e (own p other same)
+
+      with_settings : IsRestored b (FromArchive fetch) f
       with_settings = record {
-        file = λ p bytes e. there p bytes (bytes_eq signal_path p) (bytes_eq conf_path p) refl refl e;
-        folder = folder_there;
-        nothing = λ p e off. nowhere p (bytes_eq signal_path p) (bytes_eq conf_path p) refl refl e off;
+        tree = record {
+          file = λ p bytes e. there p bytes (bytes_eq (signal_path fetch) p) (bytes_eq conf_path p) refl refl e;
+          folder = folder_there;
+          nothing = λ p e off. nowhere p (bytes_eq (signal_path fetch) p) (bytes_eq conf_path p) refl refl e off;
+        };
+        timed = λ p time e. timed_there p time (bytes_eq (signal_path fetch) p) (bytes_eq conf_path p) refl refl e;
       }
 
     by_recovery : (r : Recovery) → o.recovery ≡ r → IsRestored b r f
     by_recovery Nothing is = record {
-      file = λ p bytes e. each p bytes e (ap (λ (r : Recovery). is_added r p) is);
-      folder = folder_there;
-      nothing = λ p e off. none p e off (ap (λ (r : Recovery). is_added r p) is);
+      tree = record {
+        file = λ p bytes e. each p bytes e (ap (λ (r : Recovery). is_added r p) is);
+        folder = folder_there;
+        nothing = λ p e off. none p e off (ap (λ (r : Recovery). is_added r p) is);
+      };
+      timed = λ p time e. timed p time e (ap (λ (r : Recovery). is_added r p) is);
     }
-    by_recovery (ToTheEnd fetch) is = with_settings fetch is (subst (λ (r : Recovery). HasAdded stanza m.label links m.files r f) is done.settings)
+    by_recovery (FromArchive fetch) is = with_settings fetch is (subst (λ (r : Recovery). HasAdded stanza m.label links m.files r f) is done.settings)
 
     restored : IsRestored b o.recovery f
     restored = by_recovery o.recovery refl

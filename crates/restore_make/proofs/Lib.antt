@@ -1,6 +1,9 @@
 pub mod Names
+pub mod Signals
+pub mod Targets
 pub mod Shown
 pub mod ReadEntries
+pub mod KeptTimes
 pub mod Writes
 pub mod Checked
 pub mod Links

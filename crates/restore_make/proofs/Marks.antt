@@ -4,7 +4,7 @@ use Rattle.std.specs.Prelude.{unwrap_or}
 use Rattle.std.proofs.lemmas.List.{length-set}
 use Rattle.base_devices.specs.Links.{LinkState}
 use Rattle.base_devices.specs.declared.data_folder.Node.{Node}
-use Rattle.base_model.specs.Restored.{Recovery}
+use Rattle.restore_make.specs.Recovered.{Recovery}
 use Rattle.base_model.specs.Text.{Text, In}
 use Rattle.base_model.specs.Values.{FileEntry}
 use Rattle.worker_protocol.specs.declared.sinks.ItemEnd.{ItemEnd}

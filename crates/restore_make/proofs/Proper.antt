@@ -11,7 +11,9 @@ use Rattle.base_devices.specs.DataFolder.{Nodes, Held, folder, shown, file_bytes
 use Rattle.base_model.specs.declared.labels.Label.{Label}
 use Rattle.base_devices.specs.Links.{LinkState}
 use Rattle.base_model.specs.ManifestText.{IsManifest}
-use Rattle.base_model.specs.Restored.{Recovery, conf_path, signal_path}
+use Rattle.restore_make.specs.Options.{is_added}
+use Rattle.restore_make.specs.Recovered.{Recovery}
+use Rattle.restore_make.specs.Recovered.Recovery.{FromArchive, Nothing}
 use Rattle.base_model.specs.Text.{Text, In, ◌⫽◌}
 use Rattle.base_model.specs.Values.{FileEntry, Manifest}
 use Rattle.restore_steps.specs.declared.contents.files.Wanted.{Wanted}
@@ -23,9 +25,10 @@ use Rattle.restore_steps.proofs.Ordered.{one_name}
 use Rattle.restore_make.specs.Entries.{IsBeside, Fills, reads_of}
 use Rattle.restore_make.specs.Finished.{waiting_path, HasEntry}
 use Rattle.restore_make.specs.Kept.{marked}
+use Rattle.restore_make.specs.KeptTimes.{SetsTimes}
 use Rattle.restore_make.specs.Listed.{is_folder, is_control_node, IsListedBut, IsPrepared, HasFolders, AreHoused}
 use Rattle.restore_make.proofs.Fetched.{one_none}
-use Rattle.restore_make.proofs.Names.{lasts}
+use Rattle.restore_make.proofs.Names.{lasts, own_path, no_signal}
 use Rattle.restore_make.proofs.Plain.{path_in}
 use Rattle.restore_make.proofs.ReadEntries.{in_read, marked_in}
 use Rattle.restore_make.proofs.Shown.{in_contains, contains_in}
@@ -78,7 +81,7 @@ control_placed u v others placed = is_placed control_path v
 
 pub entry_there : (stanza : Text) (own : Label) (links : List LinkState) (e : FileEntry) (path : Text) (nodes : Option Nodes) → IfSome nodes (HasEntry stanza own links e path) → IsFileAt nodes path
 entry_there stanza own links e path None has = tt
-entry_there stanza own links e path (Some f) has = subst (λ (x : Option Held). IsSome (file_bytes x)) (sym has.file.1) refl
+entry_there stanza own links e path (Some f) has = subst (λ (x : Option Held). IsSome (file_bytes x)) (sym has.file) refl
 
 -- ---- the folders of a manifest
 
@@ -100,8 +103,12 @@ module _ (m : Manifest) (rules : IsManifest m) where
   folders_on u v others there p i = folder_stays p u v (others p (beside_files p i)) (there p i)
 
   -- the settings are none of them
-  pub folders_beside_settings : (u v : Option Nodes) → ((q : Text) → q ≢ conf_path → q ≢ signal_path → at q v ≡ at q u) → HasFolders m.folders u → HasFolders m.folders v
-  folders_beside_settings u v others there p i = let off = (rules.folders p i).signal in folder_stays p u v (others p off.2 off.0) (there p i)
+  own_folder : (r : Recovery) (p : Text) → In p m.folders → is_added r p ≡ false
+  own_folder Nothing p i = refl
+  own_folder (FromArchive fetch) p i = let off = (rules.folders p i).signal in own_path fetch p off.2 (no_signal fetch p off.0 off.1)
+
+  pub folders_beside_settings : (r : Recovery) (u v : Option Nodes) → ((q : Text) → is_added r q ≡ false → at q v ≡ at q u) → HasFolders m.folders u → HasFolders m.folders v
+  folders_beside_settings r u v others there p i = folder_stays p u v (others p (own_folder r p i)) (there p i)
 
   made_ready : (seen : List (Text × Node)) (old : Option Nodes) → HasFolders m.folders (option_map (λ (f : Nodes). with_folders m.folders (without m seen f)) old)
   made_ready seen None p i = tt
@@ -111,6 +118,10 @@ module _ (m : Manifest) (rules : IsManifest m) where
   prepared_folders seen old new ready p i =
       folder_stays p ready.mid new (ready.bares.others p (λ e j bare. (beside_files p i e j).0))
       (subst (λ (o : Option Nodes). IsFolderAt p o) (sym ready.mid_is) (made_ready seen old p i))
+
+  pub timed_folders : (marks : List Bool) (old new : Option Nodes) → SetsTimes (marked m.files marks) old new → HasFolders m.folders old → HasFolders m.folders new
+  timed_folders marks old new times there p i =
+      folder_stays p old new (times.others p (λ e j. (beside_files p i e (marked_in m.files marks (e, true) j)).0)) (there p i)
 
   pub filled_folders : (stanza : Text) (links : List LinkState) (r : Recovery) (marks : List Bool) (old new : Option Nodes) → Fills stanza m.label links (reads_of r (marked m.files marks)) old new → HasFolders m.folders old → HasFolders m.folders new
   filled_folders stanza links r marks old new fills there =

@@ -5,7 +5,7 @@ use Rattle.std.proofs.lemmas.Bool.{and_parts}
 use Rattle.std.proofs.lemmas.Bool.Decides.{nat_tests}
 use Rattle.std.proofs.lemmas.Slice.Eq.{bytes_eq-Decides}
 use Rattle.base_devices.specs.Order.{are_in_order}
-use Rattle.base_model.specs.Restored.{Recovery}
+use Rattle.restore_make.specs.Recovered.{Recovery}
 use Rattle.base_model.specs.Text.{Text, In}
 use Rattle.base_model.specs.Values.{FileEntry}
 use Rattle.restore_steps.specs.Clearing.{control_path}

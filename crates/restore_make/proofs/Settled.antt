@@ -6,8 +6,8 @@ use Rattle.base_devices.specs.Links.{LinkState}
 use Rattle.base_devices.specs.DataFolder.{Nodes, Held}
 use Rattle.base_model.specs.declared.labels.Label.{Label}
 use Rattle.base_model.specs.ManifestText.{IsManifest}
-use Rattle.base_model.specs.Restored.{Recovery, conf_path}
-use Rattle.base_model.specs.Restored.Recovery.{ToTheEnd, Nothing}
+use Rattle.restore_make.specs.Recovered.{LogFetch, Recovery, conf_path, signal_path}
+use Rattle.restore_make.specs.Recovered.Recovery.{FromArchive, Nothing}
 use Rattle.base_model.specs.Text.{Text}
 use Rattle.base_model.specs.Values.{FileEntry, Manifest}
 use Rattle.worker_pool.specs.declared.dispatch.fault.Lost.{Lost}
@@ -20,7 +20,7 @@ use Rattle.worker_pool.specs.Left.{IsLeft}
 use Rattle.restore_make.specs.Finished.{AppliesSettings}
 use Rattle.restore_make.proofs.Finished.{kept_moved}
 use Rattle.restore_make.proofs.Links.{read_before}
-use Rattle.restore_make.proofs.Names.{own_path, own_temporary}
+use Rattle.restore_make.proofs.Names.{own_path, own_temporary, no_signal}
 use Rattle.restore_make.proofs.Plain.{known}
 use Rattle.restore_make.proofs.ReadEntries.{ordinary_own}
 
@@ -34,30 +34,30 @@ held_before stanza own first links before after left es path (Some bytes) h =
 pub settles_none : (stanza : Text) (links : List LinkState) (o : Options) (m : Manifest) (marks : List Bool) (nodes : Option Nodes) → o.recovery ≡ Nothing → AppliesSettings stanza links o m marks nodes nodes
 settles_none stanza links o m marks nodes is first before after start left plain = subst (λ (r : Recovery). IfSome nodes (IsPlain stanza first o m marks start r)) (sym is) plain
 
-module _ (stanza : Text) (links : List LinkState) (o : Options) (m : Manifest) (rules : IsManifest m) (fetch : Text) (marks : List Bool) (first : List LinkState) (before after : List Lost) (start : Option Nodes) (left : IsLeft first links before after) where
-  module _ (ordinary_same : o.recovery ≡ ToTheEnd fetch) (f g : Nodes) (plain : IsPlain stanza first o m marks start Nothing f) (others : (q : Text) → is_added (ToTheEnd fetch) q ≡ false → g q ≡ f q) (added : HasSettings stanza m.label links m.files fetch g) where
+module _ (stanza : Text) (links : List LinkState) (o : Options) (m : Manifest) (rules : IsManifest m) (fetch : LogFetch) (marks : List Bool) (first : List LinkState) (before after : List Lost) (start : Option Nodes) (left : IsLeft first links before after) where
+  module _ (ordinary_same : o.recovery ≡ FromArchive fetch) (f g : Nodes) (plain : IsPlain stanza first o m marks start Nothing f) (others : (q : Text) → is_added (FromArchive fetch) q ≡ false → g q ≡ f q) (added : HasSettings stanza m.label links m.files fetch g) where
     own : (e : FileEntry) → is_added o.recovery e.path ≡ false → g e.path ≡ f e.path
     own e h = others e.path (ap (λ (r : Recovery). is_added r e.path) (sym ordinary_same) ∙ h)
 
-    settled : IsPlain stanza first o m marks start (ToTheEnd fetch) g
+    settled : IsPlain stanza first o m marks start (FromArchive fetch) g
     settled = record {
-      bare = λ e i bare h. let x = plain.bare e i bare refl in (x.0, others e.path h ∙ x.1);
+      bare = λ e i bare h. others e.path h ∙ plain.bare e i bare refl;
       filled = λ e i h.
           let x = plain.filled e i h in
           record {
             bytes = x.bytes;
-            file = (x.file.0, own e (ordinary_own o.recovery e h) ∙ x.file.1);
+            file = own e (ordinary_own o.recovery e h) ∙ x.file;
             are = x.are;
             read = x.read;
-            alone = others (temporary_path e.path) (own_temporary (ToTheEnd fetch) e.path) ∙ x.alone;
+            alone = others (temporary_path e.path) (own_temporary (FromArchive fetch) e.path) ∙ x.alone;
           };
       kept = λ e i. let x = plain.kept e i in kept_moved first o e start f g x (own e (ordinary_own o.recovery e x.ordinary));
       settings = record { held = added.held; was = held_before stanza m.label first links before after left m.files conf_path added.held added.was; conf = added.conf; signal = added.signal };
-      folder = λ p i. let off = (rules.folders p i).signal in others p (own_path fetch p off.2 off.0) ∙ plain.folder p i;
+      folder = λ p i. let off = (rules.folders p i).signal in others p (own_path fetch p off.2 (no_signal fetch p off.0 off.1)) ∙ plain.folder p i;
       nothing = λ p off apart h. others p h ∙ plain.nothing p off apart refl;
     }
 
-  pub settles_some : o.recovery ≡ ToTheEnd fetch → (old new : Option Nodes) → ((q : Text) → is_added (ToTheEnd fetch) q ≡ false → at q new ≡ at q old) → IfSome new (HasSettings stanza m.label links m.files fetch) → IfSome old (IsPlain stanza first o m marks start Nothing) → IfSome new (IsPlain stanza first o m marks start o.recovery)
+  pub settles_some : o.recovery ≡ FromArchive fetch → (old new : Option Nodes) → ((q : Text) → is_added (FromArchive fetch) q ≡ false → at q new ≡ at q old) → IfSome new (HasSettings stanza m.label links m.files fetch) → IfSome old (IsPlain stanza first o m marks start Nothing) → IfSome new (IsPlain stanza first o m marks start o.recovery)
   settles_some is old None others added plain = tt
-  settles_some is None (Some g) others added plain = let h : ◌≡◌ {A = Option (Option Held)} (Some (g [])) None = others [] refl in cc
+  settles_some is None (Some g) others added plain = let h : ◌≡◌ {A = Option (Option Held)} (Some (g [])) None = others [] (own_path fetch [] (λ e. cc) (no_signal fetch [] (λ e. cc) (λ e. cc))) in cc
   settles_some is (Some f) (Some g) others added plain = subst (λ (r : Recovery). IsPlain stanza first o m marks start r g) (sym is) (settled is f g plain (λ q h. known q f g (others q h)) added)

@@ -10,7 +10,7 @@ use Rattle.base_devices.specs.Order.{are_in_order}
 use Rattle.base_devices.specs.declared.data_folder.Node.{Node}
 use Rattle.base_devices.specs.declared.data_folder.Node.TheVariants.{File, Folder, Link, Other}
 use Rattle.base_model.specs.declared.files.FileEntry as rust
-use Rattle.base_model.specs.Restored.{Recovery}
+use Rattle.restore_make.specs.Recovered.{Recovery}
 use Rattle.base_model.specs.Text.{Text, In}
 use Rattle.base_model.specs.Values.{FileEntry, file_entry_of}
 use Rattle.backup_plan.proofs.Lists.{of_map}

@@ -6,7 +6,7 @@ use Rattle.std.proofs.lemmas.Slice.Eq.{bytes_eq-Decides}
 use Rattle.sha1.specs.Sha1.{sha1}
 use Rattle.base_devices.specs.Cause.{Rises}
 use Rattle.base_devices.specs.Links.{LinkState}
-use Rattle.base_devices.specs.DataFolder.{Nodes, Held as Node, file, folder, link as link_node, other as other_node, file_bytes}
+use Rattle.base_devices.specs.DataFolder.{Nodes, Held as Node, file, file_bytes}
 use Rattle.base_text.specs.declared.sum.Sum.{Sum}
 use Rattle.base_model.specs.Text.{Text}
 use Rattle.worker_protocol.specs.declared.frames.frames.Root.TheVariants.{DataFolder, Repo}
@@ -17,7 +17,7 @@ use Rattle.worker_protocol.specs.declared.sinks.ItemEnd.{ItemEnd}
 use Rattle.worker_protocol.specs.declared.sinks.ItemEnd.TheVariants.{Whole, Vanished}
 use Rattle.worker_pool.specs.Reads.{AllEnd}
 use Rattle.worker_pool.specs.Run.{EndedBy, AllDone}
-use Rattle.restore_steps.specs.Clearing.{HasFile}
+use Rattle.restore_steps.specs.Clearing.{HasTimed}
 use Rattle.restore_steps.specs.declared.contents.files.Wanted.{Wanted}
 use Rattle.restore_steps.specs.declared.contents.files.Filed.{Filed}
 use Rattle.restore_steps.specs.Files.{temporary_path, bytes_at, is_right, known_by, held_by, done_by, kept_of, wanted_of, IsInPlace, AllTidy}
@@ -26,17 +26,12 @@ use Rattle.restore_make.specs.Written.{IsJobOf, AreJobsOf, IsReadOf, IsWritten, 
 use Rattle.restore_steps.proofs.Listing.{map_get, some_within}
 use Rattle.restore_steps.specs.Apart.{HasOneItem}
 
--- a file that is in its place has the bytes that are known of it
-held_file : (path bytes : Text) (nodes : Option Nodes) → IsInPlace path nodes → IfSome (bytes_at path nodes) (λ t. t ≡ bytes) → IfSome nodes (λ g. HasFile path bytes g × (g (temporary_path path) ≡ None))
-held_file path bytes None here known = tt
-held_file path bytes (Some g) here known = (go (g path) here.0 known, here.1)
-  where
-    go : (o : Option Node) → IsSome (file_bytes o) → IfSome (file_bytes o) (λ t. t ≡ bytes) → (time : ℕ) × (o ≡ Some (file bytes time))
-    go None some known = cc
-    go (Some (file b time)) some known = (time, ap (λ (t : Text). Some (file t time)) known)
-    go (Some folder) some known = cc
-    go (Some link_node) some known = cc
-    go (Some other_node) some known = cc
+-- a file that is in its place has the bytes that are known of it, and its time
+held_file : (path bytes : Text) (time : ℕ) (nodes : Option Nodes) → IsInPlace path time nodes → IfSome (bytes_at path nodes) (λ t. t ≡ bytes) → IfSome nodes (λ g. HasTimed path bytes time g × (g (temporary_path path) ≡ None))
+held_file path bytes time None here known = tt
+held_file path bytes time (Some g) here known =
+    let is : here.0.0 ≡ bytes = subst (λ (o : Option Node). IfSome (file_bytes o) (λ t. t ≡ bytes)) here.0.1 known in
+    (here.0.1 ∙ ap (λ (t : Text). Some (file t time)) is, here.1)
 
 pub both_by : (a b : Bool) → a ≡ true → b ≡ true → a && b ≡ true
 both_by a b x y = cc
@@ -56,9 +51,9 @@ no_repo e = cc
 module _ (links : List LinkState) (nodes : Option Nodes) (job : Job) where
   -- an end, by the link that gave it
   ended_as : (w : Wanted) (count : ℕ) (end : Option ItemEnd) (j : IsJobOf w job) (link : ℕ) (from : LinkState) → slice_get links link ≡ Some from
-      → AllEnd from.known Read (j.item ∷ []) (done_by end (held_by (is_right w count end) count w.path.now nodes)) → (is_right w count end ≡ true → IsInPlace w.path.now nodes)
+      → AllEnd from.known Read (j.item ∷ []) (done_by end (held_by (is_right w count end) count w.path.now nodes)) → (is_right w count end ≡ true → IsInPlace w.path.now w.time nodes)
       → (n : ℕ) × (sum : Text) × (bytes : Text) × IsWhole end n sum × (n ≡ length bytes) × (sum ≡ sha1 bytes) × IsReadOf links j.item bytes
-      × (n ≡ w.size → sum ≡ w.sum.0 → IfSome nodes (λ g. HasFile w.path.now bytes g × (g (temporary_path w.path.now) ≡ None)))
+      × (n ≡ w.size → sum ≡ w.sum.0 → IfSome nodes (λ g. HasTimed w.path.now bytes w.time g × (g (temporary_path w.path.now) ≡ None)))
   ended_as w count None j link from is all here = absurd all
   ended_as w count (Some Vanished) j link from is all here = absurd (no_repo (sym j.root ∙ all.0.1))
   ended_as w count (Some (Whole n sum)) j link from is all here =
@@ -73,10 +68,10 @@ module _ (links : List LinkState) (nodes : Option Nodes) (job : Job) where
         λ size same.
             let some : 0 < count = omega (arith, e.holds.0, e.sums.number, size, j.some) in
             let right : is_right w count (Some (Whole n sum)) ≡ true = is_right_by w count n sum size same some in
-            held_file w.path.now e.bytes nodes (here right) (known_right (is_right w count (Some (Whole n sum))) count w.path.now e.bytes nodes right e.holds.1),
+            held_file w.path.now e.bytes w.time nodes (here right) (known_right (is_right w count (Some (Whole n sum))) count w.path.now e.bytes nodes right e.holds.1),
       )
 
-  written_by : (f : Filed) → IsJobOf f.wanted job → EndedBy links job (kept_of nodes f) → (is_right f.wanted f.count f.end ≡ true → IsInPlace f.wanted.path.now nodes) → IsWritten links nodes job f
+  written_by : (f : Filed) → IsJobOf f.wanted job → EndedBy links job (kept_of nodes f) → (is_right f.wanted f.count f.end ≡ true → IsInPlace f.wanted.path.now f.wanted.time nodes) → IsWritten links nodes job f
   written_by f j by here =
       let all : AllEnd by.from.known Read (j.item ∷ []) (done_by f.end (held_by (is_right f.wanted f.count f.end) f.count f.wanted.path.now nodes))
       = subst (λ (k : JobKind). AllEnd by.from.known k (j.item ∷ []) (kept_of nodes f).done) j.kind (subst (λ (is : List Item). AllEnd by.from.known job.kind is (kept_of nodes f).done) j.items by.items) in

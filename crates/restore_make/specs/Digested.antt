@@ -3,7 +3,7 @@ use Rattle.std.specs.Prelude.{ℕ, Bool, true, false, ◌≡◌, ◌==◌, ◌&&
 use Rattle.base_devices.specs.Content.{Content}
 use Rattle.base_devices.specs.Links.{LinkState}
 use Rattle.base_model.specs.Text.{Text, In}
-use Rattle.base_model.specs.Restored.{Recovery}
+use Rattle.restore_make.specs.Recovered.{Recovery}
 use Rattle.base_model.specs.Values.{FileEntry, file_entry_of}
 use Rattle.base_devices.specs.declared.data_folder.Node.{Node}
 use Rattle.base_devices.specs.declared.data_folder.Node.TheVariants.{File, Folder, Link, Other}

@@ -5,12 +5,12 @@ use Rattle.base_devices.specs.Content.{at}
 use Rattle.base_devices.specs.Links.{LinkState}
 use Rattle.base_devices.specs.DataFolder.{Nodes}
 use Rattle.base_model.specs.declared.labels.Label.{Label}
-use Rattle.base_model.specs.Restored.{Recovery}
+use Rattle.restore_make.specs.Recovered.{Recovery}
 use Rattle.base_model.specs.Text.{Text, In}
 use Rattle.base_model.specs.Values.{FileEntry}
 use Rattle.restore_steps.specs.declared.contents.files.Wanted.{Wanted}
 use Rattle.restore_steps.specs.Files.{temporary_path}
-use Rattle.restore_steps.specs.Clearing.{HasFile}
+use Rattle.restore_steps.specs.Clearing.{HasTimed}
 use Rattle.restore_steps.specs.Sources.{source}
 use Rattle.restore_make.specs.Options.{is_ordinary}
 use Rattle.restore_make.specs.Written.{IsReadOf}
@@ -26,26 +26,28 @@ abbrev pub reads_of : Recovery → List (FileEntry × Bool) → List FileEntry
 reads_of recovery [] = []
 reads_of recovery (p ∷ ps) = read_one recovery p ++ reads_of recovery ps
 
--- what is requested of a file: its path, and the number and the digest of its bytes
+-- what is requested of a file: its path, the number and the digest of its bytes, and its time
 pub record Want : Type 0 where
   pub path : Text
   pub size : ℕ
   pub sum : Text
+  pub time : ℕ
 
 abbrev pub want_of : FileEntry → Want
-want_of e = record { path = e.path; size = e.size; sum = e.sum }
+want_of e = record { path = e.path; size = e.size; sum = e.sum; time = e.time }
 
 abbrev pub want_in : Wanted → Want
-want_in w = record { path = w.path.now; size = w.size; sum = w.sum.0 }
+want_in w = record { path = w.path.now; size = w.size; sum = w.sum.0; time = w.time }
 
 -- the bytes are those that the entry states, by their number and digest
 abbrev pub AreOf : FileEntry → Text → Type 0
 AreOf e bytes = (length bytes ≡ e.size) × (sha1 bytes ≡ e.sum)
 
--- The tree has the entry's file, with bytes that a link read at its place, and nothing under its temporary name.
+-- The tree has the entry's file, with its time and with bytes that a link read at its place, and nothing under its
+-- temporary name.
 pub record IsFilled (stanza : Text) (own : Label) (links : List LinkState) (e : FileEntry) (f : Nodes) : Type 0 where
   pub bytes : Text
-  pub file : HasFile e.path bytes f
+  pub file : HasTimed e.path bytes e.time f
   pub are : AreOf e bytes
   pub read : IsReadOf links (source stanza own e) bytes
   pub alone : f (temporary_path e.path) ≡ None

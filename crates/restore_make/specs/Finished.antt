@@ -8,13 +8,13 @@ use Rattle.base_model.specs.declared.labels.Label.{Label}
 use Rattle.base_model.specs.Text.{Text, In}
 use Rattle.base_model.specs.Values.{FileEntry, Manifest}
 use Rattle.base_model.specs.Repository.{Backup, Stanza}
-use Rattle.base_model.specs.Restored.{IsRestored}
-use Rattle.base_model.specs.Restored.Recovery.{Nothing}
+use Rattle.restore_make.specs.Recovered.{IsRestored}
+use Rattle.restore_make.specs.Recovered.Recovery.{Nothing}
 use Rattle.base_model.specs.Represents.{IsManifestOf}
 use Rattle.worker_pool.specs.Payloads.{AllRead}
 use Rattle.worker_pool.specs.declared.dispatch.fault.Lost.{Lost}
 use Rattle.restore_steps.specs.Files.{temporary_path}
-use Rattle.restore_steps.specs.Clearing.{control_path, HasFile}
+use Rattle.restore_steps.specs.Clearing.{control_path, HasTimed}
 use Rattle.restore_steps.specs.Sources.{source}
 use Rattle.restore_make.specs.Options.{Options, is_added}
 use Rattle.restore_make.specs.Written.{IsReadOf}
@@ -29,11 +29,12 @@ use Rattle.worker_pool.specs.Twins.{HasNoTwin}
 abbrev pub waiting_path : Text
 waiting_path = temporary_path control_path
 
--- The tree has a file of the entry's bytes at a path. Where there are any, a link read them at the entry's place.
+-- The tree has a file of the entry's bytes and its time at a path. Where there are any bytes, a link read them at the
+-- entry's place.
 pub record HasEntry (stanza : Text) (own : Label) (links : List LinkState) (e : FileEntry) (path : Text)
     (f : Nodes) : Type 0 where
   pub bytes : Text
-  pub file : HasFile path bytes f
+  pub file : HasTimed path bytes e.time f
   pub are : AreOf e bytes
   pub read : 0 < e.size → IsReadOf links (source stanza own e) bytes
 

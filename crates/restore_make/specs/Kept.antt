@@ -2,11 +2,12 @@
 use Rattle.std.specs.Prelude.{ℕ, Bool, true, false, ◌≡◌, List, [], ◌∷◌, length, Option, Some, IfSome, slice_get, unwrap_or}
 use Rattle.base_devices.specs.Content.{Content, at}
 use Rattle.base_devices.specs.Links.{LinkState}
-use Rattle.base_devices.specs.DataFolder.{Nodes, file, file_bytes}
+use Rattle.base_devices.specs.DataFolder.{Nodes, file, file_bytes, with_time}
 use Rattle.base_devices.specs.declared.data_folder.Node.{Node}
 use Rattle.base_devices.specs.declared.data_folder.Node.TheVariants.{File}
 use Rattle.base_model.specs.Text.{Text, In}
 use Rattle.base_model.specs.Values.{FileEntry}
+use Rattle.restore_steps.specs.Clearing.{HasTimed}
 use Rattle.worker_protocol.specs.declared.frames.frames.Root.TheVariants.{DataFolder}
 use Rattle.worker_protocol.specs.Frames.{Item, Job}
 use Rattle.worker_pool.specs.Payloads.{AllRead}
@@ -59,15 +60,14 @@ MarksAlike links o seen es marks =
 
 -- ---- which files were kept
 
--- The entry's file was kept, as delta allows: it is the one that was there, with its time. It has the entry's size, and
--- a link reported the entry's digest of it.
+-- The entry's file was kept, as delta allows: it has the bytes that it had, and the entry's time. It has the entry's
+-- size, and a link reported the entry's digest of it.
 pub record IsKept (links : List LinkState) (o : Options) (e : FileEntry) (old : Option Nodes) (f : Nodes) : Type 0 where
   pub delta : o.delta ≡ true
   pub ordinary : is_ordinary o.recovery e ≡ true
   pub bytes : Text
-  pub time : ℕ
-  pub is : f e.path ≡ Some (file bytes time)
-  pub same : at e.path old ≡ at e.path (Some f)
+  pub was : (time : ℕ) × (at e.path old ≡ Some (Some (file bytes time)))
+  pub is : HasTimed e.path bytes e.time f
   pub size : length bytes ≡ e.size
   pub digested : IsDigestedBy links (in_folder e) e.size e.sum
 
@@ -76,9 +76,10 @@ abbrev pub AreFilesOf : Option Nodes → Content → Type 0
 AreFilesOf old tree = IfSome old (λ g. (path : Text) → tree path ≡ file_bytes (g path))
 
 -- Where each link reads the files that were there, delta keeps each ordinary one that was as its entry states: the same
--- node is there, with its time.
+-- node is there, except that it has the entry's time.
 abbrev pub KeepsAlike : List LinkState → Options → List FileEntry → Option Nodes → Nodes → Type 0
 KeepsAlike links o es old f =
     (tree repo : Content) → AllRead tree repo links → AreFilesOf old tree → o.delta ≡ true → (e : FileEntry) → In e es
     → is_ordinary o.recovery e ≡ true
-    → IfSome old (λ g. (bytes : Text) → file_bytes (g e.path) ≡ Some bytes → AreOf e bytes → f e.path ≡ g e.path)
+    → IfSome old (λ g. (bytes : Text) → file_bytes (g e.path) ≡ Some bytes → AreOf e bytes
+    → f e.path ≡ with_time e.time (g e.path))

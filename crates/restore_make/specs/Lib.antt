@@ -1,7 +1,9 @@
 pub mod Written
+pub mod Recovered
 pub mod Options
 pub mod Entries
 pub mod Kept
+pub mod KeptTimes
 pub mod Settings
 pub mod Listed
 pub mod Finished

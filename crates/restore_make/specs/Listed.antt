@@ -4,11 +4,11 @@ use Rattle.base_devices.specs.Links.{LinkState}
 use Rattle.base_devices.specs.DataFolder.{Nodes, folder, IsTreeListing}
 use Rattle.base_devices.specs.declared.data_folder.Node.{Node}
 use Rattle.base_devices.specs.declared.data_folder.Node.TheVariants.{File, Folder, Link, Other}
-use Rattle.base_model.specs.Restored.{Recovery}
+use Rattle.restore_make.specs.Recovered.{Recovery}
 use Rattle.base_model.specs.Text.{Text, In, ◌⫽◌}
 use Rattle.base_model.specs.Values.{FileEntry, Manifest}
 use Rattle.restore_steps.specs.Keeping.{IsFolderAt}
-use Rattle.restore_steps.specs.Clearing.{control_path, HasFile, is_bare, Bares, without, with_folders}
+use Rattle.restore_steps.specs.Clearing.{control_path, HasTimed, is_bare, Bares, without, with_folders}
 use Rattle.restore_make.specs.Options.{Options, is_added, is_ordinary}
 use Rattle.restore_make.specs.Entries.{IsFilled, IsBeside}
 use Rattle.restore_make.specs.Kept.{marked, IsKept}
@@ -42,7 +42,8 @@ pub record IsPrepared (m : Manifest) (seen : List (Text × Node)) (old new : Opt
 -- are added by now, the folders, and nothing else.
 pub record IsPlain (stanza : Text) (links : List LinkState) (o : Options) (m : Manifest) (marks : List Bool)
     (old : Option Nodes) (added : Recovery) (f : Nodes) : Type 0 where
-  pub bare : (e : FileEntry) → In e m.files → is_bare e ≡ true → is_added added e.path ≡ false → HasFile e.path [] f
+  pub bare : (e : FileEntry) → In e m.files → is_bare e ≡ true → is_added added e.path ≡ false
+      → HasTimed e.path [] e.time f
   pub filled : (e : FileEntry) → In (e, false) (marked m.files marks) → is_ordinary o.recovery e ≡ true
       → IsFilled stanza m.label links e f
   pub kept : (e : FileEntry) → In (e, true) (marked m.files marks) → IsKept links o e old f

@@ -1,10 +1,9 @@
 -- What the steps of a restore leave, over what is restored. Own.
-use Rattle.std.specs.Prelude.{ℕ, Bool, ◌≡◌, ◌≢◌, ◌⊎◌, List, Result, IfErr, IfSome, map}
+use Rattle.std.specs.Prelude.{ℕ, Bool, false, ◌≡◌, ◌⊎◌, List, Result, IfErr, IfSome, map}
 use Rattle.base_devices.specs.Content.{at}
 use Rattle.base_devices.specs.Links.{LinkState}
 use Rattle.base_devices.specs.States.{DataFolderState}
 use Rattle.base_devices.specs.declared.data_folder.FolderEntry.{FolderEntry}
-use Rattle.base_model.specs.Restored.{conf_path, signal_path}
 use Rattle.base_model.specs.Text.{Text}
 use Rattle.base_model.specs.Values.{FileEntry, file_entry_of, manifest_of}
 use Rattle.base_model.specs.declared.files.FileEntry as rust_file
@@ -15,8 +14,10 @@ use Rattle.worker_pool.specs.declared.pool.Pool.{Pool}
 use Rattle.restore_steps.specs.Clearing.{control_path, seen_of, HasNone, IsListed}
 use Rattle.restore_make.specs.declared.fault.FillFault.{FillFault}
 use Rattle.restore_make.specs.declared.options.Restoration.{Restoration}
-use Rattle.restore_make.specs.Options.{Options, options_of}
+use Rattle.restore_make.specs.Recovered.{LogFetch, Recovery}
+use Rattle.restore_make.specs.Options.{Options, options_of, is_added}
 use Rattle.restore_make.specs.Listed.{IsPrepared, HasFolders}
+use Rattle.restore_make.specs.KeptTimes.{OnlyShown}
 use Rattle.restore_make.specs.Settings.{IsBytesOf, HasSettings, HoldsConf}
 use Rattle.restore_make.specs.Finished.{IsFinished, Rebuilds, AppliesSettings, Finishes, Completes, PutsAll, Restores}
 use Rattle.restore_make.specs.Faults.{FillFails}
@@ -36,9 +37,14 @@ abbrev pub ProperInFolders : Restoration → DataFolderState → DataFolderState
 ProperInFolders what old new = HasFolders (manifest_of what.manifest.now).folders old.nodes
     → new.faulty_calls ≡ old.faulty_calls
 
--- nothing but the files with settings has changed
-abbrev pub ChangesSettings : DataFolderState → DataFolderState → Type 0
-ChangesSettings old new = (q : Text) → q ≢ conf_path → q ≢ signal_path → at q new.nodes ≡ at q old.nodes
+-- the marks are of ordinary entries of which the listing shows files
+abbrev pub MarksShown : Restoration → List Bool → Type 0
+MarksShown what marks =
+    OnlyShown (options_of what.options) (map seen_of what.seen.now) (manifest_of what.manifest.now).files marks
+
+-- nothing but the files with settings of the recovery has changed
+abbrev pub ChangesSettings : Recovery → DataFolderState → DataFolderState → Type 0
+ChangesSettings recovery old new = (q : Text) → is_added recovery q ≡ false → at q new.nodes ≡ at q old.nodes
 
 -- nothing was changed, or no control file is there
 abbrev pub StopsSafely : DataFolderState → DataFolderState → Type 0
@@ -64,7 +70,7 @@ ReadsFail result stanza own es of old new = (f g : ℕ) → IfErr result
 -- ---- the steps of a restore
 
 -- the settings of a recovery that fetches the log so are there
-abbrev pub AddsFetch : {L S : Type 0} → Restoration → Text → (L → LinkState) → Pool L S → DataFolderState → Type 0
+abbrev pub AddsFetch : {L S : Type 0} → Restoration → LogFetch → (L → LinkState) → Pool L S → DataFolderState → Type 0
 AddsFetch what fetch of pool tree = IfSome tree.nodes
     (HasSettings what.stanza.now what.manifest.now.label (links_in of pool) (manifest_of what.manifest.now).files fetch)
 

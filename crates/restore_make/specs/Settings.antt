@@ -4,8 +4,6 @@ use Rattle.base_devices.specs.Links.{LinkState}
 use Rattle.base_devices.specs.DataFolder.{Nodes}
 use Rattle.base_text.specs.declared.sum.Sum.{Sum}
 use Rattle.base_model.specs.declared.labels.Label.{Label}
-use Rattle.base_model.specs.Restored.{Recovery, conf_path, signal_path, with_block}
-use Rattle.base_model.specs.Restored.Recovery.{ToTheEnd, Nothing}
 use Rattle.base_model.specs.Text.{Text, In}
 use Rattle.base_model.specs.Values.{FileEntry}
 use Rattle.restore_steps.specs.Clearing.{HasFile}
@@ -14,6 +12,8 @@ use Rattle.restore_make.specs.declared.fault.FillFault.{FillFault}
 use Rattle.restore_make.specs.declared.fault.FillFault.TheVariants as faults
 use Rattle.worker_pool.specs.declared.digest_runs.memory_keeper.ReadItem.{ReadItem}
 use Rattle.restore_make.specs.Entries.{AreOf}
+use Rattle.restore_make.specs.Recovered.{LogFetch, Recovery, conf_path, signal_path, with_block}
+use Rattle.restore_make.specs.Recovered.Recovery.{FromArchive, Nothing}
 use Rattle.worker_pool.specs.Digests.{IsWhole}
 use Rattle.restore_make.specs.Written.{IsReadOf}
 
@@ -30,16 +30,16 @@ WasHeld stanza own links es path (Some bytes) = (e : FileEntry) × In e es × (e
     × IsBytesOf stanza own links e bytes
 
 -- the settings are there, after what the backup's file held, and an empty file that asks the server to recover
-pub record HasSettings (stanza : Text) (own : Label) (links : List LinkState) (es : List FileEntry) (fetch : Text)
+pub record HasSettings (stanza : Text) (own : Label) (links : List LinkState) (es : List FileEntry) (fetch : LogFetch)
     (f : Nodes) : Type 0 where
   pub held : Option Text
   pub was : WasHeld stanza own links es conf_path held
   pub conf : HasFile conf_path (with_block fetch held) f
-  pub signal : HasFile signal_path [] f
+  pub signal : HasFile (signal_path fetch) [] f
 
 -- the settings of this recovery are there
 abbrev pub HasAdded : Text → Label → List LinkState → List FileEntry → Recovery → Nodes → Type 0
-HasAdded stanza own links es (ToTheEnd fetch) f = HasSettings stanza own links es fetch f
+HasAdded stanza own links es (FromArchive fetch) f = HasSettings stanza own links es fetch f
 HasAdded stanza own links es Nothing f = Unit {0}
 
 -- ---- what is read for them

@@ -9,7 +9,7 @@ use Rattle.worker_protocol.specs.declared.frames.frames.JobKind.TheVariants.{Rea
 use Rattle.worker_protocol.specs.Frames.{Item, Job}
 use Rattle.worker_pool.specs.Reads.{ReadBy}
 use Rattle.worker_pool.specs.Digests.{IsWhole}
-use Rattle.restore_steps.specs.Clearing.{HasFile}
+use Rattle.restore_steps.specs.Clearing.{HasTimed}
 use Rattle.restore_steps.specs.declared.contents.files.Wanted.{Wanted}
 use Rattle.restore_steps.specs.declared.contents.files.Filed.{Filed}
 use Rattle.restore_steps.specs.Files.{temporary_path, is_wanted}
@@ -38,7 +38,7 @@ pub record IsReadOf (links : List LinkState) (item : Item) (bytes : Text) : Type
 -- ---- how the files ended
 
 -- The file's item ended with the number and the digest of bytes that a link read. Where they are those that are
--- requested, the file has these bytes, and nothing is left under its temporary name.
+-- requested, the file has these bytes and the time that is requested, and nothing is left under its temporary name.
 pub record IsWritten (links : List LinkState) (nodes : Option Nodes) (job : Job) (f : Filed) : Type 0 where
   pub item : Item
   pub items : job.items ≡ item ∷ []
@@ -50,7 +50,8 @@ pub record IsWritten (links : List LinkState) (nodes : Option Nodes) (job : Job)
   pub digest : sum ≡ sha1 bytes
   pub read : IsReadOf links item bytes
   pub put : n ≡ f.wanted.size → sum ≡ f.wanted.sum.0
-      → IfSome nodes (λ g. HasFile f.wanted.path.now bytes g × (g (temporary_path f.wanted.path.now) ≡ None))
+      → IfSome nodes
+      (λ g. HasTimed f.wanted.path.now bytes f.wanted.time g × (g (temporary_path f.wanted.path.now) ≡ None))
 
 -- each of them did
 pub record AllWritten (links : List LinkState) (nodes : Option Nodes) (jobs : List Job) (ws : List Wanted)
@@ -65,11 +66,11 @@ AllRight fs = (i : ℕ) (f : Filed) → slice_get fs i ≡ Some f → is_wanted 
 
 -- ---- the files that are there
 
--- The tree has a file of the number and the digest that are requested, with bytes that a link read, and nothing under
--- its temporary name.
+-- The tree has a file of the number, the digest and the time that are requested, with bytes that a link read, and
+-- nothing under its temporary name.
 pub record IsFetched (links : List LinkState) (j : Job) (w : Wanted) (f : Nodes) : Type 0 where
   pub bytes : Text
-  pub file : HasFile w.path.now bytes f
+  pub file : HasTimed w.path.now bytes w.time f
   pub size : length bytes ≡ w.size
   pub sum : sha1 bytes ≡ w.sum.0
   pub item : Item

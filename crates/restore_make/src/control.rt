@@ -3,7 +3,7 @@ ghost use Rattle.std.specs.Prelude.{◌≡◌, ◌≢◌, ◌<◌, ◌≤◌, �
 ghost use Rattle.base_model.specs.InfoFiles.{IsLabel};
 ghost use Rattle.base_model.specs.Text.{In};
 ghost use Rattle.base_model.specs.Values.{FileEntry as Entry, file_entry_of};
-ghost use Rattle.options_table.specs.Values.{is_stanza};
+ghost use Rattle.base_model.specs.StanzaName.{is_stanza};
 ghost use Rattle.worker_pool.specs.Pools.{links_in};
 ghost use Rattle.worker_pool.specs.Run.{AreReady};
 ghost use Rattle.restore_steps.specs.Files.{temporary_path, SameBeside};
@@ -19,7 +19,7 @@ use crate::file_jobs::FileJobs;
 use crate::file_writes::write_files;
 use base_devices::{DataFolder, Link, Scheduler};
 use base_model::{FileEntry, Label};
-use restore_steps::{Wanted, is_control, source_job};
+use restore_steps::{Wanted, begin_timed, is_control, source_job};
 use std::alloc::{AllocError, Global};
 use worker_pool::Pool;
 
@@ -96,6 +96,7 @@ fn fetch<T: DataFolder, L: Link, U: Scheduler>(
         path,
         size: file.entry.size,
         sum: file.entry.sum,
+        time: file.entry.time,
     }];
     let asked = FileJobs {
         jobs: &jobs,
@@ -107,7 +108,7 @@ fn fetch<T: DataFolder, L: Link, U: Scheduler>(
     }
 }
 
-// The control file is written, with bytes or without.
+// The control file is written, with bytes or without, and with its time.
 fn stage<T: DataFolder, L: Link, U: Scheduler>(
     alloc: Global,
     file: &BackupFile<'_>,
@@ -128,7 +129,7 @@ fn stage<T: DataFolder, L: Link, U: Scheduler>(
     ensures fault { IfErr result (FailsToFetch file.now L.link_state pool.old pool.new T.state tree.old tree.new) }
 {
     if file.entry.size == 0 {
-        tree.begin(WAITING)?;
+        begin_timed(tree, WAITING, file.entry.time)?;
         return Ok(());
     }
     fetch(alloc, file, WAITING, pool, tree)

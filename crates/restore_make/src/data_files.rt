@@ -6,18 +6,19 @@ ghost use Rattle.base_model.specs.InfoFiles.{IsLabel};
 ghost use Rattle.base_model.specs.ManifestText.{IsManifest};
 ghost use Rattle.base_model.specs.Text.{In};
 ghost use Rattle.base_model.specs.Values.{FileEntry as Entry, file_entry_of, manifest_of};
-ghost use Rattle.options_table.specs.Values.{is_stanza};
+ghost use Rattle.base_model.specs.StanzaName.{is_stanza};
 ghost use Rattle.worker_pool.specs.Pools.{links_in, LeavesLinks};
 ghost use Rattle.worker_pool.specs.Run.{AreReady};
 ghost use Rattle.restore_steps.specs.Clearing.{control_path, seen_of, StaysNone};
 ghost use Rattle.restore_steps.specs.Sources.{IsEntry};
 ghost use Rattle.restore_make.specs.Listed.{IsListedBut, HasFolders};
-ghost use Rattle.restore_make.specs.Restorations.{Prepares, ProperWhereListed, RebuildsAll, FailsToRestore};
+ghost use Rattle.restore_make.specs.Restorations.{MarksShown, Prepares, ProperWhereListed, RebuildsAll, FailsToRestore};
 ghost use Rattle.restore_make.specs.Selected.{FillsSelected, ProperWhereHoused, FailsToFill};
 
 use crate::fault::FillFault;
 use crate::file_jobs::FileJobs;
 use crate::file_writes::write_files;
+use crate::kept_times::time_kept;
 use crate::options::Restoration;
 use crate::restore_plan::{Selection, plan_files};
 use base_devices::{DataFolder, DeviceError, FolderEntry, Link, Scheduler};
@@ -75,8 +76,8 @@ fn fill<T: DataFolder, L: Link, U: Scheduler>(
     write_files(alloc, &asked, pool, tree)
 }
 
-/// Every file of a backup but the control file is put in its place, unless it is kept or gets settings; its folders are
-/// made, and nothing else is left.
+/// Every file of a backup but the control file is put in its place, unless it is kept or gets settings. A file that is
+/// kept gets the backup's time. The folders are made, and nothing else is left.
 pub(crate) fn rebuild<T: DataFolder, L: Link, U: Scheduler>(
     alloc: Global,
     what: &Restoration<'_>,
@@ -89,6 +90,7 @@ pub(crate) fn rebuild<T: DataFolder, L: Link, U: Scheduler>(
     requires stanza { is_stanza what.now.stanza.now ≡ true }
     requires rules { IsManifest (manifest_of what.now.manifest.now) }
     requires seen { IfSome (T.state tree.old).nodes (λ f. IsListedBut f (map seen_of what.now.seen.now)) }
+    requires marks { MarksShown what.now marks.now }
     ensures rebuilds { OnOk result (RebuildsAll what.now marks.now L.link_state pool.old T.state tree.old tree.new) }
     ensures control { StaysNone control_path (T.state tree.old).nodes (T.state tree.new).nodes }
     ensures folders { OnOk result (HasFolders (manifest_of what.now.manifest.now).folders (T.state tree.new).nodes) }
@@ -99,6 +101,7 @@ pub(crate) fn rebuild<T: DataFolder, L: Link, U: Scheduler>(
     ensures fault { IfErr result (FailsToRestore what.now L.link_state pool.old pool.new T.state tree.old tree.new) }
 {
     prepare(tree, what.manifest, what.seen)?;
+    time_kept(tree, &what.manifest.files, marks)?;
     let chosen = Selection {
         stanza: what.stanza,
         own: &what.manifest.label,

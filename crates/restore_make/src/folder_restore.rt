@@ -6,12 +6,12 @@ ghost use Rattle.base_devices.specs.Content.{SameBut};
 ghost use Rattle.base_devices.specs.DataFolder.{IsTreeListing};
 ghost use Rattle.base_model.specs.ManifestText.{IsManifest};
 ghost use Rattle.base_model.specs.Values.{manifest_of};
-ghost use Rattle.options_table.specs.Values.{is_stanza};
+ghost use Rattle.base_model.specs.StanzaName.{is_stanza};
 ghost use Rattle.worker_pool.specs.Pools.{links_in};
 ghost use Rattle.worker_pool.specs.Run.{AreReady};
 ghost use Rattle.restore_steps.specs.Clearing.{control_path, seen_of, HasNone, StaysNone};
 ghost use Rattle.restore_make.specs.Listed.{is_control_node, IsListedBut};
-ghost use Rattle.restore_make.specs.Restorations.{ProperInFolders, StopsSafely, FinishesAll, CompletesAll, PutsRest, LeavesFinished, LeavesRestored, FailsToRestore};
+ghost use Rattle.restore_make.specs.Restorations.{MarksShown, ProperInFolders, StopsSafely, FinishesAll, CompletesAll, PutsRest, LeavesFinished, LeavesRestored, FailsToRestore};
 
 use crate::control::{BackupFile, control_of, put_control};
 use crate::data_files::rebuild;
@@ -122,6 +122,7 @@ fn put_rest<T: DataFolder, L: Link, U: Scheduler>(
     requires stanza { is_stanza what.now.stanza.now ≡ true }
     requires rules { IsManifest (manifest_of what.now.manifest.now) }
     requires seen { IfSome (T.state tree.old).nodes (λ f. IsListedBut f (map seen_of what.now.seen.now)) }
+    requires marks { MarksShown what.now marks.now }
     ensures puts { OnOk result (PutsRest what.now marks.now L.link_state pool.old T.state tree.old tree.new) }
     ensures none { OnErr result (StaysNone control_path (T.state tree.old).nodes (T.state tree.new).nodes) }
     ensures proper { (T.state tree.new).faulty_calls ≡ (T.state tree.old).faulty_calls }

@@ -6,21 +6,22 @@
 //! - `restore_files` restores a whole backup into a folder that was listed immediately before (`specs/Finished`). The
 //!   control file goes first and comes last, so after a refusal there is none, unless nothing was changed. At the end
 //!   each file of the manifest is there, with bytes that a link read at its place, each folder, and nothing else; over
-//!   links that read the repository this is the restored tree of the backup. With delta a file stays unchanged where a
-//!   link reports that it has the backup's bytes (`specs/Kept`). With a recovery its settings are added
-//!   (`specs/Settings`).
+//!   links that read the repository this is the restored tree of the backup. Each file has the time that the backup has
+//!   of it. With delta a file keeps its bytes where a link reports that they are the backup's (`specs/Kept`). With a
+//!   recovery its settings are added (`specs/Settings`).
 //!
 //! What is proved, by the contract of the function that is named:
 //!
-//! - `write_files`: at Ok each file has the requested number and SHA-1, of bytes that one of the links read, and
+//! - `write_files`: at Ok each file has the requested number, SHA-1 and time, of bytes that one of the links read, and
 //!   nothing lies at its temporary name. Whatever it answers, only these paths and their temporary names have changed,
 //!   and each further entry of a lost link is of one that is no steady worker.
-//! - `restore_files`, at Ok: each file of the manifest is there, of the number and the SHA-1 that it gives. It has
-//!   bytes read by a link at its place or, with delta, is unchanged, where a link reported its number and SHA-1.
+//! - `restore_files`, at Ok: each file of the manifest is there, of the number, the SHA-1 and the time that it gives. It
+//!   has bytes read by a link at its place or, with delta, those that it had, where a link reported their number and
+//!   SHA-1.
 //! - The settings of the recovery are there, where one is asked for, after what the backup's `postgresql.auto.conf`
 //!   held, with an empty `recovery.signal`; so are the manifest's folders, and nothing else.
 //! - The control file and, with a recovery, `postgresql.auto.conf` never stay. Where all links read the folder as it
-//!   was, each other file with bytes that was as its entry says has stayed, with its time.
+//!   was, each other file with bytes that was as its entry says has stayed, except for its time.
 //! - Where all links read a repository that holds the manifest's backup, this is the backup's restored tree. With delta
 //!   that rests on links that read the folder as it was, and on no file there having the number and the SHA-1 of the
 //!   backup's and other bytes.
@@ -43,6 +44,7 @@ mod file_results;
 mod file_writes;
 mod folder_restore;
 mod kept_files;
+mod kept_times;
 mod options;
 mod restore_plan;
 mod settings;
@@ -51,4 +53,4 @@ pub use fault::FillFault;
 pub use file_jobs::FileJobs;
 pub use file_writes::write_files;
 pub use folder_restore::restore_files;
-pub use options::{Recovery, Restoration, RestoreOptions};
+pub use options::{LogFetch, Recovery, Restoration, RestoreOptions};

@@ -1,7 +1,8 @@
 // How a backup is to be restored.
 ghost use Rattle.std.specs.Prelude.{◌≡◌};
 ghost use Rattle.base_model.specs.Values.{file_entry_of};
-ghost use Rattle.restore_make.specs.Options.{recovery_of, is_added, is_ordinary};
+ghost use Rattle.restore_make.specs.Options.{recovery_of, log_fetch_of, is_added, is_ordinary};
+ghost use Rattle.restore_make.specs.Recovered.{signal_path};
 
 use base_devices::FolderEntry;
 use base_model::{FileEntry, Manifest};
@@ -10,17 +11,35 @@ use restore_steps::is_control;
 /// The file of a server's own settings.
 pub(crate) const CONF: &str = "postgresql.auto.conf";
 
-/// The file that asks a server to recover.
-pub(crate) const SIGNAL: &str = "recovery.signal";
+/// How a server fetches the log.
+#[derive(Clone, Copy, Debug)]
+pub struct LogFetch<'a> {
+    /// The command by which it fetches a file; each single quote in it is doubled.
+    pub command: &'a [u8],
+    /// The further settings of its recovery, a line each, without newlines.
+    pub settings: &'a [Vec<u8>],
+    /// Whether it stays a standby.
+    pub standby: bool,
+}
 
 /// How the server is to recover (PostgreSQL manual, "Recovering Using a Continuous Archive Backup").
 #[derive(Clone, Copy, Debug)]
 pub enum Recovery<'a> {
     /// Not at all: only the files of the backup are restored.
     Nothing,
-    /// To the end of the archive. `fetch` is the command by which it fetches a log file; each single quote in it is
-    /// doubled.
-    ToTheEnd { fetch: &'a [u8] },
+    /// It fetches the log.
+    FromArchive(LogFetch<'a>),
+}
+
+/// The file that asks a server to recover, or to stay a standby.
+pub(crate) fn signal_path(fetch: &LogFetch<'_>) -> &'static str
+    ensures { result.now ≡ signal_path (log_fetch_of fetch.now) }
+{
+    if fetch.standby {
+        "standby.signal"
+    } else {
+        "recovery.signal"
+    }
 }
 
 /// How a backup is to be restored (pgBackRest command reference, "Restore Command", options `delta` and `type`).
@@ -47,7 +66,7 @@ fn is_added(recovery: &Recovery<'_>, path: &str) -> bool
 {
     match recovery {
         Recovery::Nothing => false,
-        Recovery::ToTheEnd { .. } => path == CONF || path == SIGNAL,
+        Recovery::FromArchive(fetch) => path == CONF || path == signal_path(fetch),
     }
 }
 

@@ -3,7 +3,7 @@ ghost use Rattle.std.specs.Prelude.{◌≡◌, ◌<◌, ◌^◌, true, map, leng
 ghost use Rattle.base_model.specs.InfoFiles.{IsLabel};
 ghost use Rattle.base_model.specs.Text.{In};
 ghost use Rattle.base_model.specs.Values.{FileEntry as Entry, file_entry_of};
-ghost use Rattle.options_table.specs.Values.{is_stanza};
+ghost use Rattle.base_model.specs.StanzaName.{is_stanza};
 ghost use Rattle.worker_protocol.specs.Views.{job_of};
 ghost use Rattle.restore_steps.specs.Sources.{IsEntry};
 ghost use Rattle.restore_make.specs.Options.{recovery_of};
@@ -35,8 +35,8 @@ pub(crate) struct Planned<'a> {
     pub(crate) wanted: Vec<Wanted<'a>>,
 }
 
-// The mark of a place; there may be fewer marks than places.
-fn mark_at(marks: &[bool], place: usize) -> bool
+/// The mark of a place; there may be fewer marks than places.
+pub(crate) fn mark_at(marks: &[bool], place: usize) -> bool
     ensures { result ≡ mark_at marks.now place }
 {
     match marks.get(place) {
@@ -59,6 +59,7 @@ fn want<'a>(file: &'a FileEntry) -> Wanted<'a>
         path: &file.path,
         size: file.size,
         sum: file.sum,
+        time: file.time,
     }
 }
 

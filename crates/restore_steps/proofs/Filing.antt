@@ -4,14 +4,15 @@ use Rattle.std.specs.Prelude.{IfSome, IsSome, codes, nat_lt, ◌==◌}
 use Rattle.std.proofs.lemmas.Grind.{common_steps}
 use Rattle.std.proofs.lemmas.Slice.Eq.{bytes_eq-Decides}
 use Rattle.base_devices.specs.Content.{Name, at, SameBut}
-use Rattle.base_devices.specs.DataFolder.{Held as Node, file, folder, link, other, Nodes, file_bytes, with_node, longer, lengthened_file, moved_node, ChangesFile, ChangesTree, IsFileAt}
+use Rattle.base_devices.specs.DataFolder.{Held as Node, file, folder, link, other, Nodes, file_bytes, with_node, longer, lengthened_file, with_time, timed_file, moved_node, ChangesFile, ChangesTree, IsFileAt}
 use Rattle.base_model.specs.Text.{Text}
 use Rattle.worker_protocol.specs.declared.sinks.ItemEnd.{ItemEnd}
 use Rattle.worker_protocol.specs.declared.sinks.ItemEnd.TheVariants.{Whole, Vanished}
 use Rattle.worker_protocol.specs.PartSinkState.{Held, Done, JobItems, Holds, Adds, Ends, IsFresh}
 use Rattle.restore_steps.specs.declared.contents.files.Wanted.{Wanted}
 use Rattle.restore_steps.specs.declared.contents.files.Filed.{Filed}
-use Rattle.restore_steps.specs.Files.{temporary_path, bytes_at, is_wanted, is_right, known_by, held_by, done_by, next_by, kept_by, kept_of, SameBeside, IsInPlace, IsTidy, IsBegun, Grows, IsPut}
+use Rattle.restore_steps.specs.Files.{temporary_path, bytes_at, is_wanted, is_right, known_by, held_by, done_by, next_by, kept_by, kept_of, put_in_tree, IsFileOf, SameBeside, IsInPlace, IsTidy, IsBegun, Grows, IsPut}
+use Rattle.restore_steps.proofs.Timed.{timed_bytes, timed_is}
 
 -- ---- nodes
 
@@ -50,6 +51,9 @@ beside_temp path old new h q apart not_temp = h q not_temp
 beside_moved : (path : Text) (o : Option Nodes) → SameBeside path o (option_map (moved_node (temporary_path path) path) o)
 beside_moved path None q apart not_temp = refl
 beside_moved path (Some f) q apart not_temp = ap (λ (v : Option Node). Some v) (set_other path (f (temporary_path path)) (with_node (temporary_path path) None f) q apart ∙ set_other (temporary_path path) None f q not_temp)
+
+pub beside_on : (path : Text) (a b c : Option Nodes) → SameBeside path a b → SameBeside path b c → SameBeside path a c
+beside_on path a b c p q n apart not_temp = q n apart not_temp ∙ p n apart not_temp
 
 pub beside_rename : {T E : Type 0} (result : Result T E) (path name : Text) (old new : Option Nodes) → name ≡ temporary_path path → ChangesTree result (moved_node name path) old new → SameBeside path old new
 beside_rename (Ok x) path name old new is h q apart not_temp = ap (at q) (h ∙ ap (λ (n : Text). option_map (moved_node n path) old) is) ∙ beside_moved path old q apart not_temp
@@ -113,16 +117,22 @@ adds a b bytes old new none same wanted n grows =
     (subst (λ (e : Option ItemEnd). Adds bytes (kept_by old a.wanted a.count None) (kept_by new b.wanted b.count e)) (sym (same ∙ none))
     (subst (λ (w : Wanted). Adds bytes (kept_by old a.wanted a.count None) (kept_by new w b.count None)) (sym wanted) (adds_open a.wanted a.count b.count bytes old new n grows)))
 
+-- the node that is put in its place
+put_node : (path : Text) (time : ℕ) (f : Nodes) → put_in_tree path time f path ≡ with_time time (f (temporary_path path))
+put_node path time f =
+    set_same path (timed_file (temporary_path path) time f (temporary_path path)) (with_node (temporary_path path) None (timed_file (temporary_path path) time f))
+    ∙ set_same (temporary_path path) (with_time time (f (temporary_path path))) f
+
 -- the file has the bytes that lay under its temporary name
-moved_bytes : (path : Text) (old new : Option Nodes) → new ≡ option_map (moved_node (temporary_path path) path) old → bytes_at path new ≡ bytes_at (temporary_path path) old
-moved_bytes path None new is = ap (bytes_at path) is
-moved_bytes path (Some f) new is = ap (bytes_at path) is ∙ ap file_bytes (set_same path (f (temporary_path path)) (with_node (temporary_path path) None f))
+moved_bytes : (path : Text) (time : ℕ) (old new : Option Nodes) → new ≡ option_map (put_in_tree path time) old → bytes_at path new ≡ bytes_at (temporary_path path) old
+moved_bytes path time None new is = ap (bytes_at path) is
+moved_bytes path time (Some f) new is = ap (bytes_at path) is ∙ ap file_bytes (put_node path time f) ∙ timed_bytes time (f (temporary_path path))
 
 -- an end, by whether it is right
-known_end : (right : Bool) (count : ℕ) (path : Text) (old new : Option Nodes) → (right ≡ true → 0 < count) → (right ≡ true → new ≡ option_map (moved_node (temporary_path path) path) old) → (right ≡ false → new ≡ old) → known_by right count path new ≡ known_by false count path old
-known_end true zero path old new some moved still = absurd (omega (arith, some refl))
-known_end true (suc k) path old new some moved still = moved_bytes path old new (moved refl)
-known_end false count path old new some moved still = ap (known_by false count path) (still refl)
+known_end : (right : Bool) (count : ℕ) (path : Text) (time : ℕ) (old new : Option Nodes) → (right ≡ true → 0 < count) → (right ≡ true → new ≡ option_map (put_in_tree path time) old) → (right ≡ false → new ≡ old) → known_by right count path new ≡ known_by false count path old
+known_end true zero path time old new some moved still = absurd (omega (arith, some refl))
+known_end true (suc k) path time old new some moved still = moved_bytes path time old new (moved refl)
+known_end false count path time old new some moved still = ap (known_by false count path) (still refl)
 
 last_true : (a b : Bool) → a && b ≡ true → b ≡ true
 last_true true b e = e
@@ -132,14 +142,14 @@ some_came : (w : Wanted) (count : ℕ) (end : Option ItemEnd) → is_right w cou
 some_came w zero end e = let h : ◌≡◌ {A = Bool} false true = last_true (is_wanted w end) false e in cc
 some_came w (suc k) end e = omega arith
 
-pub ends : (a b : Filed) (how : ItemEnd) (old new : Option Nodes) → a.end ≡ None → b.end ≡ Some how → b.wanted ≡ a.wanted → b.count ≡ a.count → (is_right a.wanted a.count (Some how) ≡ true → IsPut a.wanted.path.now old new) → (is_right a.wanted a.count (Some how) ≡ false → new ≡ old) → Ends how (kept_of old a) (kept_of new b)
+pub ends : (a b : Filed) (how : ItemEnd) (old new : Option Nodes) → a.end ≡ None → b.end ≡ Some how → b.wanted ≡ a.wanted → b.count ≡ a.count → (is_right a.wanted a.count (Some how) ≡ true → IsPut a.wanted.path.now a.wanted.time old new) → (is_right a.wanted a.count (Some how) ≡ false → new ≡ old) → Ends how (kept_of old a) (kept_of new b)
 ends a b how old new none is wanted count put still =
     subst (λ (e : Option ItemEnd). Ends how (kept_by old a.wanted a.count e) (kept_of new b)) (sym none)
     (subst (λ (e : Option ItemEnd). Ends how (kept_by old a.wanted a.count None) (kept_by new b.wanted b.count e)) (sym is)
     (subst (λ (w : Wanted). Ends how (kept_by old a.wanted a.count None) (kept_by new w b.count (Some how))) (sym wanted)
     (subst (λ (n : ℕ). Ends how (kept_by old a.wanted a.count None) (kept_by new a.wanted n (Some how))) (sym count)
     (record {
-      done = ap (λ (t : Option Text). (record { held = record { count = a.count; known = t }; end = how }) ∷ []) (known_end (is_right a.wanted a.count (Some how)) a.count a.wanted.path.now old new (some_came a.wanted a.count (Some how)) (λ e. (put e).moved) still);
+      done = ap (λ (t : Option Text). (record { held = record { count = a.count; known = t }; end = how }) ∷ []) (known_end (is_right a.wanted a.count (Some how)) a.count a.wanted.path.now a.wanted.time old new (some_came a.wanted a.count (Some how)) (λ e. (put e).moved) still);
       held = (refl, refl);
     }))))
 
@@ -167,26 +177,27 @@ kept_stays f u v e t =
     = ap (λ (x : Option Text). record { count = f.count; known = x }) (known_stays (is_right f.wanted f.count f.end) f.count f.wanted.path.now u v e t) in
     ap (λ (h : Held). record { done = done_by f.end h; held = next_by f.end h }) held
 
-pub place_stays : (path : Text) (u v : Option Nodes) → at path v ≡ at path u → at (temporary_path path) v ≡ at (temporary_path path) u → IsInPlace path u → IsInPlace path v
-place_stays path u None e t here = tt
-place_stays path None (Some g) e t here = let h : ◌≡◌ {A = Option (Option Node)} (Some (g path)) None = e in cc
-place_stays path (Some f) (Some g) e t here =
+pub place_stays : (path : Text) (time : ℕ) (u v : Option Nodes) → at path v ≡ at path u → at (temporary_path path) v ≡ at (temporary_path path) u → IsInPlace path time u → IsInPlace path time v
+place_stays path time u None e t here = tt
+place_stays path time None (Some g) e t here = let h : ◌≡◌ {A = Option (Option Node)} (Some (g path)) None = e in cc
+place_stays path time (Some f) (Some g) e t here =
     let h : ◌≡◌ {A = Option (Option Node)} (Some (g path)) (Some (f path)) = e in
     let k : ◌≡◌ {A = Option (Option Node)} (Some (g (temporary_path path))) (Some (f (temporary_path path))) = t in
     let same : g path ≡ f path = cc in
     let away : g (temporary_path path) ≡ f (temporary_path path) = cc in
-    (subst (λ (o : Option Node). IsSome (file_bytes o)) (sym same) here.0, away ∙ here.1)
+    (subst (IsFileOf time) (sym same) here.0, away ∙ here.1)
 
 -- a file that got its own name is in its place
-pub put_tidy : (path : Text) (old new : Option Nodes) → IsPut path old new → IsInPlace path new
-put_tidy path old new put = subst (IsInPlace path) (sym put.moved) (go old put.there)
+pub put_tidy : (path : Text) (time : ℕ) (old new : Option Nodes) → IsPut path time old new → IsInPlace path time new
+put_tidy path time old new put = subst (IsInPlace path time) (sym put.moved) (go old put.there)
   where
-    go : (o : Option Nodes) → IsFileAt o (temporary_path path) → IsInPlace path (option_map (moved_node (temporary_path path) path) o)
+    go : (o : Option Nodes) → IsFileAt o (temporary_path path) → IsInPlace path time (option_map (put_in_tree path time) o)
     go None there = tt
-    go (Some f) there = (
-      subst (λ (x : Option Node). IsSome (file_bytes x)) (sym (set_same path (f (temporary_path path)) (with_node (temporary_path path) None f))) there,
-      set_other path (f (temporary_path path)) (with_node (temporary_path path) None f) (temporary_path path) (λ e. not_temporary path (sym e)) ∙ set_same (temporary_path path) None f,
-    )
+    go (Some f) there =
+        let timed = timed_file (temporary_path path) time f in (
+          subst (IsFileOf time) (sym (put_node path time f)) (timed_is time (f (temporary_path path)) there),
+          set_other path (timed (temporary_path path)) (with_node (temporary_path path) None timed) (temporary_path path) (λ e. not_temporary path (sym e)) ∙ set_same (temporary_path path) None timed,
+        )
 
 pub open_tidy : (f : Filed) (nodes : Option Nodes) → f.end ≡ None → IsTidy nodes f
 open_tidy f nodes none right = let h : ◌≡◌ {A = Bool} false true = ap (is_right f.wanted f.count) (sym none) ∙ right in cc

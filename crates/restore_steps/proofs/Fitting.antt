@@ -13,7 +13,7 @@ use Rattle.base_model.specs.Paths.{IsPath}
 use Rattle.base_model.specs.Place.{holder, place_by}
 use Rattle.base_model.specs.Text.{Text, ◌⫽◌}
 use Rattle.base_model.specs.Values.{FileEntry}
-use Rattle.options_table.specs.Values.{is_stanza}
+use Rattle.base_model.specs.StanzaName.{is_stanza}
 use Rattle.repo_names.specs.Faults.{IsPathWithin}
 use Rattle.worker_protocol.specs.Frames.{Item, Job, item_bytes, job_bytes, job_limit, repo_limit, short_text, FitsItem, FitsJob}
 use Rattle.restore_steps.specs.Sources.{IsEntry, source, reading}

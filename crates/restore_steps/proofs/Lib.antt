@@ -2,6 +2,7 @@ pub mod Parts
 pub mod Words
 pub mod Fitting
 pub mod Nodes
+pub mod Timed
 pub mod Cleared
 pub mod Paths
 pub mod Bare

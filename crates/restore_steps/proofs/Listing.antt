@@ -98,7 +98,7 @@ module _ (u v : Option Nodes) (fs : List Filed) (i : ℕ) (a b : Filed) (lt : i 
   tidy_still : SameBeside a.wanted.path.now u v → IsTidy v b → AllTidy u fs → AllTidy v (set fs i b)
   tidy_still same here all k f is_f right = go (either_is k i)
     where
-      go : (k ≡ i) ⊎ (k ≢ i) → IsInPlace (path_of f) v
+      go : (k ≡ i) ⊎ (k ≢ i) → IsInPlace (path_of f) f.wanted.time v
       go (inl e) =
           let mine : f ≡ b = get_set_same fs i b f (subst (λ (n : ℕ). slice_get (set fs i b) n ≡ Some f) e is_f) in
           subst (IsTidy v) (sym mine) here right
@@ -106,7 +106,7 @@ module _ (u v : Option Nodes) (fs : List Filed) (i : ℕ) (a b : Filed) (lt : i 
           let was : slice_get fs k ≡ Some f = sym (get_set_other fs i k b off) ∙ is_f in
           let mine : slice_get (map path_of fs) i ≡ Some (path_of a) = map_get path_of fs i a (got fs i a lt is) in
           let its : slice_get (map path_of fs) k ≡ Some (path_of f) = map_get path_of fs k f was in
-          place_stays (path_of f) u v
+          place_stays (path_of f) f.wanted.time u v
           (same (path_of f) (λ e. off (apart.once k i (path_of a) (subst (λ (p : Text). slice_get (map path_of fs) k ≡ Some p) e its) mine)) (apart.lasting k i (path_of f) (path_of a) its mine))
           (same (temporary_path (path_of f)) (λ e. apart.lasting i k (path_of a) (path_of f) mine its (sym e)) (λ e. off (apart.once k i (path_of a) (subst (λ (p : Text). slice_get (map path_of fs) k ≡ Some p) (one_temporary (path_of f) (path_of a) e) its) mine)))
           (all k f was right)
@@ -171,7 +171,7 @@ paths_back ws fs is = ap (map path_of) is ∙ go ws
 none_tidy : (nodes : Option Nodes) (ws : List Wanted) (fs : List Filed) → fs ≡ map untouched_of ws → AllTidy nodes fs
 none_tidy nodes ws fs is k f is_f right = go ws k (subst (λ (l : List Filed). slice_get l k ≡ Some f) is is_f) right
   where
-    go : (l : List Wanted) (n : ℕ) → slice_get (map untouched_of l) n ≡ Some f → is_right f.wanted f.count f.end ≡ true → IsInPlace (path_of f) nodes
+    go : (l : List Wanted) (n : ℕ) → slice_get (map untouched_of l) n ≡ Some f → is_right f.wanted f.count f.end ≡ true → IsInPlace (path_of f) f.wanted.time nodes
     go [] n e r = cc
     go (w ∷ l) zero e r = open_tidy f nodes (let h : ◌≡◌ {A = Option Filed} (Some (untouched_of w)) (Some f) = e in let same : untouched_of w ≡ f = cc in sym (ap (λ (x : Filed). x.end) same)) r
     go (w ∷ l) (suc n) e r = go l n e r

@@ -20,7 +20,7 @@ use Rattle.base_model.specs.Names.{letter, later_text, label_text}
 use Rattle.base_model.specs.Paths.{is_path_byte}
 use Rattle.base_model.specs.Text.{Text}
 use Rattle.repo_info.proofs.PlainTexts.{is_key-label_text, IsUtf8-label_text}
-use Rattle.options_table.specs.Values.{is_stanza_byte, is_stanza, begins_with_dash}
+use Rattle.base_model.specs.StanzaName.{is_stanza_byte, is_stanza, begins_with_dash}
 use Rattle.restore_steps.proofs.Parts.{IsPart, both, each_true, is_no_slash, one_part}
 
 -- ---- bytes of a name that is letters, digits, dashes and underlines

@@ -80,13 +80,17 @@ StaysNone path old new = HasNone path old → HasNone path new
 abbrev pub HasFile : Text → Text → Nodes → Type 0
 HasFile path bytes f = (time : ℕ) × (f path ≡ Some (file bytes time))
 
+-- the same, with this time
+abbrev pub HasTimed : Text → Text → ℕ → Nodes → Type 0
+HasTimed path bytes time f = f path ≡ Some (file bytes time)
+
 -- it has no bytes, and isn't the control file
 abbrev pub is_bare : FileEntry → Bool
 is_bare e = (e.size == 0) && not (bytes_eq e.path control_path)
 
--- the files without bytes are there, and nothing else has changed
+-- the files without bytes are there, each with its time, and nothing else has changed
 pub record Bares (es : List FileEntry) (old new : Option Nodes) : Type 0 where
-  pub each : (e : FileEntry) → In e es → is_bare e ≡ true → IfSome new (HasFile e.path [])
+  pub each : (e : FileEntry) → In e es → is_bare e ≡ true → IfSome new (HasTimed e.path [] e.time)
   pub others : (q : Text) → ((e : FileEntry) → In e es → is_bare e ≡ true → q ≢ e.path) → at q new ≡ at q old
 
 -- each of these files has its folder, and none is the folder of another

@@ -1,7 +1,7 @@
 -- A file that is written as a worker reads it: what is held of it, and what calls on it leave. Own.
 use Rattle.std.specs.Prelude.{ℕ, zero, suc, Bool, true, false, ◌≡◌, ◌≢◌, ◌<◌, ◌==◌, ◌&&◌, nat_lt, bytes_eq, List, [], ◌∷◌, ◌++◌, length, codes, Option, Some, None, option_map, IfSome, IsSome, slice_get}
 use Rattle.base_devices.specs.Content.{at}
-use Rattle.base_devices.specs.DataFolder.{Nodes, file, file_bytes, with_node, moved_node, IsFileAt}
+use Rattle.base_devices.specs.DataFolder.{Nodes, Held as Node, file, file_bytes, with_node, timed_file, moved_node, IsFileAt}
 use Rattle.base_model.specs.Text.{Text}
 use Rattle.worker_protocol.specs.declared.sinks.ItemEnd.{ItemEnd}
 use Rattle.worker_protocol.specs.declared.sinks.ItemEnd.TheVariants.{Whole, Vanished}
@@ -67,13 +67,17 @@ path_of f = f.wanted.path.now
 abbrev pub untouched_of : Wanted → Filed
 untouched_of w = record { wanted = w; count = 0; end = None }
 
--- where the tree is known, a file is at the path, and nothing at its temporary name
-abbrev pub IsInPlace : Text → Option Nodes → Type 0
-IsInPlace path nodes = IfSome nodes (λ f. IsSome (file_bytes (f path)) × (f (temporary_path path) ≡ None))
+-- the node is a file of this time
+abbrev pub IsFileOf : ℕ → Option Node → Type 0
+IsFileOf time node = (bytes : Text) × (node ≡ Some (file bytes time))
 
--- a file that has its own name is in its place
+-- where the tree is known, a file of this time is at the path, and nothing at its temporary name
+abbrev pub IsInPlace : Text → ℕ → Option Nodes → Type 0
+IsInPlace path time nodes = IfSome nodes (λ f. IsFileOf time (f path) × (f (temporary_path path) ≡ None))
+
+-- a file that has its own name is in its place, with the time that is requested
 abbrev pub IsTidy : Option Nodes → Filed → Type 0
-IsTidy nodes f = is_right f.wanted f.count f.end ≡ true → IsInPlace f.wanted.path.now nodes
+IsTidy nodes f = is_right f.wanted f.count f.end ≡ true → IsInPlace f.wanted.path.now f.wanted.time nodes
 
 abbrev pub AllTidy : Option Nodes → List Filed → Type 0
 AllTidy nodes fs = (k : ℕ) (f : Filed) → slice_get fs k ≡ Some f → IsTidy nodes f
@@ -104,7 +108,11 @@ Grows count path bytes old new = (before : Text) → count ≡ length before
     → IfSome (known_by false count path old) (λ t. t ≡ before)
     → IfSome (bytes_at (temporary_path path) new) (λ t. t ≡ before ++ bytes)
 
--- the file under the temporary name has its own
-pub record IsPut (path : Text) (old new : Option Nodes) : Type 0 where
+-- the tree with the file of the temporary name under its own, and with this time
+abbrev pub put_in_tree : Text → ℕ → Nodes → Nodes
+put_in_tree path time f = moved_node (temporary_path path) path (timed_file (temporary_path path) time f)
+
+-- the file under the temporary name has its own, and this time
+pub record IsPut (path : Text) (time : ℕ) (old new : Option Nodes) : Type 0 where
   pub there : IsFileAt old (temporary_path path)
-  pub moved : new ≡ option_map (moved_node (temporary_path path) path) old
+  pub moved : new ≡ option_map (put_in_tree path time) old

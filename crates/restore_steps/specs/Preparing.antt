@@ -9,7 +9,7 @@ use Rattle.base_model.specs.ManifestText.{HasItsFolders}
 use Rattle.base_model.specs.Text.{Text, In}
 use Rattle.base_model.specs.Values.{FileEntry, manifest_of}
 use Rattle.base_model.specs.declared.files.Manifest.{Manifest}
-use Rattle.restore_steps.specs.Clearing.{stays, seen_of, without_one, without, with_folders, is_bare, IsSpared, IsListed, HaveTheirFolders, HasFile, Bares}
+use Rattle.restore_steps.specs.Clearing.{stays, seen_of, without_one, without, with_folders, is_bare, IsSpared, IsListed, HaveTheirFolders, HasTimed, Bares}
 
 -- ---- one node that is removed, unless it stays
 
@@ -62,15 +62,15 @@ MakesProperly folders old new = are_in_order folders ≡ true
 
 -- ---- files without bytes
 
--- a file that has no bytes is there
+-- a file that has no bytes is there, with its time
 abbrev pub HasBare : FileEntry → DataFolderState → Type 0
-HasBare e tree = is_bare e ≡ true → IfSome tree.nodes (HasFile e.path [])
+HasBare e tree = is_bare e ≡ true → IfSome tree.nodes (HasTimed e.path [] e.time)
 
 -- only a file that has no bytes has changed
 abbrev pub ChangesBareFile : FileEntry → DataFolderState → DataFolderState → Type 0
 ChangesBareFile e old new = (q : Text) → (is_bare e ≡ true → q ≢ e.path) → at q new.nodes ≡ at q old.nodes
 
--- the files that have no bytes are there
+-- the files that have no bytes are there, each with its time
 abbrev pub BeginsBare : List FileEntry → DataFolderState → DataFolderState → Type 0
 BeginsBare es old new = Bares es old.nodes new.nodes
 

@@ -10,5 +10,5 @@ mod folders;
 mod sources;
 
 pub use contents::{FileKeeper, Filed, Wanted};
-pub use folders::{begin_bare, clear, is_control, make_folders};
+pub use folders::{begin_bare, begin_timed, clear, is_control, make_folders};
 pub use sources::{source_item, source_job};

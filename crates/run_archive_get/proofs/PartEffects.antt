@@ -88,7 +88,7 @@ module _ (p : Place) (b k : World) (rest : k ≡ record b { repo = k.repo; tree 
       (record {
         beside = λ known. still_beside p.stanza b.repo.view k.repo.view still;
         spool = λ known. spool_kept p.stanza b k (ap (λ (s : World). s.spool.view) rest);
-        repository = still;
+        repository = λ known. still;
         folder = changes;
         others = ap (λ (s : World). s.others) rest;
         turned = turned_as means r _ none;

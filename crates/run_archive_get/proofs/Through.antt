@@ -101,7 +101,7 @@ module _ (p : Place) (b k : World) (rest : k ≡ record b { repo = k.repo; spool
       (record {
         beside = λ known. still_beside p.stanza b.repo.view k.repo.view still;
         spool = λ known. beside;
-        repository = still;
+        repository = λ known. still;
         folder = changes;
         others = subst (λ (ws : List Text). QuietOthers ws b.others k.others) as_placed quiet;
         turned = turned_as means r _ none;
@@ -129,7 +129,7 @@ module _ (p : Place) (b : World) (name path spool : Text) (queue : ℕ) where
       (record {
         beside = λ known. still_beside p.stanza b.repo.view b.repo.view (still_self b.repo.view);
         spool = λ known. still_beside p.stanza b.spool.view b.spool.view (still_self b.spool.view);
-        repository = still_self b.repo.view;
+        repository = λ known. still_self b.repo.view;
         folder = record { known = λ some. some; others = λ q x y. refl; whole = inl refl };
         others = record { account = refl; turns = refl; started = inl refl; later = omega arith };
         turned = tt;

@@ -110,7 +110,7 @@ module _ (p : Place) (b k : World) (rest : k ≡ record b { repo = k.repo; spool
       (record {
         beside = λ known. still_beside p.stanza b.repo.view k.repo.view still;
         spool = λ known. beside;
-        repository = still;
+        repository = λ known. still;
         folder = ap (λ (s : World). s.tree.nodes) rest;
         others = ap (λ (s : World). s.others) rest;
         turned = all_none (reached_of means (ending_of (own_of r))) _ (ap (λ (s : World). s.tree.nodes) rest);

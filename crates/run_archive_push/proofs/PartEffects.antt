@@ -97,7 +97,7 @@ module _ (p : Place) (b k : World) (rest : k ≡ record b { repo = k.repo; tree 
       (record {
         beside = λ known. beside;
         spool = λ known. spool_kept p.stanza b k (ap (λ (s : World). s.spool.view) rest);
-        repository = effect;
+        repository = λ known. effect;
         folder = nodes;
         others = ap (λ (s : World). s.others) rest;
         turned = all_none (reached_of (push_meaning path) (ending_of (own_of r))) _ nodes;

@@ -171,7 +171,7 @@ module _ (p : Place) (b k : World) (rest : k ≡ record b { repo = k.repo; spool
       spares = record {
         beside = λ there. (known_so p.stanza k.others.account _ beside there).0;
         spool = λ there. (known_so p.stanza k.others.account _ beside there).1;
-        repository = tt;
+        repository = λ known. tt;
         folder = nodes;
         others = effect started few;
         turned = all_none (reached_of means (ending_of (own_of ended))) _ nodes;
@@ -205,7 +205,7 @@ module _ (p : Place) (b : World) (path spool : Text) (turns : ℕ) where
     spares = record {
       beside = λ there. still_beside p.stanza b.repo.view b.repo.view (still_self b.repo.view);
       spool = λ there. still_beside p.stanza b.spool.view b.spool.view (still_self b.spool.view);
-      repository = tt;
+      repository = λ known. tt;
       folder = refl;
       others = none_queued p spool turns b.others;
       turned = tt;

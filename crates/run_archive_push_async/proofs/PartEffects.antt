@@ -108,7 +108,7 @@ module _ (p : Place) (b k : World) (rest : k ≡ record b { repo = k.repo; spool
       (record {
         beside = λ known. beside;
         spool = λ known. spool_beside;
-        repository = effect;
+        repository = λ known. effect;
         folder = nodes;
         others = ap (λ (s : World). s.others) rest;
         turned = all_none (reached_of means (ending_of (own_of r))) _ nodes;

@@ -69,7 +69,7 @@ pub record BacksUp {F : Type 0} (M : BackupMeaning F) (p : Place) (b k : World) 
   pub closes : IfErr made (HaltCause (M.closes p (known_world b) (known_world k) (Failed b k)) (λ object. Unit {0}))
   pub beside : TurnsKnownIf M.running p.stanza (known_world k) → StaysBeside p.stanza b.repo.view k.repo.view
   pub spool : TurnsKnownIf M.running p.stanza (known_world k) → StaysBeside p.stanza b.spool.view k.spool.view
-  pub changes : M.changes None p b.clock.least b.repo.view k.repo.view
+  pub changes : TurnsKnownIf M.running p.stanza (known_world k) → M.changes None p b.clock.least b.repo.view k.repo.view
   pub nodes : k.tree.nodes ≡ b.tree.nodes
   pub server : Unless M.running (k.server ≡ b.server)
   pub others : M.others_effect p b.others k.others
@@ -166,7 +166,7 @@ module _ {F : Type 0} (M : BackupMeaning F) (facts : IsFollowable M) (p : Place)
       (record {
         beside = h.beside;
         spool = h.spool;
-        repository = facts.changes_none expires p b.clock.least b.repo.view k.repo.view h.changes;
+        repository = λ turns. facts.changes_none expires p b.clock.least b.repo.view k.repo.view (h.changes turns);
         folder = h.nodes;
         others = h.others;
         turned = all_none (reached_of means (ending_of (own_of (of_made made)))) _ h.nodes;
@@ -219,7 +219,7 @@ module _ {F : Type 0} (M : BackupMeaning F) (facts : IsFollowable M) (p : Place)
   both_spares beside expires r closed = record {
     beside = λ turns. beside_on p.stanza b.repo.view m.repo.view repo.view (h.beside (there turns)) beside;
     spool = λ turns. h.spool (there turns);
-    repository = facts.changes_then rules p b.clock.least b.repo.view m.repo.view repo.view h.changes expires;
+    repository = λ turns. facts.changes_then rules p b.clock.least b.repo.view m.repo.view repo.view (h.changes (there turns)) expires;
     folder = h.nodes;
     others = h.others;
     turned = all_none (reached_of both (ending_of r)) _ h.nodes;

@@ -1,13 +1,14 @@
 -- What a backup of a stopped server did, in terms of all objects.
 use Rattle.std.proofs.Common.{◌≡◌, inl, inr, ℕ, true, List, [], ◌∷◌, Option, Some, None, Result, Ok, Err, IfOk, IfErr, refl, sym, subst, arith}
 use Rattle.std.specs.Prelude.{◌≤◌, take, Contains, IfSome, IsSomeAnd}
-use Rattle.base_devices.specs.Content.{Content}
+use Rattle.base_devices.specs.Content.{Name, Content}
 use Rattle.base_devices.specs.DataFolder.{Nodes}
 use Rattle.base_devices.specs.Links.{LinkState}
 use Rattle.base_devices.specs.Moments.{View}
 use Rattle.base_devices.specs.States.{ClockState, DataFolderState, DiskState}
 use Rattle.base_model.specs.declared.labels.BackupKind.{BackupKind}
 use Rattle.base_model.specs.declared.labels.BackupKind.TheVariants.{Full, Diff, Incr}
+use Rattle.base_model.specs.declared.labels.Label.{Label}
 use Rattle.base_model.specs.declared.wal.ArchiveName.{ArchiveName}
 use Rattle.base_model.specs.Log.{Done, IsDrained, KeepsSpool, Reaches}
 use Rattle.base_model.specs.Now.{NowEffect}
@@ -41,7 +42,7 @@ use Rattle.cmd_backup_offline.specs.Faults.{offline_early}
 use Rattle.cmd_backup_offline.specs.Held.{IsHeld}
 use Rattle.cmd_backup_offline.specs.Kinds.{IsBackupBy}
 use Rattle.cmd_backup_offline.specs.Taken.{IsTaken}
-use Rattle.cmd_backup_offline.specs.Touching.{TouchesOne}
+use Rattle.cmd_backup_offline.specs.Touching.{TouchesOne, TouchesOneOf}
 use Rattle.cmd_backup_offline.proofs.Takings.{made_later}
 use Rattle.expire_rules.specs.declared.rules.Rules.{Rules}
 use Rattle.cmd_expire.specs.Changing.{Expires}
@@ -123,19 +124,19 @@ sound_by Diff links stanza b old new adds command is done = known_sound stanza [
 sound_by Incr links stanza b old new adds command is done = known_sound stanza [] b old new adds.adds adds.sound is.0 command is.1 done
 
 -- the expiry that may follow it changes no less than none
-change_more : (expires : Option Rules) (stanza : Text) (least : ℕ) (a b : View) → TouchesOne stanza a b → MayChange expires stanza least a b
-change_more None stanza least a b x = x
-change_more (Some rules) stanza least a b (inl still) = inl (expires_still stanza rules least a b still)
-change_more (Some rules) stanza least a b (inr (label, x)) = inr (
+pub change_more : (stanza : Text) (these : Label → Name → Type 0) (expires : Option Rules) (least : ℕ) (a b : View) → TouchesOneOf stanza these a b → MayChange stanza these expires least a b
+change_more stanza these None least a b x = x
+change_more stanza these (Some rules) least a b (inl still) = inl (expires_still stanza rules least a b still)
+change_more stanza these (Some rules) least a b (inr (label, x)) = inr (
   label,
-  record { is_label = x.is_label; is_new = x.is_new; both = none_then stanza least TouchesOnly touched_frame (IsOfBackup stanza label) (Some rules) a b x.only },
+  record { is_label = x.is_label; is_new = x.is_new; both = none_then stanza least TouchesOnly touched_frame (these label) (Some rules) a b x.only },
 )
 
-change_then : (rules : Rules) (stanza : Text) (least : ℕ) (a b c : View) → TouchesOne stanza a b → Expires stanza rules least b c → MayChange (Some rules) stanza least a c
-change_then rules stanza least a b c (inl still) h = inl (expires_on stanza rules least a b c still h)
-change_then rules stanza least a b c (inr (label, x)) h = inr (
+pub change_then : (stanza : Text) (these : Label → Name → Type 0) (rules : Rules) (least : ℕ) (a b c : View) → TouchesOneOf stanza these a b → Expires stanza rules least b c → MayChange stanza these (Some rules) least a c
+change_then stanza these rules least a b c (inl still) h = inl (expires_on stanza rules least a b c still h)
+change_then stanza these rules least a b c (inr (label, x)) h = inr (
   label,
-  record { is_label = x.is_label; is_new = x.is_new; both = both_change stanza least TouchesOnly touched_frame (IsOfBackup stanza label) rules a b c x.only h },
+  record { is_label = x.is_label; is_new = x.is_new; both = both_change stanza least TouchesOnly touched_frame (these label) rules a b c x.only h },
 )
 
 offline_facts : (how : BackupHow) → IsFollowable (offline how)
@@ -143,8 +144,8 @@ offline_facts how = record {
   makes = λ p old new. makes_backup how.kind (take how.workers old.links) p.stanza old.repo;
   sound = λ p old new repo lines was turns command is done. let t = was.2.2 in sound_by how.kind (take how.workers old.links) p.stanza t.made.backup old.repo repo t.made.adds command is done;
   makes_on = λ p old new repo clock command is. is;
-  changes_none = λ expires p least a b x. change_more expires p.stanza least a b x;
-  changes_then = λ rules p least a b c x h. change_then rules p.stanza least a b c x h;
+  changes_none = λ expires p least a b x. change_more p.stanza (IsOfBackup p.stanza) expires least a b x;
+  changes_then = λ rules p least a b c x h. change_then p.stanza (IsOfBackup p.stanza) rules least a b c x h;
   promise_on = λ p old new repo clock now lines later was. let t = was.2.2 in (was.0, was.1, (was.2.0, was.2.1, taken_later p.stanza was.2.0 was.0 old.nodes (take how.workers old.links) old.repo now old.clock new.clock clock later lines t));
 }
 
@@ -198,7 +199,7 @@ module _ {D C : Type 0} (p : Place) (b : World) (state : D → DiskState) (befor
     closes = err_any made _ closes_any;
     beside = λ turns. beside;
     spool = λ turns. still_beside p.stanza b.spool.view b.spool.view (still_self b.spool.view);
-    changes = changes;
+    changes = λ turns. changes;
     nodes = nodes;
     server = refl;
     others = refl;

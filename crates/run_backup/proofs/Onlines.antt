@@ -37,6 +37,9 @@ use Rattle.cmd_backup_online.specs.Faults.{online_early, of_offline as offline_h
 use Rattle.cmd_backup_online.specs.Modelled.{IsLabelKnown}
 use Rattle.cmd_backup_online.specs.Taken.{BacksUpOnline, IsBackedUpOnline}
 use Rattle.cmd_backup_online.specs.Talking.{EndsTalk}
+use Rattle.cmd_backup_offline.specs.Touching.{TouchesOneOf}
+use Rattle.cmd_backup_online.specs.Touching.{IsOfRunning}
+use Rattle.cmd_backup_online.proofs.Later.{backs_up_later}
 use Rattle.cmd_backup_online.proofs.Spools.{one_turns}
 use Rattle.expire_rules.specs.declared.rules.Rules.{Rules}
 use Rattle.cmd_expire.specs.FollowUp.{StaysSound}
@@ -51,6 +54,7 @@ use Rattle.run_backup.specs.Offline.{taking_of}
 use Rattle.run_backup.specs.Online.{AsksBackup, IsOfflineRefusal, IsRunningOf, OnlyWaits, ShowsLabel, received_by, asked_by, online, backup_online_meaning}
 use Rattle.run_backup.proofs.Backups.{IsFollowable, BacksUp, backed_ran}
 use Rattle.run_backup.proofs.Followings.{MakesBackup, known_sound}
+use Rattle.run_backup.proofs.Offlines.{change_more, change_then}
 
 -- what isn't touched has the count that it had
 pub same_count : (n : ℕ) → n ≤ n
@@ -97,11 +101,11 @@ module _ (stanza : Text) (how : RunningHow) (old new : KnownWorld) where
           (turns_of turned, x.0, x.1)
 
   -- the steps of others that it waited for are those of its promise
-  running_sound : (known : Control) (o : OfflineOrder) (lines : Text) (repo : Option Content) → BacksUpOnline stanza known o old.nodes (received_by old new known) (take how.taken.workers old.links) old.others.account new.others.account old.repo repo lines
+  running_sound : (known : Control) (o : OfflineOrder) (lines : Text) (repo : Option Content) → BacksUpOnline stanza known o old.nodes (received_by old new known) (take how.taken.workers old.links) old.others.account new.others.account old.repo repo old.clock new.clock lines
       → IsSomeAnd new.others.account (λ k. k.stanza ≡ stanza) → (command : Command) → IsRunningOf stanza how old new command → NowEffect stanza command true old.repo repo → StaysSound stanza command old.repo
   running_sound known o lines repo taken there command is done = by new.others.account taken there is
     where
-      by : (account : Option Account) → BacksUpOnline stanza known o old.nodes (received_by old new known) (take how.taken.workers old.links) old.others.account account old.repo repo lines → IsSomeAnd account (λ k. k.stanza ≡ stanza)
+      by : (account : Option Account) → BacksUpOnline stanza known o old.nodes (received_by old new known) (take how.taken.workers old.links) old.others.account account old.repo repo old.clock new.clock lines → IsSomeAnd account (λ k. k.stanza ≡ stanza)
           → IsSomeAnd account (λ k. (turned : List Turned) × TakesTurns turned old.others.account k × (label : Option Text) × IfSome label (ShowsLabel old new) × IsOnlineBy how.taken.kind (take how.taken.workers old.links) (turns_of turned) label stanza old.repo command)
           → StaysSound stanza command old.repo
       by None h of x = absurd of
@@ -109,7 +113,7 @@ module _ (stanza : Text) (how : RunningHow) (old new : KnownWorld) where
           let x = online_made how.taken.kind (take how.taken.workers old.links) (turns_of turned) label stanza old.repo command is_of in
           let y = h of in
           let one = one_turns k old.others.account turned y.0 takes y.1 in
-          let t = subst (λ (ts : List Turned). IsBackedUpOnline stanza known o old.nodes (received_by old new known) (take how.taken.workers old.links) ts old.repo repo lines) one y.2 in
+          let t = subst (λ (ts : List Turned). IsBackedUpOnline stanza known o old.nodes (received_by old new known) (take how.taken.workers old.links) ts old.repo repo old.clock new.clock lines) one y.2 in
           known_sound stanza (turns_of turned) t.backup old.repo repo t.adds.adds t.adds.sound x.0 command x.1 done
 
 online_facts : (server : Server) (how : RunningHow) → IsFollowable (online server how)
@@ -117,9 +121,20 @@ online_facts server how = record {
   makes = λ p old new. running_makes p.stanza how old new;
   sound = λ p old new repo lines was turns command is done. running_sound p.stanza how old new was.0.2.0 was.0.0 lines repo was.0.2.2 turns command is done;
   makes_on = λ p old new repo clock command is. is;
-  changes_none = λ expires p least a b x. tt;
-  changes_then = λ rules p least a b c x changes. tt;
-  promise_on = λ p old new repo clock now lines later was. was;
+  changes_none = λ expires p least a b x. change_more p.stanza (IsOfRunning p.stanza) expires least a b x;
+  changes_then = λ rules p least a b c x h. change_then p.stanza (IsOfRunning p.stanza) rules least a b c x h;
+  promise_on = λ p old new repo clock now lines later was. (
+    (
+      was.0.0,
+      was.0.1,
+      (
+        was.0.2.0,
+        was.0.2.1,
+        backs_up_later p.stanza was.0.2.0 was.0.0 old.nodes (received_by old new was.0.2.0) (take how.taken.workers old.links) old.repo now old.clock new.clock clock later lines old.others.account new.others.account was.0.2.2,
+      ),
+    ),
+    was.1,
+  );
 }
 
 -- ---- the talk
@@ -173,20 +188,20 @@ module _ {D C : Type 0} (p : Place) (server : Server) (fast : Bool) (turns : ℕ
   closes_of (HaltFailed object) x = tt
   closes_of HaltMemory x = tt
 
-  backs_up : OnlyWaits turns b.others others → IfSome others.account (λ n. n.stanza ≡ p.stanza → StaysBeside p.stanza b.repo.view repo.view) → IfSome others.account (λ n. n.stanza ≡ p.stanza → StaysBeside p.stanza b.spool.view spool.view) →
+  backs_up : OnlyWaits turns b.others others → IfSome others.account (λ n. n.stanza ≡ p.stanza → StaysBeside p.stanza b.repo.view repo.view) → IfSome others.account (λ n. n.stanza ≡ p.stanza → TouchesOneOf p.stanza (IsOfRunning p.stanza) b.repo.view repo.view) → IfSome others.account (λ n. n.stanza ≡ p.stanza → StaysBeside p.stanza b.spool.view spool.view) →
       RunsOnline p.stanza o.kind used (received_by (known_world b) (known_world m) known) (reached_by online_early made) b.others.account others.account b.repo.view b.spool.view repo.view spool.view →
-      IfOk made (λ outcome. OnFinished outcome (BacksUpOnline p.stanza known o b.tree.nodes (received_by (known_world b) (known_world m) known) used b.others.account others.account b.repo.view.now repo.view.now)) →
+      IfOk made (λ outcome. OnFinished outcome (BacksUpOnline p.stanza known o b.tree.nodes (received_by (known_world b) (known_world m) known) used b.others.account others.account b.repo.view.now repo.view.now b.clock (of first))) →
       OnOk made (AsksBackup server fast talk.place b.server.sent talk.sent) →
       IfErr made (λ h. ((talk ≡ b.server) × ((x : Halt OfflineFault) × (h ≡ offline_halt x))) ⊎ EndsTalk (Failed b m TheServer) talk.sent h) → (failed : Object → Type 0) → ((object : Object) → failed object → Failed b m object) →
       IfErr made (HaltCause (OnlineCause (asked_by p.stanza by_order (known_world b) (known_world m) known)) failed) → SamePlaces b m → AreLater b m → BacksUp (online server by_order) p b m made
-  backs_up waits beside spool_beside runs taken asks closed failed rose cause places later = record {
+  backs_up waits beside only spool_beside runs taken asks closed failed rose cause places later = record {
     steps = running_steps p.stanza by_order (known_world b) (known_world m) known shows others.account _ runs;
     promise = ok_with made _ _ _ (λ lines h asked. ((o, refl, (known, shows, h)), asked)) taken asks;
     cause = err_as made _ _ (cause_of failed rose) cause;
     closes = err_as made _ _ closes_of closed;
     beside = with_account p.stanza others.account _ beside;
     spool = with_account p.stanza others.account _ spool_beside;
-    changes = tt;
+    changes = with_account p.stanza others.account _ only;
     nodes = nodes;
     server = tt;
     others = waits;
@@ -194,15 +209,15 @@ module _ {D C : Type 0} (p : Place) (server : Server) (fast : Bool) (turns : ℕ
     later = later;
   }
 
-  pub online_ran : (how : BackupHow) → taking_of o ≡ how → OnlyWaits turns b.others others → IfSome others.account (λ n. n.stanza ≡ p.stanza → StaysBeside p.stanza b.repo.view repo.view) → IfSome others.account (λ n. n.stanza ≡ p.stanza → StaysBeside p.stanza b.spool.view spool.view) →
+  pub online_ran : (how : BackupHow) → taking_of o ≡ how → OnlyWaits turns b.others others → IfSome others.account (λ n. n.stanza ≡ p.stanza → StaysBeside p.stanza b.repo.view repo.view) → IfSome others.account (λ n. n.stanza ≡ p.stanza → TouchesOneOf p.stanza (IsOfRunning p.stanza) b.repo.view repo.view) → IfSome others.account (λ n. n.stanza ≡ p.stanza → StaysBeside p.stanza b.spool.view spool.view) →
       RunsOnline p.stanza o.kind used (received_by (known_world b) (known_world m) known) (reached_by online_early made) b.others.account others.account b.repo.view b.spool.view repo.view spool.view →
-      IfOk made (λ outcome. OnFinished outcome (BacksUpOnline p.stanza known o b.tree.nodes (received_by (known_world b) (known_world m) known) used b.others.account others.account b.repo.view.now repo.view.now)) →
+      IfOk made (λ outcome. OnFinished outcome (BacksUpOnline p.stanza known o b.tree.nodes (received_by (known_world b) (known_world m) known) used b.others.account others.account b.repo.view.now repo.view.now b.clock (of first))) →
       OnOk made (AsksBackup server fast talk.place b.server.sent talk.sent) →
       IfErr made (λ h. ((talk ≡ b.server) × ((x : Halt OfflineFault) × (h ≡ offline_halt x))) ⊎ EndsTalk (Failed b m TheServer) talk.sent h) → (failed : Object → Type 0) → ((object : Object) → failed object → Failed b m object) →
       IfErr made (HaltCause (OnlineCause (asked_by p.stanza by_order (known_world b) (known_world m) known)) failed) → SamePlaces b m → AreLater b m → b.clock.least ≤ (of first).least →
       (state after).opened ≡ (state before).opened → (state before).faults ≤ (state after).faults → (of first).faults ≤ (of last).faults →
       (expires : Option Rules) (r : Result Outcome (Halt (BackupCommandFault OnlineBackupFault))) → FollowsBackup p.stanza expires made state before after of first last r →
       PartEffect p (backup_online_meaning server (record { taken = how; fast = fast; turns = turns }) expires) b (record m { repo = state after; clock = of last }) (own_of r)
-  online_ran how is waits beside spool_beside runs taken asks closed failed rose cause places later le opened repo_later clock_later expires r follows =
+  online_ran how is waits beside only spool_beside runs taken asks closed failed rose cause places later le opened repo_later clock_later expires r follows =
       subst (λ (x : BackupHow). PartEffect p (backup_online_meaning server (record { taken = x; fast = fast; turns = turns }) expires) b (record m { repo = state after; clock = of last }) (own_of r)) is
-      (backed_ran (online server by_order) (online_facts server by_order) p b m state before after of first last le opened repo_later clock_later expires made (backs_up waits beside spool_beside runs taken asks closed failed rose cause places later) r follows)
+      (backed_ran (online server by_order) (online_facts server by_order) p b m state before after of first last le opened repo_later clock_later expires made (backs_up waits beside only spool_beside runs taken asks closed failed rose cause places later) r follows)

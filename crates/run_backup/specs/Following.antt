@@ -39,8 +39,9 @@ pub record BackupMeaning (F : Type 0) : Type 1 where
   -- why it is refused, and how the talk to the server was left that it then ended
   pub cause : Place → KnownWorld → KnownWorld → F → Type 0
   pub closes : Place → KnownWorld → KnownWorld → (Object → Type 0) → F → Type 0
-  -- what it may change in the repository, with the expiry by these rules after it, where there are some; the number is
-  -- the least second that the clock may show as the command begins
+  -- What it may change in the repository, with what others change meanwhile, where their steps are known, and with the
+  -- expiry by these rules after it, where there are some. The number is the least second that the clock may show as the
+  -- command begins.
   pub changes : Option Rules → Place → ℕ → View → View → Type 0
   -- the refusal's status and message
   pub status : F → ℕ

@@ -1,5 +1,6 @@
 -- What a backup of a stopped server means (pgBackRest command reference, "Backup Command").
 use Rattle.std.specs.Prelude.{◌≡◌, ◌⊎◌, ℕ, take, false, Option, None, Some, IfSome}
+use Rattle.base_devices.specs.Content.{Name}
 use Rattle.base_devices.specs.DataFolder.{Nodes}
 use Rattle.base_devices.specs.Moments.{View}
 use Rattle.base_model.specs.declared.labels.Label.{Label}
@@ -14,7 +15,7 @@ use Rattle.cmd_backup_offline.specs.declared.order.OfflineOrder.{OfflineOrder}
 use Rattle.cmd_backup_offline.specs.Causes.{OfflineCause}
 use Rattle.cmd_backup_offline.specs.Kinds.{IsBackupBy}
 use Rattle.cmd_backup_offline.specs.Taken.{IsTaken}
-use Rattle.cmd_backup_offline.specs.Touching.{TouchesOne, IsNewLabel}
+use Rattle.cmd_backup_offline.specs.Touching.{TouchesOneOf, IsNewLabel}
 use Rattle.cmd_backup_offline.specs.Texts.{offline_status, offline_message}
 use Rattle.expire_rules.specs.declared.rules.Rules.{Rules}
 use Rattle.cmd_expire.specs.Changing.{ChangesBoth, Expires}
@@ -41,25 +42,26 @@ found_by stanza workers old known = record {
 
 -- how a server is backed up by the order
 abbrev pub taking_of : OfflineOrder → BackupHow
-taking_of o = record { workers = o.take.workers; kind = o.kind; delta = o.settings.delta }
+taking_of o = record { workers = o.take.workers; kind = o.kind; settings = o.settings }
 
 -- by an order of this it is so
 abbrev pub ByOrder : BackupHow → (OfflineOrder → Type 0) → Type 0
 ByOrder how P = (o : OfflineOrder) × (taking_of o ≡ how) × P o
 
--- no names but those of the backup of this label, which is new, are changed, and by an expiry after it by these rules
+-- no names but these, of the backup of this label, which is new, are changed, and by an expiry after it by these rules
 -- no more than it may change
-pub record TouchesThen (stanza : Text) (rules : Rules) (least : ℕ) (label : Label) (old new : View) : Type 0 where
+pub record TouchesThen (stanza : Text) (these : Label → Name → Type 0) (rules : Rules) (least : ℕ) (label : Label)
+    (old new : View) : Type 0 where
   pub is_label : IsLabel label
   pub is_new : IfSome old.now (IsNewLabel stanza label)
-  pub both : ChangesBoth stanza rules least TouchesOnly (IsOfBackup stanza label) old new
+  pub both : ChangesBoth stanza rules least TouchesOnly (these label) old new
 
--- what one may change, whatever the repository holds: names of one backup, whose label is new; and after it what an
+-- what one may change, whatever the repository holds: these names of one backup, whose label is new; and after it what an
 -- expiry may change, by these rules
-abbrev pub MayChange : Option Rules → Text → ℕ → View → View → Type 0
-MayChange None stanza least old new = TouchesOne stanza old new
-MayChange (Some rules) stanza least old new = Expires stanza rules least old new
-    ⊎ ((label : Label) × TouchesThen stanza rules least label old new)
+abbrev pub MayChange : Text → (Label → Name → Type 0) → Option Rules → ℕ → View → View → Type 0
+MayChange stanza these None least old new = TouchesOneOf stanza these old new
+MayChange stanza these (Some rules) least old new = Expires stanza rules least old new
+    ⊎ ((label : Label) × TouchesThen stanza these rules least label old new)
 
 -- its data folder is read by the first links, as many as it has workers
 abbrev pub offline : BackupHow → BackupMeaning OfflineFault
@@ -71,7 +73,7 @@ offline how = record {
   cause = λ p old new fault. ByOrder how (λ o. OnCluster old.nodes (λ known.
       OfflineCause (found_by p.stanza how.workers old known) o fault));
   closes = λ p old new failed fault. Unit {0};
-  changes = λ expires p least old new. MayChange expires p.stanza least old new;
+  changes = λ expires p least old new. MayChange p.stanza (IsOfBackup p.stanza) expires least old new;
   status = offline_status;
   message = offline_message;
   others_effect = λ p old new. new ≡ old;

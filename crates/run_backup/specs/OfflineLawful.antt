@@ -1,11 +1,12 @@
 -- What the proof of the stages needs of a backup of a stopped server. Own.
 use Rattle.std.specs.Prelude.{◌≢◌, ℕ, None, Some, List, [], Option, IfSome, refl}
 use Rattle.std.proofs.Common.{arith, inl, inr, subst}
-use Rattle.base_devices.specs.Content.{Content}
+use Rattle.base_devices.specs.Content.{Name, Content}
 use Rattle.base_devices.specs.Links.{LinkState}
 use Rattle.base_devices.specs.Moments.{View}
 use Rattle.base_model.specs.declared.labels.BackupKind.{BackupKind}
 use Rattle.base_model.specs.declared.labels.BackupKind.TheVariants.{Full, Diff, Incr}
+use Rattle.base_model.specs.declared.labels.Label.{Label}
 use Rattle.base_model.specs.Steps.{MakeBackup}
 use Rattle.base_model.specs.Text.{Text}
 use Rattle.archive_store.specs.Still.{IsStill}
@@ -56,21 +57,21 @@ offline_not_found (Take fault) = not_any fault
 offline_not_found (PriorDamaged label main copy) = λ e. absurd (omega (arith, e))
 
 -- it changes nothing where only was read, and no more after calls that only read
-change_none : (expires : Option Rules) (stanza : Text) (least : ℕ) (b k : View) → IsStill b k
-    → MayChange expires stanza least b k
-change_none None stanza least b k still = inl still
-change_none (Some rules) stanza least b k still = inl (expires_still stanza rules least b k still)
+pub change_none : (stanza : Text) (these : Label → Name → Type 0) (expires : Option Rules) (least : ℕ) (b k : View)
+    → IsStill b k → MayChange stanza these expires least b k
+change_none stanza these None least b k still = inl still
+change_none stanza these (Some rules) least b k still = inl (expires_still stanza rules least b k still)
 
-change_on : (expires : Option Rules) (stanza : Text) (least : ℕ) (b c k : View) → IsStill b c
-    → MayChange expires stanza least c k → MayChange expires stanza least b k
-change_on None stanza least b c k still x = touches_after stanza b c k still x
-change_on (Some rules) stanza least b c k still (inl x) = inl (expires_on stanza rules least b c k still x)
-change_on (Some rules) stanza least b c k still (inr (label, x)) = inr (
+pub change_on : (stanza : Text) (these : Label → Name → Type 0) (expires : Option Rules) (least : ℕ) (b c k : View)
+    → IsStill b c → MayChange stanza these expires least c k → MayChange stanza these expires least b k
+change_on stanza these None least b c k still x = touches_after stanza these b c k still x
+change_on stanza these (Some rules) least b c k still (inl x) = inl (expires_on stanza rules least b c k still x)
+change_on stanza these (Some rules) least b c k still (inr (label, x)) = inr (
   label,
   record {
     is_label = x.is_label;
     is_new = subst (λ (n : Option Content). IfSome n (IsNewLabel stanza label)) still.now x.is_new;
-    both = then_on stanza least TouchesOnly touched_frame (IsOfBackup stanza label) (Some rules) b c k still x.both;
+    both = then_on stanza least TouchesOnly touched_frame (these label) (Some rules) b c k still x.both;
   },
 )
 
@@ -80,8 +81,9 @@ offline_laws how = record {
   closes_more = λ p old new repo failed others to fault h. tt;
   talk = λ p old new failed fault is same closes.
       quiet_talk old new failed (offline_status fault) (offline_within fault).1 is same;
-  changes_none = λ expires p least b k still. change_none expires p.stanza least b k still;
-  changes_on = λ expires p least b c k still x. change_on expires p.stanza least b c k still x;
+  changes_none = λ expires p least b k still. change_none p.stanza (IsOfBackup p.stanza) expires least b k still;
+  changes_on = λ expires p least b c k still x.
+      change_on p.stanza (IsOfBackup p.stanza) expires least b c k still x;
   over = λ fault. (offline_within fault).0;
   not_found = offline_not_found;
   others_none = λ p others. refl;

@@ -17,13 +17,14 @@ use Rattle.cmd_backup_online.specs.Modelled.{IsLabelKnown}
 use Rattle.cmd_backup_online.specs.Running.{TurnsWithin}
 use Rattle.cmd_backup_online.specs.Taken.{BacksUpOnline}
 use Rattle.cmd_backup_online.specs.Texts.{online_backup_status, online_backup_message}
+use Rattle.cmd_backup_online.specs.Touching.{IsOfRunning}
 use Rattle.expire_rules.specs.declared.rules.Rules.{Rules}
 use Rattle.cmd_trait.specs.KnownWorld.{KnownWorld}
 use Rattle.cmd_trait.specs.Meaning.{Meaning}
 use Rattle.run_backup.specs.declared.fault.BackupCommandFault.{BackupCommandFault}
 use Rattle.run_backup.specs.Asking.{RunningHow}
 use Rattle.run_backup.specs.Following.{BackupMeaning, backup_meaning}
-use Rattle.run_backup.specs.Offline.{OnCluster, ByOrder, found_by}
+use Rattle.run_backup.specs.Offline.{OnCluster, ByOrder, MayChange, found_by}
 
 -- ---- which command it is
 
@@ -87,12 +88,12 @@ online server how = record {
   makes = λ p old new. IsRunningOf p.stanza how old new;
   promise = λ p old new repo lines. ByOrder how.taken (λ o. OnCluster old.nodes (λ known.
       BacksUpOnline p.stanza known o old.nodes (received_by old new known) (take how.taken.workers old.links)
-      old.others.account new.others.account old.repo repo lines))
+      old.others.account new.others.account old.repo repo old.clock new.clock lines))
       × AsksBackup server how.fast new.server.place old.server.sent new.server.sent;
   cause = λ p old new fault. OnCluster old.nodes (λ known. OnlineCause (asked_by p.stanza how old new known) fault);
   closes = λ p old new failed fault. (IsOfflineRefusal fault × (new.server ≡ old.server))
       ⊎ (Ended new.server.sent ⊎ failed TheServer);
-  changes = λ expires p least old new. Unit {0};
+  changes = λ expires p least old new. MayChange p.stanza (IsOfRunning p.stanza) expires least old new;
   status = online_backup_status;
   message = online_backup_message;
   others_effect = λ p old new. OnlyWaits how.turns old new;

@@ -8,27 +8,26 @@ use Rattle.base_model.specs.declared.labels.BackupKind.{BackupKind}
 use Rattle.base_model.specs.declared.labels.BackupKind.TheVariants.{Full, Diff, Incr}
 use Rattle.base_model.specs.Steps.{MakeBackup, Turn}
 use Rattle.base_model.specs.Text.{Text}
-use Rattle.server_talk.specs.declared.session.fault.ServerFault.{ServerFault}
-use Rattle.server_talk.specs.declared.session.fault.ServerFault.TheVariants as talks
 use Rattle.archive_lookup.specs.Turns.{Account, ProcessesState, Turned}
 use Rattle.archive_wait.specs.TurnsDone.{turns_of}
 use Rattle.backup_lemmas.proofs.Reading.{no_files, no_files_beside, no_files_left_beside}
 use Rattle.cmd_types.specs.declared.stages.object.Object.{Object}
 use Rattle.cmd_types.specs.declared.stages.object.Object.TheVariants.{Server as TheServer}
-use Rattle.cmd_types.specs.ServerTextsTexts.{server_status}
 use Rattle.cmd_stanza_create.specs.Server.{Server}
+use Rattle.cmd_stanza_create.proofs.Statuses.{server_not_found}
 use Rattle.cmd_backup_offline.proofs.Statuses.{offline_within}
 use Rattle.cmd_backup_online.specs.declared.fault.OnlineBackupFault.{OnlineBackupFault}
 use Rattle.cmd_backup_online.specs.declared.fault.OnlineBackupFault.TheVariants as faults
 use Rattle.cmd_backup_online.specs.Doing.{TakesTurns, IsOnlineBy}
 use Rattle.cmd_backup_online.specs.Texts.{online_backup_status}
+use Rattle.cmd_backup_online.specs.Touching.{IsOfRunning}
 use Rattle.cmd_backup_online.proofs.Statuses.{online_backup_over}
 use Rattle.expire_rules.specs.declared.rules.Rules.{Rules}
 use Rattle.cmd_trait.specs.KnownWorld.{KnownWorld}
 use Rattle.cmd_trait.specs.Meaning.{Place, IsLawful, IsServerRefusal, EndsTalk}
 use Rattle.run_backup.specs.Asking.{RunningHow}
 use Rattle.run_backup.specs.Lawful.{IsBackupLawful, backup_lawful}
-use Rattle.run_backup.specs.OfflineLawful.{offline_not_found}
+use Rattle.run_backup.specs.OfflineLawful.{change_none, change_on, offline_not_found}
 use Rattle.run_backup.specs.Online.{IsOfflineRefusal, OnlyWaits, ShowsLabel, online, backup_online_meaning}
 
 -- ---- which command it is
@@ -70,20 +69,9 @@ none_waited most others = record {
 
 -- ---- with which status
 
-not_server : (fault : ServerFault) → server_status fault ≢ 65
-not_server talks.NoMemory = λ e. absurd (omega (arith, e))
-not_server talks.ServerConnection = λ e. absurd (omega (arith, e))
-not_server (talks.ServerSaid code text) = λ e. absurd (omega (arith, e))
-not_server (talks.AuthUnsupported code) = λ e. absurd (omega (arith, e))
-not_server (talks.ServerForm at) = λ e. absurd (omega (arith, e))
-not_server (talks.ServerEnded at) = λ e. absurd (omega (arith, e))
-not_server (talks.SystemMismatch kept found) = λ e. absurd (omega (arith, e))
-not_server (talks.TooLong length) = λ e. absurd (omega (arith, e))
-not_server (talks.TooMany limit) = λ e. absurd (omega (arith, e))
-
 not_found : (fault : OnlineBackupFault) → online_backup_status fault ≢ 65
 not_found (faults.Take fault) = offline_not_found fault
-not_found (faults.Server fault) = not_server fault
+not_found (faults.Server fault) = server_not_found fault
 not_found faults.TablespaceMap = λ e. absurd (omega (arith, e))
 not_found (faults.SpanWrong start stop) = λ e. absurd (omega (arith, e))
 not_found (faults.NotArrived segment turns) = λ e. absurd (omega (arith, e))
@@ -124,8 +112,9 @@ online_laws server how = record {
   some = λ p old new same turns. idle p.stanza how old new same new.others.account refl turns;
   closes_more = λ p old new repo failed others to fault h. more_closes (to TheServer) h;
   talk = λ p old new failed fault is same closes. talk server how p old new failed fault is closes;
-  changes_none = λ expires p least b k still. tt;
-  changes_on = λ expires p least b c k still h. tt;
+  changes_none = λ expires p least b k still. change_none p.stanza (IsOfRunning p.stanza) expires least b k still;
+  changes_on = λ expires p least b c k still x.
+      change_on p.stanza (IsOfRunning p.stanza) expires least b c k still x;
   over = online_backup_over;
   not_found = not_found;
   others_none = λ p others. none_waited how.turns others;

@@ -6,10 +6,11 @@ use Rattle.base_devices.specs.Crash.{IsTemporary}
 use Rattle.base_devices.specs.Moments.{View, LeavesNoMore}
 use Rattle.base_devices.proofs.Steps.{goes_on, goes_wide}
 use Rattle.base_disk.specs.Store.{ChangesOnly}
+use Rattle.base_model.specs.declared.labels.Label.{Label}
 use Rattle.base_model.specs.Text.{Text}
 use Rattle.archive_store.specs.Still.{IsStill, still_on}
-use Rattle.backup_make.specs.Touched.{TouchesOnly, IsOfBackup}
-use Rattle.cmd_backup_offline.specs.Touching.{TouchesOne, IsNewLabel}
+use Rattle.backup_make.specs.Touched.{TouchesOnly}
+use Rattle.cmd_backup_offline.specs.Touching.{TouchesOneOf, IsNewLabel}
 use Rattle.cmd_expire.proofs.Changing.{IsFrame}
 
 -- a call that only reads
@@ -53,14 +54,14 @@ touched_frame = record {
 }
 
 -- calls that only read, and then a backup
-pub touches_after : (stanza : Text) (a b d : View) → IsStill a b → TouchesOne stanza b d → TouchesOne stanza a d
-touches_after stanza a b d still (inl x) = inl (still_on a b d still x)
-touches_after stanza a b d still (inr (label, x)) = inr (
+pub touches_after : (stanza : Text) (these : Label → Name → Type 0) (a b d : View) → IsStill a b
+    → TouchesOneOf stanza these b d → TouchesOneOf stanza these a d
+touches_after stanza these a b d still (inl x) = inl (still_on a b d still x)
+touches_after stanza these a b d still (inr (label, x)) = inr (
   label,
   record {
     is_label = x.is_label;
     is_new = subst (λ (n : Option Content). IfSome n (IsNewLabel stanza label)) still.now x.is_new;
-    only = touched_on (IsOfBackup stanza label) a b d
-        (touched_rests (IsOfBackup stanza label) a b still.time still.now) x.only;
+    only = touched_on (these label) a b d (touched_rests (these label) a b still.time still.now) x.only;
   },
 )

@@ -6,6 +6,7 @@ use crate::fault::{BackupCommandFault, backup_lines};
 use crate::following::expire_next;
 use crate::order::{backup_stages, offline_order};
 use archive_lookup::OtherProcesses;
+use backup_plan::PlanSettings;
 use base_devices::{
     Clock, DataFolder, Disk, InputFiles, Link, Locks, OutputStream, Scheduler, ServerConnection,
 };
@@ -22,13 +23,13 @@ use cmd_types::{Halt, Outcome, Plan};
 use expire_rules::Rules;
 use std::alloc::Global;
 
-/// backup of this kind of a stopped server, with as many workers at most.
+/// backup of this kind of a stopped server, by these settings, with as many workers at most.
 #[derive(Clone, Copy)]
 pub struct BackupOffline {
     pub workers: u32,
     pub kind: BackupKind,
-    /// A file is distinguished from the prior backup's by its digest, and else by its time.
-    pub delta: bool,
+    /// Which files are the prior backup's, and how small ones are stored together.
+    pub settings: PlanSettings,
     /// The rules of the expiry that follows, where one does.
     pub expires: Option<Rules>,
 }
@@ -39,10 +40,10 @@ impl<'a> Command<'a> for BackupOffline {
     type Order = ();
 
     ghost meaning = { λ c. backup_offline_meaning
-        (record { workers = c.workers; kind = c.kind; delta = c.delta }) c.expires };
+        (record { workers = c.workers; kind = c.kind; settings = c.settings }) c.expires };
 
     ghost lawful = { λ c. backup_offline_lawful
-        (record { workers = c.workers; kind = c.kind; delta = c.delta }) c.expires };
+        (record { workers = c.workers; kind = c.kind; settings = c.settings }) c.expires };
 
     ghost is_order = { λ _ _ _. Unit {0} };
 
@@ -116,7 +117,7 @@ impl<'a> Command<'a> for BackupOffline {
             unreachable!();
         };
         let task = OfflineTask {
-            order: offline_order(places, self.workers, self.kind, self.delta),
+            order: offline_order(places, self.workers, self.kind, self.settings),
             stanza: KnownStanza {
                 name: places.stanza,
                 control: &control,

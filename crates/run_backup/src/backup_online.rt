@@ -8,6 +8,7 @@ use crate::fault::{BackupCommandFault, backup_lines};
 use crate::following::expire_next;
 use crate::order::{backup_stages, offline_order};
 use archive_lookup::OtherProcesses;
+use backup_plan::PlanSettings;
 use base_devices::{
     Clock, DataFolder, Disk, InputFiles, Link, Locks, OutputStream, Scheduler, ServerConnection,
 };
@@ -26,15 +27,15 @@ use cmd_types::{Halt, Outcome, Plan};
 use expire_rules::Rules;
 use std::alloc::Global;
 
-/// backup of this kind of a running server, with as many workers at most.
+/// backup of this kind of a running server, by these settings, with as many workers at most.
 #[derive(Clone, Copy)]
 pub struct BackupOnline<'a> {
     /// The server that is asked.
     pub server: Server<'a>,
     pub workers: u32,
     pub kind: BackupKind,
-    /// A file is distinguished from the prior backup's by its digest, and else by its time.
-    pub delta: bool,
+    /// Which files are the prior backup's, and how small ones are stored together.
+    pub settings: PlanSettings,
     /// The server makes its checkpoint at once.
     pub fast: bool,
     /// How many steps of other processes are waited for at most.
@@ -50,13 +51,13 @@ impl<'a> Command<'a> for BackupOnline<'a> {
     type Order = String;
 
     ghost meaning = { λ c. backup_online_meaning (server_view c.server) (record {
-      taken = record { workers = c.workers; kind = c.kind; delta = c.delta };
+      taken = record { workers = c.workers; kind = c.kind; settings = c.settings };
       fast = c.fast;
       turns = c.turns;
     }) c.expires };
 
     ghost lawful = { λ c. backup_online_lawful (server_view c.server) (record {
-      taken = record { workers = c.workers; kind = c.kind; delta = c.delta };
+      taken = record { workers = c.workers; kind = c.kind; settings = c.settings };
       fast = c.fast;
       turns = c.turns;
     }) c.expires };
@@ -137,7 +138,7 @@ impl<'a> Command<'a> for BackupOnline<'a> {
         };
         let task = OnlineTask {
             order: OnlineOrder {
-                later: offline_order(places, self.workers, self.kind, self.delta),
+                later: offline_order(places, self.workers, self.kind, self.settings),
                 socket: &socket,
                 user: self.server.user,
                 database: self.server.database,

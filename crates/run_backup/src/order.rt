@@ -11,14 +11,15 @@ use cmd_backup_offline::OfflineOrder;
 use cmd_trait::Places;
 use cmd_types::{Pairs, Plan, SyncScope};
 
-/// A backup of this kind of the data folder, with as many workers at most.
+/// A backup of this kind of the data folder, by these settings, with as many workers at most.
 pub(crate) fn offline_order<'a>(
     places: &Places<'a>,
     workers: u32,
     kind: BackupKind,
-    delta: bool,
+    settings: PlanSettings,
 ) -> OfflineOrder<'a>
-    ensures { IsOfflineOrder (place_of places.now) (record { workers = workers; kind = kind; delta = delta }) result }
+    ensures { IsOfflineOrder (place_of places.now) (record { workers = workers; kind = kind; settings = settings })
+        result }
 {
     OfflineOrder {
         take: TakeOrder {
@@ -27,12 +28,7 @@ pub(crate) fn offline_order<'a>(
             workers,
         },
         kind,
-        settings: PlanSettings {
-            delta,
-            bundle: false,
-            bundle_size: 0,
-            bundle_limit: 0,
-        },
+        settings,
     }
 }
 

@@ -68,7 +68,7 @@ module _ (p : Place) (b k : World) (rest : k ≡ record b { repo = k.repo; clock
       (record {
         beside = λ known. beside;
         spool = λ known. spool_kept p.stanza b k (ap (λ (s : World). s.spool.view) rest);
-        repository = record { only = only; moment = x.moment; may_be = moment_from rules.full b.clock.least k.clock.least x.moment x.may_be; touches = x.touches };
+        repository = λ known. record { only = only; moment = x.moment; may_be = moment_from rules.full b.clock.least k.clock.least x.moment x.may_be; touches = x.touches };
         folder = ap (λ (s : World). s.tree.nodes) rest;
         others = ap (λ (s : World). s.others) rest;
         turned = all_none (reached_of (expire_meaning rules) (ending_of (own_of r))) _ (ap (λ (s : World). s.tree.nodes) rest);

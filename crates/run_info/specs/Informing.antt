@@ -28,7 +28,6 @@ abbrev pub info_meaning : OutputWord → Meaning StageFault
 info_meaning form = reader_meaning (Informs form) InformCause stage_status stage_message
 
 pub over : (e : StageFault) → 2 ≤ stage_status e
-over (stage.NotBuilt a) = omega arith
 over (stage.ConfigMissing a) = omega arith
 over (stage.ConfigLong a b) = omega arith
 over (stage.Held a) = omega arith
@@ -40,7 +39,6 @@ over (stage.StanzaMissing a) = omega arith
 over (stage.InfoDamaged a b c) = omega arith
 
 pub apart : (e : StageFault) → stage_status e ≢ 65
-apart (stage.NotBuilt a) = λ e. absurd (omega (arith, e))
 apart (stage.ConfigMissing a) = λ e. absurd (omega (arith, e))
 apart (stage.ConfigLong a b) = λ e. absurd (omega (arith, e))
 apart (stage.Held a) = λ e. absurd (omega (arith, e))
@@ -52,7 +50,6 @@ apart (stage.StanzaMissing a) = λ e. absurd (omega (arith, e))
 apart (stage.InfoDamaged a b c) = λ e. absurd (omega (arith, e))
 
 pub no_server : (e : StageFault) → (stage_status e ≤ 46) ⊎ (52 ≤ stage_status e)
-no_server (stage.NotBuilt a) = inr (omega arith)
 no_server (stage.ConfigMissing a) = inl (omega arith)
 no_server (stage.ConfigLong a b) = inr (omega arith)
 no_server (stage.Held a) = inl (omega arith)

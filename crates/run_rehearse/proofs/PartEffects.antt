@@ -85,7 +85,7 @@ module _ (p : Place) (number : ℕ) (b k : World) (spool : k.spool.view ≡ b.sp
       (record {
         beside = λ known. beside;
         spool = λ known. spool_kept p.stanza b k spool;
-        repository = tt;
+        repository = λ known. tt;
         folder = left;
         others = others;
         turned = subst (λ (reached : Reached). OnNone reached (k.tree.nodes ≡ b.tree.nodes)) (sym (reached_same m r)) stays;

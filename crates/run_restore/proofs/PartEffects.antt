@@ -29,7 +29,8 @@ use Rattle.cmd_restore.specs.Causes.{RestoreCommandCause}
 use Rattle.cmd_restore.specs.Ends.{restore_early, leaves_folder}
 use Rattle.cmd_restore.specs.Restoring.{Recovers, GivesBackup}
 use Rattle.cmd_restore.specs.Texts.{restore_status}
-use Rattle.cmd_restore.specs.Words.{ShowsSet}
+use Rattle.cmd_restore.specs.Words.{ShowsChoice}
+use Rattle.restore_choice.specs.declared.choice.Choice.{Choice}
 use Rattle.cmd_trait.specs.KnownWorld.{known_world}
 use Rattle.cmd_trait.specs.Meaning.{Place}
 use Rattle.cmd_trait.specs.Ends.{status, ending_of, reached_of}
@@ -42,11 +43,11 @@ use Rattle.run_restore.specs.Restoring.{RestoreHow, found_for, Restores, LeavesW
 -- with another status than these the workers weren't started
 first_leaves : (e : RestoreCommandFault) → restore_status e ≢ 55 → restore_status e ≢ 56 → restore_status e ≢ 63 → leaves_folder (Refused e) ≡ true
 first_leaves restores.SetForm a b c = refl
-first_leaves restores.NoBackup a b c = refl
-first_leaves (restores.SetMissing label) a b c = refl
+first_leaves restores.TargetForm a b c = refl
+first_leaves (restores.Unchosen fault) a b c = refl
 first_leaves restores.Running a b c = refl
 first_leaves (restores.NotEmpty path) a b c = refl
-first_leaves (restores.ManifestDamaged label main copy) a b c = refl
+first_leaves (restores.ManifestDamaged fault) a b c = refl
 first_leaves (restores.WorkersLost lost) a b c = absurd (a refl)
 first_leaves (restores.Unread path) a b c = absurd (b refl)
 first_leaves (restores.FileDamaged path known found) a b c = absurd (c refl)
@@ -56,11 +57,11 @@ both : {X : Type 0} (r : Result Outcome X) (P Q R : Outcome → Type 0) → ((o 
 both (Ok o) P Q R to p q = to o p q
 both (Err e) P Q R to p q = tt
 
-module _ (p : Place) (b k : World) (rest : k ≡ record b { repo = k.repo; tree = k.tree; links = k.links }) (still : IsStill b.repo.view k.repo.view) (set : Option Text) (label : Option Label) (is_set : ShowsSet set label) (how : RestoreHow)
+module _ (p : Place) (b k : World) (rest : k ≡ record b { repo = k.repo; tree = k.tree; links = k.links }) (still : IsStill b.repo.view k.repo.view) (set : Option Text) (choice : Choice) (how : RestoreHow) (is_choice : ShowsChoice set how.recovery choice)
     (r : Result Outcome (Halt RestoreCommandFault)) where
   -- the backup is in the folder
   abbrev IsIn : Outcome → Type 0
-  IsIn o = OnFinished o (Recovers (found_for p label how (known_world b)) k.tree.nodes)
+  IsIn o = OnFinished o (Recovers (found_for p choice how (known_world b)) k.tree.nodes)
 
   abbrev Stays : Type 0
   Stays = k.tree.nodes ≡ b.tree.nodes
@@ -88,7 +89,7 @@ module _ (p : Place) (b k : World) (rest : k ≡ record b { repo = k.repo; tree 
 
   -- the folder is unchanged, or has no control file, or holds a whole backup
   left_whole : (r : Result Outcome (Halt RestoreCommandFault)) → IfOk r IsIn → OnErr r (Stays ⊎ HasNone control_path k.tree.nodes) → LeavesWhole p set how (known_world b) k.tree.nodes
-  left_whole (Ok (Finished lines)) ok err = inr (label, is_set, (string_bytes lines, ok))
+  left_whole (Ok (Finished lines)) ok err = inr (choice, is_choice, (string_bytes lines, ok))
   left_whole (Ok (Absent name)) ok err = absurd ok
   left_whole (Ok (FindingsFound lines count)) ok err = absurd ok
   left_whole (Err h) ok err = inl err
@@ -99,15 +100,15 @@ module _ (p : Place) (b k : World) (rest : k ≡ record b { repo = k.repo; tree 
   closes_none HaltMemory x = tt
 
   pub restored_ran : (asked : RestoreHow) → how ≡ asked → IfOk r IsIn →
-      IfOk r (λ o. (s : Stanza) (f : Content) → b.repo.view.now ≡ Some f → NowRepresents p.stanza (Some s) b.repo.view.now → OnFinished o (GivesBackup s (found_for p label how (known_world b)) f k.tree.nodes)) →
+      IfOk r (λ o. (s : Stanza) (f : Content) → b.repo.view.now ≡ Some f → NowRepresents p.stanza (Some s) b.repo.view.now → OnFinished o (GivesBackup s (found_for p choice how (known_world b)) f k.tree.nodes)) →
       OnErr r (Stays ⊎ HasNone control_path k.tree.nodes) → IfErr r (λ h. leaves_folder h ≡ true → Stays) →
       (failed : Object → Type 0) → (failed TheServer → ⊥) → ((object : Object) → failed object → Failed b k object) →
-      IfErr r (HaltCause (RestoreCommandCause (found_for p label how (known_world b))) failed) → SamePlaces b k → AreLater b k → PartEffect p (restore_meaning set asked) b k (own_of r)
+      IfErr r (HaltCause (RestoreCommandCause (found_for p choice how (known_world b))) failed) → SamePlaces b k → AreLater b k → PartEffect p (restore_meaning set asked) b k (own_of r)
   restored_ran asked is restored given control unchanged failed never rose cause places later =
       subst (λ (x : RestoreHow). PartEffect p (restore_meaning set x) b k (own_of r)) is
-      (ran_of p (restore_meaning set how) b k failed rose (RestoreCommandCause (found_for p label how (known_world b))) (λ e h. (label, is_set, h)) refl tt r
+      (ran_of p (restore_meaning set how) b k failed rose (RestoreCommandCause (found_for p choice how (known_world b))) (λ e h. (choice, is_choice, h)) refl tt r
       (λ command x. reading_runs Whole p.stanza command (reached_by restore_early r) b k x still (ap (λ (s : World). s.spool.view) rest))
-      (both r IsIn _ (Restores p set how (known_world b) (known_world k)) (λ o x y. record { label = label; is = is_set; recovers = x; gives = y }) restored given)
+      (both r IsIn _ (Restores p set how (known_world b) (known_world k)) (λ o x y. record { choice = choice; is = is_choice; recovers = x; gives = y }) restored given)
       tt
       (λ synced some. rests_synced p.stanza b.repo.view k.repo.view still.time still.now synced)
       cause
@@ -115,7 +116,7 @@ module _ (p : Place) (b k : World) (rest : k ≡ record b { repo = k.repo; tree 
       (record {
         beside = λ known. still_beside p.stanza b.repo.view k.repo.view still;
         spool = λ known. spool_kept p.stanza b k (ap (λ (s : World). s.spool.view) rest);
-        repository = still;
+        repository = λ known. still;
         folder = left_whole r restored control;
         others = ap (λ (s : World). s.others) rest;
         turned = turned failed never _ r restored cause control unchanged;

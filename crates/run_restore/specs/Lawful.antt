@@ -6,7 +6,10 @@ use Rattle.base_model.specs.Steps.{Reading}
 use Rattle.base_model.specs.Text.{Text}
 use Rattle.archive_store.specs.Still.{still_on}
 use Rattle.cmd_restore.specs.declared.fault.RestoreCommandFault.{RestoreCommandFault}
-use Rattle.cmd_restore.specs.declared.fault.RestoreCommandFault.TheVariants.{SetForm, NoBackup, SetMissing, Running, NotEmpty, ManifestDamaged, WorkersLost, Unread, FileDamaged}
+use Rattle.cmd_restore.specs.declared.fault.RestoreCommandFault.TheVariants.{SetForm, TargetForm, Unchosen, Running, NotEmpty, ManifestDamaged, WorkersLost, Unread, FileDamaged}
+use Rattle.restore_choice.specs.declared.fault.ChoiceFault.{ChoiceFault}
+use Rattle.restore_choice.specs.declared.fault.ChoiceFault.TheVariants as choices
+use Rattle.restore_choice.specs.Texts.{choice_status}
 use Rattle.cmd_restore.specs.Texts.{restore_status}
 use Rattle.cmd_trait.specs.Meaning.{IsLawful, apart, quiet_talk}
 use Rattle.run_restore.specs.Restoring.{RestoreHow, LeavesWhole, restore_meaning}
@@ -15,13 +18,22 @@ use Rattle.run_restore.specs.Restoring.{RestoreHow, LeavesWhole, restore_meaning
 abbrev IsOne : ℕ → Type 0
 IsOne status = (2 ≤ status) × (status ≢ 65) × ((status ≤ 46) ⊎ (52 ≤ status))
 
+choice_within : (fault : ChoiceFault) → IsOne (choice_status fault)
+choice_within choices.NoBackup = (omega arith, λ e. absurd (omega (arith, e)), inr (omega arith))
+choice_within (choices.SetMissing label) = (omega arith, λ e. absurd (omega (arith, e)), inr (omega arith))
+choice_within (choices.HistoryMissing n) = (omega arith, λ e. absurd (omega (arith, e)), inr (omega arith))
+choice_within (choices.HistoryForm n line) = (omega arith, λ e. absurd (omega (arith, e)), inr (omega arith))
+choice_within (choices.HistoryLong name limit) = (omega arith, λ e. absurd (omega (arith, e)), inr (omega arith))
+choice_within (choices.ManifestDamaged fault) = (omega arith, λ e. absurd (omega (arith, e)), inr (omega arith))
+choice_within choices.TargetEarly = (omega arith, λ e. absurd (omega (arith, e)), inr (omega arith))
+
 within : (fault : RestoreCommandFault) → IsOne (restore_status fault)
 within SetForm = (omega arith, λ e. absurd (omega (arith, e)), inl (omega arith))
-within NoBackup = (omega arith, λ e. absurd (omega (arith, e)), inr (omega arith))
-within (SetMissing label) = (omega arith, λ e. absurd (omega (arith, e)), inr (omega arith))
+within TargetForm = (omega arith, λ e. absurd (omega (arith, e)), inl (omega arith))
+within (Unchosen fault) = choice_within fault
 within Running = (omega arith, λ e. absurd (omega (arith, e)), inl (omega arith))
 within (NotEmpty path) = (omega arith, λ e. absurd (omega (arith, e)), inr (omega arith))
-within (ManifestDamaged label main copy) = (omega arith, λ e. absurd (omega (arith, e)), inr (omega arith))
+within (ManifestDamaged fault) = (omega arith, λ e. absurd (omega (arith, e)), inr (omega arith))
 within (WorkersLost lost) = (omega arith, λ e. absurd (omega (arith, e)), inr (omega arith))
 within (Unread path) = (omega arith, λ e. absurd (omega (arith, e)), inr (omega arith))
 within (FileDamaged path known found) = (omega arith, λ e. absurd (omega (arith, e)), inr (omega arith))

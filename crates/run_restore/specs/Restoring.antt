@@ -2,7 +2,6 @@
 use Rattle.std.specs.Prelude.{◌≡◌, ◌⊎◌, ◌≢◌, ℕ, Bool, true, false, [], take, Option, Some, None}
 use Rattle.base_devices.specs.Content.{Content}
 use Rattle.base_devices.specs.DataFolder.{Nodes}
-use Rattle.base_model.specs.declared.labels.Label.{Label}
 use Rattle.base_model.specs.Now.{NowRepresents}
 use Rattle.base_model.specs.Repository.{Stanza}
 use Rattle.base_model.specs.Steps.{Reading}
@@ -21,7 +20,8 @@ use Rattle.cmd_restore.specs.Ends.{restore_early}
 use Rattle.cmd_restore.specs.Fetching.{RecoveryType, options_by}
 use Rattle.cmd_restore.specs.Restoring.{Before, Recovers, GivesBackup}
 use Rattle.cmd_restore.specs.Texts.{restore_status, restore_message}
-use Rattle.cmd_restore.specs.Words.{ShowsSet, WordCause}
+use Rattle.cmd_restore.specs.Words.{ShowsChoice, WordCause}
+use Rattle.restore_choice.specs.declared.choice.Choice.{Choice}
 use Rattle.cmd_trait.specs.KnownWorld.{KnownWorld}
 use Rattle.cmd_trait.specs.Meaning.{Place, Meaning, nothing}
 
@@ -32,42 +32,42 @@ pub record RestoreHow : Type 0 where
   pub recovery : RecoveryType
 
 -- what a restore finds
-abbrev pub found_for : Place → Option Label → RestoreHow → KnownWorld → Before
-found_for p set how old = record {
+abbrev pub found_for : Place → Choice → RestoreHow → KnownWorld → Before
+found_for p choice how old = record {
   stanza = p.stanza;
-  set = set;
+  choice = choice;
   repo = old.repo;
   nodes = old.nodes;
   used = take how.workers old.links;
   options = options_by p.stanza how.delta how.recovery;
 }
 
--- Ok of restore: the backup that was asked for, or the last one, is in the folder
+-- Ok of restore: the chosen backup is in the folder
 pub record Restores (p : Place) (set : Option Text) (how : RestoreHow) (old new : KnownWorld) (outcome : Outcome) : Type
     0 where
-  pub label : Option Label
-  pub is : ShowsSet set label
-  pub recovers : OnFinished outcome (Recovers (found_for p label how old) new.nodes)
+  pub choice : Choice
+  pub is : ShowsChoice set how.recovery choice
+  pub recovers : OnFinished outcome (Recovers (found_for p choice how old) new.nodes)
   pub gives : (s : Stanza) (f : Content) → old.repo ≡ Some f → NowRepresents p.stanza (Some s) old.repo
-      → OnFinished outcome (GivesBackup s (found_for p label how old) f new.nodes)
+      → OnFinished outcome (GivesBackup s (found_for p choice how old) f new.nodes)
 
--- the argument names a label, or none is given
-abbrev pub NamesSet : Option Text → Type 0
-NamesSet set = (label : Option Label) × ShowsSet set label
+-- the arguments choose a backup: a label that is given is one's, and a target has its form
+abbrev pub Chooses : Option Text → RecoveryType → Type 0
+Chooses set recovery = (choice : Choice) × ShowsChoice set recovery choice
 
 -- a backup isn't restored for this
 abbrev pub RestoreCause : Place → Option Text → RestoreHow → KnownWorld → RestoreCommandFault → Type 0
 RestoreCause p set how old fault =
-    (label : Option Label) × ShowsSet set label × RestoreCommandCause (found_for p label how old) fault
+    (choice : Choice) × ShowsChoice set how.recovery choice × RestoreCommandCause (found_for p choice how old) fault
 
 -- the folder is unchanged, or has no control file, so that no server starts from half of a backup
 abbrev pub LeavesNoHalf : KnownWorld → Option Nodes → Type 0
 LeavesNoHalf old new = (new ≡ old.nodes) ⊎ HasNone control_path new
 
--- the folder holds the whole backup that was asked for, or the last one
+-- the folder holds the whole chosen backup
 abbrev pub HoldsAsked : Place → Option Text → RestoreHow → KnownWorld → Option Nodes → Type 0
-HoldsAsked p set how old new = (label : Option Label) × ShowsSet set label
-    × ((lines : Text) × Recovers (found_for p label how old) new lines)
+HoldsAsked p set how old new = (choice : Choice) × ShowsChoice set how.recovery choice
+    × ((lines : Text) × Recovers (found_for p choice how old) new lines)
 
 -- no half of a backup is left, or the whole one
 abbrev pub LeavesWhole : Place → Option Text → RestoreHow → KnownWorld → Option Nodes → Type 0
@@ -100,8 +100,8 @@ restore_meaning set how = record {
   promise = λ p old new outcome. Restores p set how old new outcome;
   lasts = λ p nodes repo now_nodes outcome. Unit {0};
   acknowledges = λ p old new. Unit {0};
-  arguments = λ p. NamesSet set;
-  arguments_cause = λ p fault. WordCause set fault;
+  arguments = λ p. Chooses set how.recovery;
+  arguments_cause = λ p fault. WordCause set how.recovery fault;
   cause = λ p old new failed fault. RestoreCause p set how old fault;
   closes = λ p old new failed fault. Unit {0};
   status = restore_status;

@@ -104,7 +104,7 @@ impl<'a> Command<'a> for Restore<'a> {
         order: RecoverOrder<'a>,
         ready: Ready,
     ) -> Result<Outcome, Halt<RestoreCommandFault>> {
-        let Some(backup) = &ready.backup else {
+        let (Some(archive), Some(backup)) = (&ready.archive, &ready.backup) else {
             unreachable!();
         };
         restore_backup(
@@ -114,6 +114,7 @@ impl<'a> Command<'a> for Restore<'a> {
             &mut outside.pool,
             places.stanza,
             &order,
+            archive,
             backup,
         )
     }

@@ -1,2 +1,1 @@
-mod OneCluster
 mod PartEffects

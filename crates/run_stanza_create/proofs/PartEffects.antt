@@ -1,6 +1,6 @@
 -- What stanza-create's own part did, known of all objects.
 use Rattle.std.proofs.Common.{◌≡◌, Option, Some, None, Result, Ok, Err, IfOk, IfErr, refl, sym, subst, ap, ◌∙◌, Bool, true, false}
-use Rattle.std.specs.Prelude.{is_some, option_map, IfSome, IsSomeAnd, OnOk}
+use Rattle.std.specs.Prelude.{is_some, IfSome, IsSomeAnd, OnOk}
 use Rattle.base_devices.specs.Content.{Content}
 use Rattle.base_devices.specs.DataFolder.{Nodes}
 use Rattle.base_devices.specs.Moments.{View}
@@ -28,10 +28,9 @@ use Rattle.cmd_types.specs.World.{World, Failed, AreLater}
 use Rattle.cmd_types.proofs.Besides.{pairs_beside}
 use Rattle.cmd_types.proofs.Lifted.{does_runs}
 use Rattle.cmd_stanza_create.specs.declared.fault.CreateFault.{CreateFault}
-use Rattle.cmd_stanza_create.specs.declared.server.Server as code
-use Rattle.cmd_stanza_create.specs.Creating.{IsCreated, CreateCause, create_early}
-use Rattle.cmd_stanza_create.specs.Server.{Server, server_view}
-use Rattle.cmd_stanza_create.specs.Talking.{Asks, IsOf, Closes as CreateCloses}
+use Rattle.cmd_stanza_create.specs.Creating.{IsCreated, CreateCause, CreateCloses, create_early}
+use Rattle.cmd_stanza_create.specs.Server.{Server}
+use Rattle.cmd_stanza_create.specs.Talking.{Asks, IsOf}
 use Rattle.cmd_trait.specs.Meaning.{Place, Unless}
 use Rattle.cmd_trait.specs.Faults.{own_of, of_own}
 use Rattle.cmd_trait.specs.CallEffect.{PartEffect, SamePlaces, StaysHealed, Closes}
@@ -39,25 +38,15 @@ use Rattle.cmd_trait.proofs.Ends.{reached_same, own_err}
 use Rattle.cmd_trait.proofs.CallEffects.{none_as}
 use Rattle.cmd_trait.proofs.PartEffects.{ran_of, all_on, any_some, spool_kept}
 use Rattle.run_stanza_create.specs.Creating.{IsCreateOf, create_plan, create_meaning}
-use Rattle.run_stanza_create.proofs.OneCluster.{cluster_is}
+use Rattle.cmd_stanza_create.proofs.OneCluster.{cluster_is}
 
--- ---- what was made ready, and the server
+-- ---- what was made ready
 
 there : {T : Type 0} (o : Option T) (x : T) (P : T → Type 0) → o ≡ Some x → IsSomeAnd o P → P x
 there o x P is h = subst (λ (y : Option _). IsSomeAnd y P) is h
 
 pub create_shows : (stanza : Text) (repo : Option Content) (nodes : Option Nodes) (ready : Ready) → IsReady create_plan stanza repo nodes ready → (known : Control) → ready.control ≡ Some known → IfSome nodes (λ f. FolderShows f known)
 create_shows stanza repo nodes ready is known some = there ready.control known _ some (is.control refl)
-
--- where the meaning uses no server, none is given
-pub no_server : (o : Option code.Server) → is_some (option_map server_view o) ≡ false → o ≡ None
-no_server None is = refl
-no_server (Some s) is = cc
-
-pub as_server : {T E : Type 0} (r : Result T E) (o : Option code.Server) (P : Type 0) → OnOk r (IfSome o (λ _. P)) → OnOk r (IfSome (option_map server_view o) (λ _. P))
-as_server (Ok x) None P h = h
-as_server (Ok x) (Some s) P h = h
-as_server (Err e) o P h = h
 
 unless_used : (uses : Bool) (P : Type 0) → (uses ≡ false → P) → Unless uses P
 unless_used true P h = tt
@@ -97,7 +86,7 @@ module _ (p : Place) (server : Option Server) (b k : World) (rest : k ≡ record
       (record {
         beside = λ turns. pairs_beside p.stanza b.repo.view k.repo.view only;
         spool = λ turns. spool_kept p.stanza b k (ap (λ (s : World). s.spool.view) rest);
-        repository = only;
+        repository = λ known. only;
         folder = nodes;
         others = ap (λ (s : World). s.others) rest;
         turned = subst (λ (reached : Reached). OnNone reached ((k.tree.nodes ≡ b.tree.nodes) × (k.repo.view.now ≡ b.repo.view.now))) (sym (reached_same (create_meaning server) r))

@@ -16,9 +16,9 @@ use Rattle.cmd_types.specs.declared.stages.plan.Pairs.TheVariants.{Unread}
 use Rattle.cmd_types.specs.Cluster.{FolderShows, IsClusterOf}
 use Rattle.cmd_types.specs.DisksEffect.{each}
 use Rattle.cmd_stanza_create.specs.declared.fault.CreateFault.{CreateFault}
-use Rattle.cmd_stanza_create.specs.Creating.{IsCreated, CreateCause, create_early}
+use Rattle.cmd_stanza_create.specs.Creating.{IsCreated, CreateCause, CreateCloses, create_early}
 use Rattle.cmd_stanza_create.specs.Server.{Server}
-use Rattle.cmd_stanza_create.specs.Talking.{Asks, IsOf, Closes}
+use Rattle.cmd_stanza_create.specs.Talking.{Asks, IsOf}
 use Rattle.cmd_stanza_create.specs.Texts.{create_status, create_message}
 use Rattle.cmd_trait.specs.KnownWorld.{KnownWorld}
 use Rattle.cmd_trait.specs.Meaning.{Meaning, nothing}
@@ -66,7 +66,7 @@ create_meaning server = record {
   arguments_cause = λ p fault. ⊥;
   cause = λ p old new failed fault. OnCluster old.nodes
       (λ known. CreateCause p.stanza known server old.repo old.server.pending fault);
-  closes = λ p old new failed fault. Closes (failed TheServer) new.server.sent (Refused fault);
+  closes = λ p old new failed fault. CreateCloses (failed TheServer) new.server.sent (Refused fault);
   status = create_status;
   message = create_message;
   early = create_early;

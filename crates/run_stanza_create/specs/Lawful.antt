@@ -2,33 +2,20 @@
 use Rattle.std.specs.Prelude.{◌≢◌, ◌⊎◌, Option, refl}
 use Rattle.std.proofs.Common.{◌∙◌, inl, inr, arith}
 use Rattle.base_disk.proofs.Changes.{only_rests, only_on}
+use Rattle.base_model.specs.Steps.{StanzaCreate}
 use Rattle.repo_stanza.specs.Owned.{IsOfPairs}
-use Rattle.server_talk.specs.declared.session.fault.ServerFault.{ServerFault}
-use Rattle.server_talk.specs.declared.session.fault.ServerFault.TheVariants as server
 use Rattle.server_talk.specs.Sends.{Ended}
 use Rattle.cmd_types.specs.declared.stages.object.Object.{Object}
 use Rattle.cmd_types.specs.declared.stages.object.Object.TheVariants.{Server as TheServer}
-use Rattle.cmd_types.specs.ServerTextsTexts.{server_status}
 use Rattle.cmd_stanza_create.specs.declared.fault.CreateFault.{CreateFault}
 use Rattle.cmd_stanza_create.specs.declared.fault.CreateFault.TheVariants.{Server as Talked, InfoDamaged, HistoryDiffers, StanzaMismatch, ArchiveLost, FilesFound}
+use Rattle.cmd_stanza_create.specs.Deciding.{one_there}
 use Rattle.cmd_stanza_create.specs.Server.{Server}
 use Rattle.cmd_stanza_create.specs.Texts.{create_status}
-use Rattle.cmd_stanza_create.proofs.Statuses.{create_over, create_closed, closes_as}
+use Rattle.cmd_stanza_create.proofs.Statuses.{server_not_found, create_over, create_closed, closes_as}
 use Rattle.cmd_trait.specs.KnownWorld.{KnownWorld}
 use Rattle.cmd_trait.specs.Meaning.{IsLawful, EndsTalk, apart}
 use Rattle.run_stanza_create.specs.Creating.{create_meaning}
-use Rattle.run_stanza_create.specs.Deciding.{create_there}
-
-server_not_found : (fault : ServerFault) → server_status fault ≢ 65
-server_not_found server.NoMemory = λ is. absurd (omega (arith, is))
-server_not_found server.ServerConnection = λ is. absurd (omega (arith, is))
-server_not_found (server.ServerSaid code text) = λ is. absurd (omega (arith, is))
-server_not_found (server.AuthUnsupported code) = λ is. absurd (omega (arith, is))
-server_not_found (server.ServerForm at) = λ is. absurd (omega (arith, is))
-server_not_found (server.ServerEnded at) = λ is. absurd (omega (arith, is))
-server_not_found (server.SystemMismatch kept found) = λ is. absurd (omega (arith, is))
-server_not_found (server.TooLong length) = λ is. absurd (omega (arith, is))
-server_not_found (server.TooMany limit) = λ is. absurd (omega (arith, is))
 
 not_found : (fault : CreateFault) → create_status fault ≢ 65
 not_found (Talked fault) = server_not_found fault
@@ -64,7 +51,7 @@ create_lawful server = record {
   no_control = λ none. absurd (apart none);
   no_spool = λ none. refl;
   talk = λ p old new failed fault is same closes. ended old new failed fault (create_closed (failed TheServer) new.server.sent fault is closes);
-  there = λ p old new known turns P on. create_there old.nodes P known on;
+  there = λ p old new known turns P on. one_there StanzaCreate old.nodes P known on;
   through = λ is p old new. tt;
   opens_only = λ off. absurd (apart off);
   lasts_alone = λ off p nodes repo now_nodes outcome. absurd (apart off);

@@ -13,6 +13,7 @@ enum Call {
     // and whether it begins
     BeginNew(bool),
     Append(&'static [u8]),
+    SetTime(u64),
     RenameTo(&'static str),
     Remove,
 }
@@ -29,6 +30,7 @@ fn answer(tree: &mut RealDataFolder, call: Call, path: &str) -> Result<(), Devic
             }
         }
         Call::Append(bytes) => tree.append(path, bytes),
+        Call::SetTime(time) => tree.set_time(path, time),
         Call::RenameTo(to) => tree.rename(path, to),
         Call::Remove => tree.remove(path),
     }
@@ -45,12 +47,23 @@ const CALLS: &[(Call, &str, Result<(), DeviceError>)] = &[
     (Call::BeginNew(false), "base/1/f", Ok(())),
     (Call::BeginNew(true), "base/1/n", Ok(())),
     (Call::Append(b"new"), "base/1/n", Ok(())),
+    (Call::SetTime(3000), "base/1/n", Ok(())),
     (Call::RenameTo("base/n"), "base/1/n", Ok(())),
     // whatever is there
     (Call::BeginNew(false), "base", Ok(())),
     (Call::BeginNew(false), "link", Ok(())),
     (Call::BeginNew(false), "pipe", Ok(())),
     (Call::BeginNew(true), "absent/f", Err(DeviceError::Failed)),
+    // one that isn't open
+    (Call::SetTime(4000), "PG_VERSION", Ok(())),
+    (
+        Call::SetTime(1 << 63),
+        "PG_VERSION",
+        Err(DeviceError::Failed),
+    ),
+    (Call::SetTime(9), "base/1/g", Err(DeviceError::Failed)),
+    (Call::SetTime(9), "base/1", Err(DeviceError::Failed)),
+    (Call::SetTime(9), "link", Err(DeviceError::Failed)),
     (Call::Append(b"x"), "base/1/g", Err(DeviceError::Failed)),
     (Call::Append(b"x"), "link", Err(DeviceError::Failed)),
     (Call::Begin, "absent/f", Err(DeviceError::Failed)),
@@ -120,8 +133,9 @@ fn check_calls(rt: &impl Abort, tree: &mut RealDataFolder) {
     }
 }
 
-const LEFT: &str =
-    "[ \"$(cat base/g base/n link PG_VERSION)\" = somenew16. ]; mkdir global/pg_control";
+const LEFT: &str = "[ \"$(cat base/g base/n link PG_VERSION)\" = somenew16. ]
+[ \"$(date -r base/n +%s.%N) $(date -r PG_VERSION +%s)\" = '3000.000000000 4000' ]
+mkdir global/pg_control";
 
 // What is read of a version file of three bytes, of a folder, and of an absent file, into two bytes.
 fn check_reads(rt: &impl Abort, alloc: Global, tree: &mut RealDataFolder) {
@@ -332,5 +346,59 @@ fn lists_a_linked_log(rt: HostRuntime) {
         same(&rt, seen.len(), 1);
         same(&rt, seen.first().map(|seen| seen.node), Some(wanted));
     }
+    well(&rt, scratch.remove());
+}
+
+// A folder, and the paths that are right within it.
+const WITHIN: &[(&str, &str)] = &[
+    ("base", "base/1 base/10 base/2 base/link "),
+    ("base/1", ""),
+    // a link is followed in place of the log alone
+    ("base/link", ""),
+    ("base/link/2", ""),
+    ("pg_wal", "pg_wal/2 pg_wal/archive_status "),
+    (
+        "pg_wal/archive_status",
+        "pg_wal/archive_status/a pg_wal/archive_status/b ",
+    ),
+    ("base/2", ""),
+    ("base/2/x", ""),
+    ("absent", ""),
+    ("absent/x", ""),
+    ("", ""),
+];
+
+const FILL_WITHIN: &str = "mkdir -p data/base/1 data/base/10 data/bad other/archive_status other/2
+cd data; ln -s ../../other base/link; ln -s ../other pg_wal; >base/2
+>../other/archive_status/b; >../other/archive_status/a; >bad/$(printf '\\377')";
+
+fn check_within(
+    rt: &impl Abort,
+    alloc: Global,
+    tree: &mut RealDataFolder,
+    folder: &str,
+    want: &str,
+) {
+    let mut paths = String::new(alloc);
+    for seen in well(rt, tree.list_folder(alloc, folder)) {
+        well(rt, paths.push_str(&seen.path));
+        well(rt, paths.push(' '));
+    }
+    same(rt, paths.as_str(), want);
+}
+
+#[test]
+fn lists_one_folder(rt: HostRuntime) {
+    let scratch = well(&rt, Scratch::new(rt, "within"));
+    let data = well(&rt, scratch.below("data"));
+    shell(&rt, &scratch, FILL_WITHIN);
+    let mut tree = RealDataFolder::new(rt);
+    same(&rt, tree.open(&data), Ok(()));
+    for (folder, want) in WITHIN {
+        check_within(&rt, rt.alloc(), &mut tree, folder, want);
+    }
+    same(&rt, tree.list(rt.alloc()).is_ok(), false);
+    same(&rt, tree.list_folder(rt.alloc(), "bad").is_ok(), false);
+    same(&rt, tree.faults(), 2);
     well(&rt, scratch.remove());
 }

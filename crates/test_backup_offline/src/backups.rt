@@ -1,9 +1,10 @@
 // Backups over devices in memory.
 
-use crate::fixture::{FILES, INFO, NODES, SECOND, backed_up, disk_of, links_to, listed, reopened};
+use crate::fixture::{
+    ALONE, FILES, FIRST, INFO, NODES, SECOND, backed_up, disk_of, links_to, listed, reopened,
+};
 use crate::same::{same, well};
 use base_devices::Node;
-use base_model::Label;
 use memory_devices::{MemClock, MemDisk};
 use repo_manifest::load_manifest;
 use std::alloc::{AllocError, Global};
@@ -14,7 +15,8 @@ const LISTED: &str = "1704164645 of 12 bytes, 12 stored. ";
 // A command has at most this many links.
 const MOST_LINKS: usize = 64;
 
-fn clock_of(alloc: Global, fail: &[u64]) -> Result<MemClock, AllocError> {
+/// A clock that shows the second of the label, and then a later one, whose calls with these numbers fail.
+pub(crate) fn clock_of(alloc: Global, fail: &[u64]) -> Result<MemClock, AllocError> {
     Ok(MemClock::new(
         [SECOND, SECOND, SECOND + 9].to_vec(alloc)?,
         fail.to_vec(alloc)?,
@@ -34,16 +36,12 @@ fn known(
     if links.len() > MOST_LINKS {
         return Err(AllocError);
     }
-    backed_up(alloc, disk, &mut clock, links, NODES)
+    backed_up(alloc, disk, &mut clock, links, NODES, ALONE)
 }
 
 // What the files hold, and which of them the manifest states.
 fn contents(alloc: Global, disk: &mut MemDisk) -> Result<String, AllocError> {
-    let label = Label {
-        full: SECOND,
-        later: None,
-    };
-    let manifest = match load_manifest(alloc, disk, "demo", &label) {
+    let manifest = match load_manifest(alloc, disk, "demo", &FIRST) {
         Ok(manifest) => manifest,
         Err(fault) => return format!(in alloc; "{fault:?}"),
     };
@@ -120,8 +118,8 @@ fn each_call_of_the_disk_fails(rt: HostRuntime) {
     panic!(&rt; "no backup is made without a fault");
 }
 
-// Opened anew on what a crash at that moment leaves, with the oldest or the newest kept values of the list's members.
-fn stopped(
+/// Opened anew on what a crash at that moment leaves, with the oldest or the newest kept values of the list's members.
+pub(crate) fn stopped(
     alloc: Global,
     disk: &MemDisk,
     moment: u64,

@@ -4,10 +4,12 @@ ghost use Rattle.base_model.specs.ManifestText.{IsWalPart};
 ghost use Rattle.worker_pool.specs.Run.{AreReady};
 
 use backup_make::{Online, close_online, fetch, make, publish};
-use backup_plan::filter;
+use backup_plan::{PlanSettings, filter};
 use base_devices::{FolderEntry, Link, Node};
-use base_model::{BackupInfo, Lsn, SegSize, Segment, Span, WalPart};
-use cmd_backup_common::{current_cluster, draft_of, next_second};
+use base_model::{BackupInfo, BackupKind, Label, Lsn, SegSize, Segment, Span, WalPart};
+use cmd_backup_common::{
+    DraftOrder, current_cluster, draft_of, draft_ordered, next_second, none_equal,
+};
 use memory_devices::{MemClock, MemDisk, named_bytes};
 use memory_workers::{MemLink, MemScheduler};
 use repo_pair::load_pair;
@@ -17,6 +19,12 @@ use worker_pool::Pool;
 
 /// 2024-01-02 03:04:05
 pub(crate) const SECOND: u64 = 1704164645;
+
+/// The label of a full backup at that second.
+pub(crate) const FIRST: Label = Label {
+    full: SECOND,
+    later: None,
+};
 
 pub(crate) const INFO: &str = "backup/demo/backup.info";
 
@@ -32,10 +40,10 @@ pub(crate) const NODES: &[(&str, Node)] = &[
     ("PG_VERSION", Node::File { size: 3, time: 7 }),
     ("base", Node::Folder),
     ("base/1", Node::Folder),
-    ("base/1/112", Node::File { size: 5, time: 7 }),
-    ("base/1/113", Node::File { size: 0, time: 7 }),
+    ("base/1/112", Node::File { size: 5, time: 8 }),
+    ("base/1/113", Node::File { size: 0, time: 9 }),
     ("global", Node::Folder),
-    ("global/pg_control", Node::File { size: 4, time: 7 }),
+    ("global/pg_control", Node::File { size: 4, time: 10 }),
 ];
 
 /// What its files hold.
@@ -45,6 +53,14 @@ pub(crate) const FILES: &[(&str, &[u8])] = &[
     ("base/1/113", b""),
     ("global/pg_control", b"head"),
 ];
+
+/// Each file is stored at its own name.
+pub(crate) const ALONE: PlanSettings = PlanSettings {
+    delta: false,
+    bundle: false,
+    bundle_size: 0,
+    bundle_limit: 0,
+};
 
 /// A disk with an empty stanza, whose calls with these numbers fail.
 pub(crate) fn disk_of(alloc: Global, fail: &[u64]) -> Result<MemDisk, AllocError> {
@@ -104,13 +120,14 @@ fn seen_of(alloc: Global, nodes: &[(&str, Node)]) -> Result<Vec<FolderEntry>, Al
     Ok(seen)
 }
 
-/// The result of a backup of these nodes, over these links.
+/// The result of a backup of these nodes by these settings, over these links.
 pub(crate) fn backed_up<L: Link>(
     alloc: Global,
     disk: &mut MemDisk,
     clock: &mut MemClock,
     links: Vec<L>,
     nodes: &[(&str, Node)],
+    settings: PlanSettings,
 ) -> Result<String, AllocError>
     requires few { vec_len links < 2 ^ 32 }
     requires ready { AreReady (map L.link_state links.items) }
@@ -129,7 +146,14 @@ pub(crate) fn backed_up<L: Link>(
         Err(fault) => return format!(in alloc; "{fault:?}"),
     };
     let cluster = current_cluster(&list);
-    let draft = draft_of(alloc, "demo", second, cluster, listing, list)?;
+    let equal = none_equal(alloc, &listing.files)?;
+    let order = DraftOrder {
+        stanza: "demo",
+        kind: BackupKind::Full,
+        settings,
+        old: &[],
+    };
+    let draft = draft_ordered(alloc, second, cluster, &order, &equal, listing, list)?;
     let mut pool = Pool {
         links,
         scheduler: MemScheduler::new(Vec::new(alloc)),

@@ -1,8 +1,7 @@
 // Backups of a running server over devices in memory.
 
-use crate::fixture::{FILES, NODES, SECOND, backed_up_online, disk_of, links_to, listed, reopened};
+use crate::fixture::{FILES, FIRST, NODES, SECOND, backed_up_online, disk_of, links_to, listed, reopened};
 use crate::same::{same, well};
-use base_model::Label;
 use memory_devices::{MemClock, MemDisk};
 use repo_manifest::load_manifest;
 use std::alloc::{AllocError, Global};
@@ -26,11 +25,7 @@ fn known(alloc: Global, disk: &mut MemDisk, label_file: &str) -> Result<String, 
 
 // The manifest's files with their times, and what the label file holds.
 fn contents(alloc: Global, disk: &mut MemDisk) -> Result<String, AllocError> {
-    let label = Label {
-        full: SECOND,
-        later: None,
-    };
-    let manifest = match load_manifest(alloc, disk, "demo", &label) {
+    let manifest = match load_manifest(alloc, disk, "demo", &FIRST) {
         Ok(manifest) => manifest,
         Err(fault) => return format!(in alloc; "{fault:?}"),
     };
@@ -50,7 +45,7 @@ fn contents(alloc: Global, disk: &mut MemDisk) -> Result<String, AllocError> {
 }
 
 const CONTENTS: &str =
-    "PG_VERSION 3 at 7; backup_label 30 at 1704164654; base/1/112 5 at 7; base/1/113 0 at 7; global/pg_control 4 at 7; from Some(2), true";
+    "PG_VERSION 3 at 7; backup_label 30 at 1704164654; base/1/112 5 at 8; base/1/113 0 at 9; global/pg_control 4 at 10; from Some(2), true";
 
 #[test]
 fn the_label_file_is_one_of_its_files(rt: HostRuntime) {

@@ -1,14 +1,14 @@
 // Restores of a backup over devices in memory.
 use crate::backups::backed_up_well;
-use crate::fixture::{SECOND, links_to};
+use crate::fixture::{FIRST, links_to};
 use crate::same::{same, well};
 use base_devices::DataFolder;
-use base_model::Label;
 use memory_devices::{MemDataFolder, MemDisk, MemNode};
 use memory_workers::MemScheduler;
 use repo_manifest::load_manifest;
-use restore_make::{Recovery, Restoration, RestoreOptions, restore_files};
+use restore_make::{LogFetch, Recovery, Restoration, RestoreOptions, restore_files};
 use std::alloc::{AllocError, Global};
+use std::process::Abort;
 use worker_pool::Pool;
 
 // The names of a disk with their bytes, except with these bytes at one of them, or without it.
@@ -34,8 +34,8 @@ fn names_of(
     Ok(changed)
 }
 
-// A data folder with these files and folders, in byte order; a folder has no bytes.
-fn tree_of(
+/// A data folder with these files and folders, in byte order; a folder has no bytes.
+pub(crate) fn tree_of(
     alloc: Global,
     nodes: &[(&str, Option<&[u8]>)],
     fail: &[u64],
@@ -57,8 +57,8 @@ fn tree_of(
     }
 }
 
-// All that a data folder holds.
-fn held_by(alloc: Global, tree: &mut MemDataFolder) -> Result<String, AllocError> {
+/// All that a data folder holds: each file with its length and its time.
+pub(crate) fn held_by(alloc: Global, tree: &mut MemDataFolder) -> Result<String, AllocError> {
     let mut text = String::new(alloc);
     let seen = match tree.list(alloc) {
         Ok(seen) => seen,
@@ -67,21 +67,24 @@ fn held_by(alloc: Global, tree: &mut MemDataFolder) -> Result<String, AllocError
     for node in &seen {
         let path = node.path.as_str();
         match tree.node(path) {
-            Some(MemNode::File { bytes, .. }) => write!(text, "{path} {}; ", bytes.len())?,
+            Some(MemNode::File { bytes, time }) => {
+                write!(text, "{path} {} {time}; ", bytes.len())?;
+            }
             _ => write!(text, "{path}/; ")?,
         }
     }
     Ok(text)
 }
 
-// How a restore is asked for, and what its worker reads of the data folder.
+/// How a restore is asked for, and what its worker reads of the data folder.
 #[derive(Clone, Copy)]
-struct Asked<'a> {
+pub(crate) struct Asked<'a> {
     options: RestoreOptions<'a>,
     files: &'a [(&'a str, &'a [u8])],
 }
 
-const PLAIN: Asked<'static> = Asked {
+/// Into a folder that isn't looked at, with no settings of a recovery.
+pub(crate) const PLAIN: Asked<'static> = Asked {
     options: RestoreOptions {
         delta: false,
         recovery: Recovery::Nothing,
@@ -89,8 +92,8 @@ const PLAIN: Asked<'static> = Asked {
     files: &[],
 };
 
-// The result of a restore of the disk's backup into the folder.
-fn restored<T: DataFolder>(
+/// The result of a restore of the disk's backup into the folder.
+pub(crate) fn restored<T: DataFolder>(
     alloc: Global,
     disk: &mut MemDisk,
     tree: &mut T,
@@ -100,11 +103,7 @@ fn restored<T: DataFolder>(
 ) -> Result<String, AllocError> {
     let names = names_of(alloc, disk, other)?;
     let links = links_to(alloc, asked.files, &names, &[fail])?;
-    let label = Label {
-        full: SECOND,
-        later: None,
-    };
-    let manifest = match load_manifest(alloc, disk, "demo", &label) {
+    let manifest = match load_manifest(alloc, disk, "demo", &FIRST) {
         Ok(manifest) => manifest,
         Err(fault) => return format!(in alloc; "{fault:?}"),
     };
@@ -131,7 +130,7 @@ fn restored<T: DataFolder>(
 }
 
 const WHOLE: &str =
-    "PG_VERSION 3; base/; base/1/; base/1/112 5; base/1/113 0; global/; global/pg_control 4; ";
+    "PG_VERSION 3 7; base/; base/1/; base/1/112 5 8; base/1/113 0 9; global/; global/pg_control 4 10; ";
 
 /// What the folder holds before.
 const BEFORE: &[&[(&str, Option<&[u8]>)]] = &[
@@ -170,26 +169,31 @@ fn into_each_folder(rt: HostRuntime) {
     }
 }
 
-#[test]
-fn each_call_of_the_folder_fails(rt: HostRuntime) {
-    let alloc = rt.alloc();
-    let mut disk = backed_up_well(&rt, alloc);
+// Each call of the folder fails once. The first call of a restore removes the control file.
+fn fail_at_each_call(
+    rt: &impl Abort,
+    alloc: Global,
+    nodes: &[(&str, Option<&[u8]>)],
+    asked: &Asked<'_>,
+) {
+    let mut disk = backed_up_well(rt, alloc);
     for number in 1u64..60 {
-        let mut tree = well(&rt, tree_of(alloc, BEFORE[1], &[number]));
-        let ending = well(
-            &rt,
-            restored(alloc, &mut disk, &mut tree, &PLAIN, None, &[]),
-        );
+        let mut tree = well(rt, tree_of(alloc, nodes, &[number]));
+        let ending = well(rt, restored(alloc, &mut disk, &mut tree, asked, None, &[]));
         if tree.faults() == 0 {
-            same(&rt, ending.as_str(), "restored");
+            same(rt, ending.as_str(), "restored");
             return;
         }
-        same(&rt, ending.as_str(), "DataFolder");
-        // the first call of a restore removes the control file
+        same(rt, ending.as_str(), "DataFolder");
         let has_control = tree.node("global/pg_control").is_some();
-        same(&rt, has_control, number == 1);
+        same(rt, has_control, number == 1);
     }
-    panic!(&rt; "nothing is restored without a fault");
+    panic!(rt; "nothing is restored without a fault");
+}
+
+#[test]
+fn each_call_of_the_folder_fails(rt: HostRuntime) {
+    fail_at_each_call(&rt, rt.alloc(), BEFORE[1], &PLAIN);
 }
 
 const STORED: &str = "backup/demo/20240102-030405F/pg_data/base/1/112";
@@ -242,54 +246,46 @@ const OLDER_FILES: &[(&str, &[u8])] = &[
     ("global/pg_control", b"head"),
 ];
 
-// The time of a file, or 2 where there is none.
-fn time_at(tree: &MemDataFolder, path: &str) -> u64 {
-    match tree.node(path) {
-        Some(MemNode::File { time, .. }) => *time,
-        _ => 2,
-    }
-}
+const DELTA: Asked<'static> = Asked {
+    options: RestoreOptions {
+        delta: true,
+        recovery: Recovery::Nothing,
+    },
+    files: OLDER_FILES,
+};
 
+const STORED_VERSION: &str = "backup/demo/20240102-030405F/pg_data/PG_VERSION";
+
+// An equal file is kept, so it is restored even where the repository doesn't have it.
 #[test]
 fn delta_keeps_what_is_equal(rt: HostRuntime) {
     let alloc = rt.alloc();
     let mut disk = backed_up_well(&rt, alloc);
-    let asked = Asked {
-        options: RestoreOptions {
-            delta: true,
-            recovery: Recovery::Nothing,
-        },
-        files: OLDER_FILES,
-    };
     let mut tree = well(&rt, tree_of(alloc, OLDER, &[]));
+    let other = Some((STORED_VERSION, None));
     let ending = well(
         &rt,
-        restored(alloc, &mut disk, &mut tree, &asked, None, &[]),
+        restored(alloc, &mut disk, &mut tree, &DELTA, other, &[]),
     );
     same(&rt, ending.as_str(), "restored");
     same(&rt, well(&rt, held_by(alloc, &mut tree)).as_str(), WHOLE);
     same(&rt, tree.faulty_calls(), 0);
-    // A file that is written anew has time 0.
-    same(&rt, time_at(&tree, "PG_VERSION"), 1);
-    same(&rt, time_at(&tree, "base/1/112"), 0);
-    same(&rt, time_at(&tree, "global/pg_control"), 0);
+}
+
+// So also the one that gives a kept file its time.
+#[test]
+fn each_call_of_a_delta_fails(rt: HostRuntime) {
+    fail_at_each_call(&rt, rt.alloc(), OLDER, &DELTA);
 }
 
 #[test]
 fn delta_without_a_worker(rt: HostRuntime) {
     let alloc = rt.alloc();
     let mut disk = backed_up_well(&rt, alloc);
-    let asked = Asked {
-        options: RestoreOptions {
-            delta: true,
-            recovery: Recovery::Nothing,
-        },
-        files: OLDER_FILES,
-    };
     let mut tree = well(&rt, tree_of(alloc, OLDER, &[]));
     let ending = well(
         &rt,
-        restored(alloc, &mut disk, &mut tree, &asked, None, &[0]),
+        restored(alloc, &mut disk, &mut tree, &DELTA, None, &[0]),
     );
     same(&rt, ending.as_str(), "WorkersLost");
     assert!(&rt; tree.node("global/pg_control").is_none());
@@ -306,9 +302,11 @@ fn settings_of_a_recovery(rt: HostRuntime) {
     let asked = Asked {
         options: RestoreOptions {
             delta: false,
-            recovery: Recovery::ToTheEnd {
-                fetch: b"pgbackrest --stanza=demo archive-get %f \"%p\"",
-            },
+            recovery: Recovery::FromArchive(LogFetch {
+                command: b"pgbackrest --stanza=demo archive-get %f \"%p\"",
+                settings: &[],
+                standby: false,
+            }),
         },
         files: &[],
     };

@@ -75,7 +75,7 @@ pub(crate) enum Device {
 #[derive(Clone, Copy)]
 pub(crate) struct Case {
     pub kind: BackupKind,
-    pub delta: bool,
+    pub settings: PlanSettings,
     pub files: &'static [Holding],
     /// The second by which the backup is named.
     pub second: u64,
@@ -207,12 +207,7 @@ fn order(case: &Case) -> OnlineOrder<'static> {
                 workers: 1,
             },
             kind: case.kind,
-            settings: PlanSettings {
-                delta: case.delta,
-                bundle: false,
-                bundle_size: 0,
-                bundle_limit: 0,
-            },
+            settings: case.settings,
         },
         socket: "/run/postgresql/.s.PGSQL.5432",
         user: "postgres",

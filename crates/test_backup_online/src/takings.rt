@@ -5,6 +5,7 @@ ghost use Rattle.base_model.specs.InfoFiles.{IsLabel};
 
 use crate::devices::{Case, Device, FILES, Holding, LABEL_FILE, reopened, stanza, taken};
 use crate::same::{same, well};
+use backup_plan::PlanSettings;
 use base_model::{BackupInfo, BackupKind, Label, Later};
 use repo_manifest::load_manifest;
 use repo_pair::load_pair;
@@ -19,10 +20,32 @@ const THIRD: &str =
 const FOURTH: &str =
     "archive/demo/15-1/0000000100000000/000000010000000000000004-a9993e364706816aba3e25717850c26c9cd0d89d";
 
+// Each file is stored at its own name, and its time says whether it is the prior backup's.
+const ALONE: PlanSettings = PlanSettings {
+    delta: false,
+    bundle: false,
+    bundle_size: 0,
+    bundle_limit: 0,
+};
+
+// Its digest says so.
+const ALONE_BY_DIGESTS: PlanSettings = PlanSettings {
+    delta: true,
+    ..ALONE
+};
+
+// Small files are stored together, and their digests say so.
+const TOGETHER: PlanSettings = PlanSettings {
+    delta: true,
+    bundle: true,
+    bundle_size: 20,
+    bundle_limit: 10,
+};
+
 // 2024-01-02 03:04:05, a backup from the second segment to the third, which others push in their second step.
 const FIRST: Case = Case {
     kind: BackupKind::Full,
-    delta: false,
+    settings: ALONE,
     files: FILES,
     second: 1704164645,
     system: SYSTEM,
@@ -38,7 +61,7 @@ const IN_FOURTH: &[&str] = &["0/400100", "000000010000000000000004", LABEL_FILE,
 // 100 seconds later, and within the fourth.
 const SECOND: Case = Case {
     kind: BackupKind::Full,
-    delta: false,
+    settings: ALONE,
     files: FILES,
     second: 1704164745,
     system: SYSTEM,
@@ -69,7 +92,7 @@ fn second_of(label: &Label) -> u64 {
 }
 
 // What is reported about the backup of this label: its files with their times, and its part of the log. Of a file that
-// it has of another backup, the second of that is reported.
+// it has of another backup, the second of that is reported, and of one in a bundle its place.
 fn known_of(alloc: Global, names: &[(String, Vec<u8>)], label: &Label) -> Result<String, AllocError>
     requires { IsLabel label.now }
 {
@@ -84,6 +107,9 @@ fn known_of(alloc: Global, names: &[(String, Vec<u8>)], label: &Label) -> Result
         write!(text, "{path} {} at {}", file.size, file.time)?;
         if let Some(label) = &file.reference {
             write!(text, " of {}", second_of(label))?;
+        }
+        if let Some(place) = file.bundle {
+            write!(text, " in {} at {}", place.number, place.at)?;
         }
         text.push_str("; ")?;
     }
@@ -124,7 +150,7 @@ fn stored(alloc: Global, names: &[(String, Vec<u8>)]) -> Result<String, AllocErr
     let mut text = String::new(alloc);
     for (name, bytes) in names {
         if let Some(path) = name.strip_prefix("backup/demo/20240102-030405F/") {
-            if path.starts_with("pg_data/") {
+            if path.starts_with("pg_data/") || path.starts_with("bundle/") {
                 let bytes = str::from_utf8(bytes).unwrap_or("no UTF-8");
                 write!(text, "{path}: {bytes}; ")?;
             } else {
@@ -208,7 +234,7 @@ const REWRITTEN: &[Holding] = &[
 
 const BY_DIGESTS: Case = Case {
     kind: BackupKind::Incr,
-    delta: true,
+    settings: ALONE_BY_DIGESTS,
     files: REWRITTEN,
     ..SECOND
 };
@@ -268,6 +294,39 @@ fn chain_by_digests(rt: HostRuntime) {
     check_first(&rt, alloc, &names);
     let known = well(&rt, known_of(alloc, &names, &THIRD_LABEL));
     same(&rt, known.as_str(), ALL_LEFT);
+}
+
+const STORED_TOGETHER: &str =
+    "backup.manifest; backup.manifest.copy; bundle/1: 15\nhello; pg_data/backup_label: START WAL LOCATION: 0/200028\n; pg_data/global/pg_control: head; ";
+
+const FIRST_TOGETHER: &str =
+    "PG_VERSION 3 at 7 in 1 at 0; backup_label 29 at 1704164654; base/1/112 5 at 7 in 1 at 3; global/pg_control 4 at 7; from 2 to 3";
+
+const LATER_TOGETHER: &str =
+    "PG_VERSION 3 at 8 of 1704164645 in 1 at 0; backup_label 29 at 1704164754; base/1/112 5 at 7 in 1 at 0; global/pg_control 4 at 7; from 4 to 4";
+
+// The label file is in no bundle. A file that is the first backup's lies in that one's, and another one in the second's.
+#[test]
+fn in_bundles(rt: HostRuntime) {
+    let alloc = rt.alloc();
+    let empty = well(&rt, stanza(alloc));
+    let case = Case {
+        settings: TOGETHER,
+        ..FIRST
+    };
+    let (_, first) = well(&rt, taken(alloc, &empty, &case));
+    let known = well(&rt, stored(alloc, &first));
+    same(&rt, known.as_str(), STORED_TOGETHER);
+    let known = well(&rt, known_of(alloc, &first, &full_label(FIRST.second)));
+    same(&rt, known.as_str(), FIRST_TOGETHER);
+    let case = Case {
+        settings: TOGETHER,
+        ..BY_DIGESTS
+    };
+    let (known, names) = well(&rt, taken(alloc, &first, &case));
+    same(&rt, known.as_str(), LATER_LINE);
+    let known = well(&rt, known_of(alloc, &names, &LATER));
+    same(&rt, known.as_str(), LATER_TOGETHER);
 }
 
 #[test]

@@ -1,6 +1,6 @@
 // A data folder in memory: what its calls do, refuse and count.
 use crate::same::{same, well};
-use base_devices::{DataFolder, DeviceError, Node, ReadableFile};
+use base_devices::{DataFolder, DeviceError, FolderEntry, Node, ReadableFile};
 use memory_devices::{MemDataFolder, MemNode, TreeFault};
 use std::alloc::{AllocError, Global};
 use std::process::Abort;
@@ -13,6 +13,7 @@ enum Call {
     // and whether it begins
     BeginNew(&'static str, bool),
     Append(&'static str),
+    SetTime(&'static str, u64),
     Rename(&'static str, &'static str),
     Remove(&'static str),
 }
@@ -37,6 +38,7 @@ fn run<T: DataFolder>(tree: &mut T, call: &Call) -> Result<(), DeviceError> {
             }
         }
         Call::Append(path) => tree.append(path, b"more"),
+        Call::SetTime(path, time) => tree.set_time(path, *time),
         Call::Rename(from, to) => tree.rename(from, to),
         Call::Remove(path) => tree.remove(path),
     }
@@ -77,10 +79,25 @@ fn cluster(alloc: Global, fail: &[u64]) -> Result<MemDataFolder, TreeFault> {
 
 // The nodes of a tree, a line each.
 fn listed<T: DataFolder>(alloc: Global, tree: &mut T) -> Result<String, DeviceError> {
+    let seen = tree.list(alloc)?;
+    Ok(text_of(alloc, &seen)?)
+}
+
+// Those right within a folder.
+fn listed_within<T: DataFolder>(
+    alloc: Global,
+    tree: &mut T,
+    folder: &str,
+) -> Result<String, DeviceError> {
+    let seen = tree.list_folder(alloc, folder)?;
+    Ok(text_of(alloc, &seen)?)
+}
+
+fn text_of(alloc: Global, seen: &[FolderEntry]) -> Result<String, AllocError> {
     let mut text = String::new(alloc);
-    for seen in tree.list(alloc)? {
+    for seen in seen {
         text.push_str(&seen.path)?;
-        match seen.node {
+        match &seen.node {
             Node::File { size, time } => write!(text, " {size} bytes at {time}\n")?,
             Node::Folder => text.push_str("/\n")?,
             Node::Link => text.push_str(" link\n")?,
@@ -146,6 +163,10 @@ fn check_other_calls(rt: &impl Abort, tree: &mut MemDataFolder) {
     check_call(rt, tree, Call::Append("PG_VERSION"), End::Done);
     check_call(rt, tree, Call::Append("base"), End::FaultyCall);
     check_call(rt, tree, Call::Append("base/none"), End::FaultyCall);
+    check_call(rt, tree, Call::SetTime("base/new", 9), End::Done);
+    check_call(rt, tree, Call::SetTime("base", 9), End::FaultyCall);
+    check_call(rt, tree, Call::SetTime("base/none", 9), End::FaultyCall);
+    check_call(rt, tree, Call::SetTime("pg_tblspc/9", 9), End::FaultyCall);
     check_call(rt, tree, Call::Rename("base/new", "base/old"), End::Done);
     check_call(
         rt,
@@ -180,7 +201,7 @@ fn check_other_calls(rt: &impl Abort, tree: &mut MemDataFolder) {
 
 const LEFT: &str = "base/
 base/alone 0 bytes at 0
-base/old 4 bytes at 0
+base/old 4 bytes at 9
 pg_tblspc/
 pg_tblspc/9 6 bytes at 5
 ";
@@ -195,6 +216,38 @@ fn calls_of_a_tree(rt: HostRuntime) {
     check_makes_and_begins(&rt, &mut tree);
     check_other_calls(&rt, &mut tree);
     check_listed(&rt, rt.alloc(), &mut tree, LEFT);
+}
+
+// A folder, and what is listed right within it.
+const FOLDERS: &[(&str, &str)] = &[
+    ("pg_wal", "pg_wal/1 3 bytes at 7\n"),
+    ("pg_tblspc", "pg_tblspc/9 link\n"),
+    ("base", "base/1/\nbase/2 0 bytes at 0\n"),
+    ("base/1", "base/1/f 0 bytes at 0\n"),
+    ("pg", ""),
+    ("PG_VERSION", ""),
+    ("none", ""),
+    ("", ""),
+];
+
+const FILLED: &[Call] = &[
+    Call::Make("base"),
+    Call::Begin("base/2"),
+    Call::Make("base/1"),
+    Call::Begin("base/1/f"),
+];
+
+#[test]
+fn folders_of_a_tree(rt: HostRuntime) {
+    let alloc = rt.alloc();
+    let mut tree = well(&rt, cluster(alloc, &[]));
+    for call in FILLED {
+        same(&rt, run(&mut tree, call), Ok(()));
+    }
+    for (folder, want) in FOLDERS {
+        let seen = well(&rt, listed_within(alloc, &mut tree, folder));
+        same(&rt, seen.as_str(), *want);
+    }
 }
 
 // A file of the log.
@@ -265,15 +318,17 @@ fn each_call_of_a_tree_fails(rt: HostRuntime) {
     check_failing(&rt, alloc, Call::Begin("pg_wal/1"));
     check_failing(&rt, alloc, Call::BeginNew("pg_wal/2", true));
     check_failing(&rt, alloc, Call::Append("PG_VERSION"));
+    check_failing(&rt, alloc, Call::SetTime("PG_VERSION", 9));
     check_failing(&rt, alloc, Call::Rename("PG_VERSION", "pg_wal/1"));
     check_failing(&rt, alloc, Call::Remove("pg_wal/1"));
 }
 
 #[test]
 fn other_calls_of_a_tree_fail(rt: HostRuntime) {
-    let mut tree = well(&rt, cluster(rt.alloc(), &[0, 1, 2]));
+    let mut tree = well(&rt, cluster(rt.alloc(), &[0, 1, 2, 3]));
     same(&rt, tree.open("data"), Err(DeviceError::Failed));
     assert!(rt; listed(rt.alloc(), &mut tree).is_err());
+    assert!(rt; listed_within(rt.alloc(), &mut tree, "base").is_err());
     same(
         &rt,
         reads(&mut tree, &ReadableFile::Version, None),

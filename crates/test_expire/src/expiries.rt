@@ -30,8 +30,8 @@ fn expired(alloc: Global, disk: &mut MemDisk, rules: &Rules) -> Result<Expired, 
     expire(alloc, disk, "demo", rules, 0)
 }
 
-// An expiry that succeeds.
-fn check_expiry(
+/// An expiry that succeeds.
+pub(crate) fn check_expiry(
     rt: &impl Abort,
     alloc: Global,
     disk: &mut MemDisk,
@@ -51,7 +51,8 @@ pub(crate) fn check_held(rt: &impl Abort, disk: &MemDisk, names: &[Held]) {
     }
 }
 
-fn check_gone(rt: &impl Abort, disk: &MemDisk, names: &[Held]) {
+/// These names are gone.
+pub(crate) fn check_gone(rt: &impl Abort, disk: &MemDisk, names: &[Held]) {
     for (name, _) in names {
         same(rt, (*name, disk.bytes(name)), (*name, None));
     }

@@ -12,7 +12,7 @@ use std::process::Abort;
 use std::test::Fail;
 
 // The arguments of a line, which single blanks separate.
-fn arguments(alloc: Global, line: &str) -> Result<Vec<String>, AllocError> {
+pub(crate) fn arguments(alloc: Global, line: &str) -> Result<Vec<String>, AllocError> {
     let mut arguments = Vec::new(alloc);
     for word in line.split(' ') {
         if !word.is_empty() {
@@ -28,7 +28,7 @@ fn tell(alloc: Global, number: u32, what: &impl Display) -> Result<String, Alloc
 }
 
 // The number of a fault, and what it states.
-fn known(alloc: Global, fault: &Usage) -> Result<String, AllocError> {
+pub(crate) fn known(alloc: Global, fault: &Usage) -> Result<String, AllocError> {
     match fault {
         Usage::NoMemory => String::from_str(alloc, "memory"),
         Usage::CommandMissing => String::from_str(alloc, "2"),

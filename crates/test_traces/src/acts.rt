@@ -1,11 +1,12 @@
 // Calls of the program on one data folder, and what a list of them leaves.
-use memory_devices::{MemClock, MemConnection, MemDataFolder, MemDisk, MemInputFiles, MemNode};
+use memory_devices::{MemClock, MemConnection, MemDataFolder, MemInputFiles, MemNode};
 use memory_processes::{MemProcesses, OtherTurn};
-use program_crashes::{Act, CrashPoint, Disks, Left, PlayFault, Workers, play};
+use program_crashes::{Act, CrashPoint, Disks, Ended, Left, PlayFault, Workers, play};
 use std::alloc::{AllocError, Global};
 
-// A control file as one of system 6917529027641081857 begins.
-const CONTROL: &[u8] = b"\x01\x00\x00\x00\x00\x00\x00\x60\x14\x05\x00\x00\xff\xf5\x0e\x0c";
+/// A control file as one of system 6917529027641081857 begins.
+pub(crate) const CONTROL: &[u8] =
+    b"\x01\x00\x00\x00\x00\x00\x00\x60\x14\x05\x00\x00\xff\xf5\x0e\x0c";
 
 pub(crate) fn file(
     alloc: Global,
@@ -64,7 +65,12 @@ fn left_at(alloc: Global, moment: u64) -> Left {
     }
 }
 
-fn bytes(alloc: Global, path: &str, bytes: &[u8]) -> Result<(String, Vec<u8>), AllocError> {
+/// A file of these bytes.
+pub(crate) fn bytes(
+    alloc: Global,
+    path: &str,
+    bytes: &[u8],
+) -> Result<(String, Vec<u8>), AllocError> {
     Ok((String::from_str(alloc, path)?, bytes.to_vec(alloc)?))
 }
 
@@ -153,15 +159,8 @@ pub(crate) fn restore(
     Ok(done)
 }
 
-fn empty(alloc: Global) -> Result<MemDisk, AllocError> {
-    MemDisk::new(alloc, Vec::new(alloc), Vec::new(alloc))
-}
-
-/// What these calls leave of two empty disks, and the status of each.
-pub(crate) fn played(alloc: Global, acts: Vec<Act>) -> Result<(Disks, Vec<u8>), PlayFault> {
-    let disks = Disks {
-        repo: empty(alloc).or(Err(PlayFault::NoMemory))?,
-        spool: empty(alloc).or(Err(PlayFault::NoMemory))?,
-    };
+/// What these calls leave of two empty disks, and how each ended.
+pub(crate) fn played(alloc: Global, acts: Vec<Act>) -> Result<(Disks, Vec<Ended>), PlayFault> {
+    let disks = Disks::empty(alloc).or(Err(PlayFault::NoMemory))?;
     play(alloc, disks, acts)
 }

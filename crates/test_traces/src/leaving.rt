@@ -1,6 +1,6 @@
 // A file of the log that is queued for archive-push:async, which is stopped.
 use crate::acts::{act, file, folder, nodes, played, stop_at};
-use crate::same::{same, well};
+use crate::same::{same, same_statuses, well};
 use memory_devices::MemDataFolder;
 use program_crashes::{Act, PlayFault};
 use std::alloc::{AllocError, Global};
@@ -47,8 +47,8 @@ fn acts_of(alloc: Global, moment: u64) -> Result<Vec<Act>, PlayFault> {
 // Only after the receipt of a whole drain is the file archived, and a receipt serves once.
 fn check(rt: &impl Abort, alloc: Global, moment: u64) {
     let acts = well(rt, acts_of(alloc, moment));
-    let (disks, statuses) = well(rt, played(alloc, acts));
-    same(rt, statuses.as_slice(), &[0, 0, 38, 0, 0, 38]);
+    let (disks, ended) = well(rt, played(alloc, acts));
+    same_statuses(rt, &ended, &[0, 0, 38, 0, 0, 38]);
     same(rt, disks.repo.bytes(STORED), Some(b"hello".as_slice()));
     same(
         rt,

@@ -4,6 +4,8 @@
 #[cfg(test)]
 mod acts;
 #[cfg(test)]
+mod histories;
+#[cfg(test)]
 mod leaving;
 #[cfg(test)]
 mod running;
@@ -11,3 +13,5 @@ mod running;
 mod same;
 #[cfg(test)]
 mod stories;
+#[cfg(test)]
+mod upgrades;

@@ -1,6 +1,6 @@
 // Backups of a running server, after the steps of other processes.
 use crate::acts::{act, file, nodes, others, played, stop_at};
-use crate::same::{same, well};
+use crate::same::{same, same_statuses, well};
 use base_model::{ArchiveId, Segment};
 use memory_devices::{MemConnection, MemDataFolder};
 use memory_processes::{OtherPush, OtherTurn};
@@ -151,12 +151,12 @@ const BEHIND: u64 = 40;
 fn a_running_backup_goes_on_after_a_stop(rt: HostRuntime) {
     let alloc = rt.alloc();
     let acts = well(&rt, begun(alloc));
-    let (disks, statuses) = well(&rt, played(alloc, acts));
-    same(&rt, statuses.as_slice(), &[0, 0]);
+    let (disks, ended) = well(&rt, played(alloc, acts));
+    same_statuses(&rt, &ended, &[0, 0]);
     let moment = disks.repo.moment().saturating_add(BEHIND);
     let acts = well(&rt, backups(alloc, moment));
-    let (disks, statuses) = well(&rt, play(alloc, disks, acts));
-    same(&rt, statuses.as_slice(), &[0, 0, 0]);
+    let (disks, ended) = well(&rt, play(alloc, disks, acts));
+    same_statuses(&rt, &ended, &[0, 0, 0]);
     same(
         &rt,
         disks.repo.bytes(LABEL_FILE),

@@ -1,7 +1,7 @@
 // Lists of calls and crashes.
 use crate::acts::{act, played, restore, stop_at};
-use crate::same::{same, well};
-use program_crashes::{Act, Disks, PlayFault};
+use crate::same::{file_at, same, same_statuses, well};
+use program_crashes::{Act, Disks, Ended, PlayFault};
 use std::alloc::Global;
 use std::process::Abort;
 
@@ -85,10 +85,10 @@ enum Held<'a> {
 }
 
 // All of this many calls ended with 0.
-fn all_well(rt: &impl Abort, statuses: &[u8], count: usize) {
-    same(rt, statuses.len(), count);
-    for &status in statuses {
-        same(rt, status, 0);
+fn all_well(rt: &impl Abort, ended: &[Ended], count: usize) {
+    same(rt, ended.len(), count);
+    for how in ended {
+        same(rt, how.status, 0);
     }
 }
 
@@ -121,14 +121,14 @@ fn check_stops(
     for number in 0..200u64 {
         let moment = first.saturating_add(number);
         let acts = well(rt, calls(alloc, arguments, before, moment));
-        let (disks, statuses) = match played(alloc, acts) {
+        let (disks, ended) = match played(alloc, acts) {
             Ok(end) => end,
             Err(fault) => {
                 same(rt, (fault, 8 < number), (PlayFault::Moment, true));
                 return;
             }
         };
-        all_well(rt, statuses.as_slice(), arguments.len());
+        all_well(rt, &ended, arguments.len());
         check_held(rt, &disks, wanted);
     }
     panic!(rt; "the call has no last moment");
@@ -147,6 +147,24 @@ fn calls_go_on_after_a_stop(rt: HostRuntime) {
             (STORED_OTHER, Held::Bytes(b"hello")),
         ],
     );
+}
+
+const AGAIN: &str = "WARN: 00000002.history is already in the archive with the same checksum\n";
+
+// What each call wrote, and which file a fetch put in its data folder.
+#[test]
+fn calls_write_what_they_find(rt: HostRuntime) {
+    let alloc = rt.alloc();
+    let acts = well(&rt, calls(alloc, &[CREATE, PUSH, PUSH, GET], 9, 0));
+    let (_, ended) = well(&rt, played(alloc, acts));
+    all_well(&rt, &ended, 4);
+    for (how, text) in ended.iter().zip(["", "", AGAIN, ""]) {
+        same(&rt, how.out.written(), text.as_bytes());
+    }
+    for (how, found) in ended.iter().zip([false, false, false, true]) {
+        let file = file_at(&how.tree, "pg_wal/RECOVERYHISTORY");
+        same(&rt, file == Some(b"hello".as_slice()), found);
+    }
 }
 
 // The backup that follows one that is stopped is made and listed.
@@ -246,7 +264,7 @@ fn a_backup_stays_whose_expiry_fails(rt: HostRuntime) {
     let mut stayed = 0u64;
     for call in 0..400u64 {
         let acts = well(&rt, failing(alloc, &arguments, 1, last, &[call]));
-        let (disks, statuses) = well(&rt, played(alloc, acts));
+        let (disks, ended) = well(&rt, played(alloc, acts));
         let old = disks
             .repo
             .bytes("backup/demo/20240102-030406F/pg_data/PG_VERSION");
@@ -258,11 +276,11 @@ fn a_backup_stays_whose_expiry_fails(rt: HostRuntime) {
             (old.is_some(), new.is_some()),
             (new.is_none(), new.is_some()),
         );
-        if statuses.get(2) == Some(&0) {
+        if ended.get(2).is_some_and(|how| how.status == 0) {
             same(&rt, (0 < stayed, new.is_some()), (true, true));
             return;
         }
-        same(&rt, statuses.as_slice(), &[0, 0, 80, 0]);
+        same_statuses(&rt, &ended, &[0, 0, 80, 0]);
         if new.is_some() {
             stayed = stayed.saturating_add(1);
         }
@@ -289,6 +307,23 @@ const RESTORES: &[Restore] = &[
     ("", None, Some(b"16\n"), &[0], 55),
 ];
 
+// The data folder of the last call is the one that was backed up.
+fn check_restored(rt: &impl Abort, ended: &[Ended]) {
+    let Some(last) = ended.last() else {
+        return same(rt, true, false);
+    };
+    same(
+        rt,
+        file_at(&last.tree, "PG_VERSION"),
+        Some(b"16\n".as_slice()),
+    );
+    same(
+        rt,
+        file_at(&last.tree, "pg_wal/00000002.history"),
+        Some(b"hello".as_slice()),
+    );
+}
+
 // A backup is restored, or why not is reported; and after no backup nothing is.
 #[test]
 fn restores_end_as_they_must(rt: HostRuntime) {
@@ -299,14 +334,17 @@ fn restores_end_as_they_must(rt: HostRuntime) {
         let mut acts = well(&rt, calls(alloc, &[CREATE, BACKUP], 9, 0));
         let last = well(&rt, restore(alloc, &arguments, held, version, fail));
         well(&rt, acts.push(last));
-        let (_, statuses) = well(&rt, played(alloc, acts));
-        same(&rt, statuses.as_slice(), &[0, 0, status]);
+        let (_, ended) = well(&rt, played(alloc, acts));
+        same_statuses(&rt, &ended, &[0, 0, status]);
+        if status == 0 {
+            check_restored(&rt, &ended);
+        }
     }
     let mut acts = well(&rt, calls(alloc, &[CREATE], 9, 0));
     let last = well(&rt, restore(alloc, RESTORE, None, None, &[]));
     well(&rt, acts.push(last));
-    let (_, statuses) = well(&rt, played(alloc, acts));
-    same(&rt, statuses.as_slice(), &[0, 60]);
+    let (_, ended) = well(&rt, played(alloc, acts));
+    same_statuses(&rt, &ended, &[0, 60]);
 }
 
 // These calls end so, and the repository then has this.
@@ -318,8 +356,8 @@ fn check_ends(
     wanted: &[(&str, Held)],
 ) {
     let acts = well(rt, calls(alloc, arguments, arguments.len(), 0));
-    let (disks, statuses) = well(rt, played(alloc, acts));
-    same(rt, statuses.as_slice(), ends);
+    let (disks, ended) = well(rt, played(alloc, acts));
+    same_statuses(rt, &ended, ends);
     check_held(rt, &disks, wanted);
 }
 

@@ -94,7 +94,8 @@ const MEMBERS: &[Row] = &[
     ),
 ];
 
-/// Files of backups and of the archive lost or broken. A bundle that both backups refer to is reported once.
+/// Files of backups and of the archive lost or broken. A bundle that both backups refer to is reported once, and each of
+/// its files for itself.
 const FILES: &[Row] = &[
     (
         &[],
@@ -117,6 +118,17 @@ const FILES: &[Row] = &[
         &[],
         "backup/demo/20240102-030405F/bundle/1: short, 4 of 5 bytes\n",
     ),
+    (
+        &[(BUNDLE, "16\nhellp")],
+        &[],
+        "backup/demo/20240102-030405F/bundle/1: checksum aaf4c61ddcc5e8a2dabede0f3b482cd9aea9434d, found d4baaad7a68a379b1e133e0fea0603051b0124ca\n",
+    ),
+    (
+        &[(BUNDLE, "15\nhell")],
+        &[],
+        "backup/demo/20240102-030405F/bundle/1: short, 4 of 5 bytes\nbackup/demo/20240102-030405F/bundle/1: checksum 3596ea087bfdaf52380eae441077572ed289d657, found 587b596f04f7db9c2cad3d6b87dd2b3a05de4f35\n",
+    ),
+    (&[(BUNDLE, "16\nhello and more")], &[], ""),
     (
         &[],
         &[BUNDLE],

@@ -1,7 +1,9 @@
 // How often an object of the system failed, and what failed last.
 ghost use Rattle.std.specs.Prelude.{◌≡◌, ◌≢◌, Result, Ok, Err, IfErr, IfOk, IsErrOf, OnOk};
 ghost use Rattle.std.specs.IoError.{error_kind};
+ghost use Rattle.std.specs.declared.io.ErrorKind.TheVariants.{OutOfMemory};
 ghost use Rattle.base_devices.specs.Cause.{HasCause};
+ghost use Rattle.base_devices.specs.declared.device_error.DeviceError.TheVariants.{Failed, NoMemory};
 
 use base_devices::DeviceError;
 use std::alloc::{AllocError, Global};
@@ -78,10 +80,10 @@ impl Faults {
         done: io::Result<T>,
     ) -> Result<T, DeviceError>
         ensures value { IfOk done (λ v. result ≡ Ok v) }
-        ensures memory { IfErr done (λ e. error_kind e ≡ ErrorKind.OutOfMemory → result ≡ Err DeviceError.NoMemory) }
-        ensures failed { IfErr done (λ e. error_kind e ≢ ErrorKind.OutOfMemory → result ≡ Err DeviceError.Failed) }
+        ensures memory { IfErr done (λ e. error_kind e ≡ OutOfMemory → result ≡ Err NoMemory) }
+        ensures failed { IfErr done (λ e. error_kind e ≢ OutOfMemory → result ≡ Err Failed) }
         ensures same { OnOk done (self.new ≡ self.old) }
-        ensures uncounted { IsErrOf result DeviceError.NoMemory → self.new ≡ self.old }
+        ensures uncounted { IsErrOf result NoMemory → self.new ≡ self.old }
         ensures cause { HasCause self.old.count self.new.count result }
     {
         match done {

@@ -37,7 +37,7 @@ fn ready_name(seen: &FolderEntry) -> Option<ArchiveName>
     )
 }
 
-// The files that are ready by a listing.
+// The files that are ready by a listing of the folder.
 fn names_among(alloc: Global, seen: &[FolderEntry]) -> Result<Vec<ArchiveName>, NoMemory>
     ensures { IfOk result (λ names. Picks ShowsReady PassesReady seen.now names.items) }
 {
@@ -59,7 +59,7 @@ pub(crate) fn ready_names<T: DataFolder>(
     ensures looks { OnlyReadsFolder (T.state tree.old) (T.state tree.new) }
     ensures cause { IfErr result (FolderFails (T.state tree.old) (T.state tree.new)) }
 {
-    let seen = match tree.list(alloc) {
+    let seen = match tree.list_folder(alloc, "pg_wal/archive_status") {
         Ok(seen) => seen,
         Err(error) => return Err(halted(Object::TheDataFolder, error)),
     };

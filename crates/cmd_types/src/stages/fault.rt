@@ -2,13 +2,6 @@
 
 use repo_info::MemberFault;
 
-/// A part of the program that comes later.
-#[derive(Clone, Copy, Debug, PartialEq, Eq)]
-pub enum Unbuilt {
-    /// a backup that joins small files
-    Bundles,
-}
-
 /// A file that states the cluster.
 #[derive(Clone, Copy, Debug, PartialEq, Eq)]
 pub enum ControlFile {
@@ -19,9 +12,6 @@ pub enum ControlFile {
 /// Why a command doesn't reach its own part, in the order in which refusals come.
 #[derive(Debug, Drop)]
 pub enum StageFault {
-    NotBuilt {
-        what: Unbuilt,
-    },
     /// The configuration that the arguments name isn't there.
     ConfigMissing {
         path: String,

@@ -1,21 +1,13 @@
 // The status and the message of each refusal before a command's own part, and texts that messages of commands share.
 ghost use Rattle.std.specs.Prelude.{◌≡◌, ◌++◌, codes, decimal, IfOk, IsOkAnd, OnOk, string_bytes};
-ghost use Rattle.cmd_types.specs.StagesTexts.{shown, shown_byte, part_name, file_text, member_text, damage_text, damaged_text, identity_text, mismatch_text, history_text, twice_text, long_text, stage_status, stage_message, object_status, object_message};
+ghost use Rattle.cmd_types.specs.StagesTexts.{shown, shown_byte, file_text, member_text, damage_text, damaged_text, identity_text, mismatch_text, history_text, twice_text, long_text, stage_status, stage_message, object_status, object_message};
 
-use crate::stages::fault::{ControlFile, StageFault, Unbuilt};
+use crate::stages::fault::{ControlFile, StageFault};
 use crate::stages::object::Object;
 use base_text::NoMemory;
 use repo_info::MemberFault;
 use repo_stanza::Identity;
 use std::alloc::{AllocError, Global};
-
-fn part_name(what: Unbuilt) -> &'static str
-    ensures { result.now ≡ part_name what }
-{
-    match what {
-        Unbuilt::Bundles => "repo1-bundle",
-    }
-}
 
 fn file_text(file: ControlFile) -> &'static str
     ensures { result.now ≡ file_text file }
@@ -153,7 +145,6 @@ pub fn stage_status(fault: &StageFault) -> u8
     ensures { result ≡ stage_status fault.now }
 {
     match fault {
-        StageFault::NotBuilt { .. } => 100,
         StageFault::ConfigMissing { .. } => 10,
         StageFault::ConfigLong { .. } => 70,
         StageFault::Held { .. } => 20,
@@ -171,10 +162,6 @@ pub fn stage_message(alloc: Global, fault: &StageFault) -> Result<Vec<u8>, NoMem
     ensures { IfOk result (λ line. line.items ≡ stage_message fault.now) }
 {
     match fault {
-        StageFault::NotBuilt { what } => {
-            let name = part_name(*what);
-            bytes_of(format!(in alloc; "'{name}' is not built yet"))
-        }
         StageFault::ConfigMissing { path } => quoted(
             alloc,
             "configuration '",

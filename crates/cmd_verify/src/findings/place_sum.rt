@@ -25,7 +25,8 @@ pub(crate) enum Lies {
 // The room for a piece.
 const PIECE_SIZE: usize = 64 << 10;
 
-/// What lies at a name from a place on, of this many bytes. They are read once, in pieces.
+/// What lies at a name from a place on, of this many bytes. They are read once, in pieces. The bytes after them aren't
+/// read, since many files may lie there.
 pub(crate) fn sum_at<D: Disk>(
     d: &mut D,
     name: &str,
@@ -44,13 +45,14 @@ pub(crate) fn sum_at<D: Disk>(
         let Some(from) = at.checked_add(count) else {
             return Err(DeviceError::NoMemory);
         };
-        match d.read(name, from, &mut piece)? {
+        let wanted = (size - count).min(PIECE_SIZE as u64) as usize;
+        let room = &mut piece[..wanted];
+        match d.read(name, from, room)? {
             None => return Ok(Lies::Nothing),
             Some(0) => return Ok(Lies::Few(count)),
             Some(read) => {
-                let part = (size - count).min(read as u64);
-                digest.update(&piece[..part as usize]);
-                count += part;
+                digest.update(&room[..read]);
+                count += read as u64;
             }
         }
     }

@@ -12,12 +12,13 @@ use base_text::Sum;
 use std::alloc::{AllocError, Global};
 use worker_protocol::ItemEnd;
 
-/// A file that is to be written: its path in the data folder, and the number and the digest of its bytes.
+/// A file that is to be written: its path in the data folder, the number and the digest of its bytes, and its time.
 #[derive(Clone, Copy, Debug)]
 pub struct Wanted<'a> {
     pub path: &'a str,
     pub size: u64,
     pub sum: Sum,
+    pub time: u64,
 }
 
 /// How far it is: how many bytes were received, and how its item ended.
@@ -69,15 +70,21 @@ fn extend<T: DataFolder>(
     tree.append(&name, bytes)
 }
 
-// Gives the file its own name.
-fn put_in_place<T: DataFolder>(alloc: Global, tree: &mut T, path: &str) -> Result<(), DeviceError>
-    ensures put { OnOk result (IsPut path.now (T.state tree.old).nodes (T.state tree.new).nodes) }
+// Gives the file its time, and then its own name.
+fn put_in_place<T: DataFolder>(
+    alloc: Global,
+    tree: &mut T,
+    path: &str,
+    time: u64,
+) -> Result<(), DeviceError>
+    ensures put { OnOk result (IsPut path.now time (T.state tree.old).nodes (T.state tree.new).nodes) }
     ensures others { SameBeside path.now (T.state tree.old).nodes (T.state tree.new).nodes }
     ensures proper { PutsProperly path.now (T.state tree.old) (T.state tree.new) }
     ensures opened { (T.state tree.new).opened ≡ (T.state tree.old).opened }
     ensures cause { HasCause (T.state tree.old).faults (T.state tree.new).faults result }
 {
     let name = temporary_name(alloc, path)?;
+    tree.set_time(&name, time)?;
     tree.rename(&name, path)
 }
 
@@ -128,7 +135,7 @@ impl<'a> Filed<'a> {
     }
 }
 
-// Ends a file: where its bytes are those that are requested, it gets its own name.
+// Ends a file: where its bytes are those that are requested, it gets its time and its own name.
 pub(crate) fn end_file<T: DataFolder>(
     alloc: Global,
     tree: &mut T,
@@ -149,7 +156,7 @@ pub(crate) fn end_file<T: DataFolder>(
         file.end = Some(*how);
         return Ok(());
     }
-    put_in_place(alloc, tree, file.wanted.path)?;
+    put_in_place(alloc, tree, file.wanted.path, file.wanted.time)?;
     file.end = Some(*how);
     Ok(())
 }

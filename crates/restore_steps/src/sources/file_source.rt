@@ -4,7 +4,7 @@ ghost use Rattle.base_model.specs.InfoFiles.{IsLabel};
 ghost use Rattle.base_model.specs.Place.{holder, place};
 ghost use Rattle.base_model.specs.Values.{file_entry_of};
 ghost use Rattle.base_model.specs.declared.labels.Label as labels;
-ghost use Rattle.options_table.specs.Values.{is_stanza};
+ghost use Rattle.base_model.specs.StanzaName.{is_stanza};
 ghost use Rattle.worker_protocol.specs.Frames.{FitsItem, FitsJob};
 ghost use Rattle.worker_protocol.specs.Views.{item_of, job_of};
 ghost use Rattle.restore_steps.specs.Sources.{IsEntry, file_name_by, bundle_name_by, source, reading};

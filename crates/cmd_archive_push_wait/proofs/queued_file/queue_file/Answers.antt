@@ -1,5 +1,5 @@
 use Rattle.std.proofs.Common.{rules, ◌≡◌, ◌+◌, ◌∙◌, inr, subst, ℕ, refl, true, false, arith}
-use Rattle.std.specs.Prelude.{map, string_bytes, IfSome}
+use Rattle.std.specs.Prelude.{map, string_bytes}
 use Rattle.archive_lookup.specs.Turns.{Account}
 use Rattle.archive_spool.specs.declared.spool_query.Asked.TheVariants.{Done, NotYet as Nothing, Reported as Refusal}
 use Rattle.archive_wait.specs.TurnsDone.{Counts, TurnsDone}

@@ -4,6 +4,7 @@ use Rattle.base_devices.specs.Cause.{Rises}
 use Rattle.base_devices.specs.Content.{Content}
 use Rattle.base_devices.specs.Links.{LinkState}
 use Rattle.base_devices.specs.DataFolder.{Nodes}
+use Rattle.base_devices.specs.States.{ShowsSecond}
 use Rattle.base_model.specs.declared.labels.BackupKind.{BackupKind}
 use Rattle.base_model.specs.Text.{Text}
 use Rattle.base_model.specs.Values.{FileEntry, archive_info_of, backup_info_of, file_entry_of, manifest_of}
@@ -30,20 +31,24 @@ use Rattle.cmd_backup_offline.specs.Basing.{base_in, base_label}
 use Rattle.cmd_backup_offline.specs.Drafting.{MayBase}
 use Rattle.cmd_backup_offline.proofs.Bases.{may_base, no_base}
 use Rattle.cmd_backup_offline.proofs.Takings.{begins_from, has_room}
+use Rattle.cmd_backup_offline.specs.Touching.{TouchesOneOf}
 use Rattle.cmd_backup_online.specs.declared.fault.OnlineBackupFault.{OnlineBackupFault}
 use Rattle.cmd_backup_online.specs.Causes.{Asked, OnlineCause}
 use Rattle.cmd_backup_online.specs.Doing.{Received}
 use Rattle.cmd_backup_online.specs.Finishing.{Publishes, VainCause, OfTake, PublishCause}
 use Rattle.cmd_backup_online.specs.Preparing.{PrepareCause}
 use Rattle.cmd_backup_online.specs.Talking.{SpokenCause}
+use Rattle.cmd_backup_online.specs.Touching.{IsOfRunning}
 use Rattle.cmd_backup_online.proofs.Besides.{staged_beside, waited_beside, listed_beside}
+use Rattle.cmd_backup_online.proofs.Stops.{shown_on, stops_following, stops_staged}
 use Rattle.cmd_backup_online.proofs.Bases.{begins_of, known_before}
 use Rattle.cmd_backup_online.proofs.Causes.{All, in_all, of_offline_as, prepare_takes, spoken_takes, vain_takes, publish_takes}
+use Rattle.cmd_backup_online.proofs.Ends.{talked_names, closed_names, waited_names, listed_names, waited_receipts}
 use Rattle.cmd_backup_online.proofs.Doings.{not_end, by_account, rests_online, gave_up_online, left_online, waited_online, published_online, outcome_following, part_of}
 use Rattle.cmd_backup_online.proofs.Takings.{taken_online}
 use Rattle.cmd_backup_online.proofs.Gatherings.{comes_after}
 use Rattle.cmd_backup_online.proofs.Talks.{ended_before}
-use Rattle.cmd_backup_online.proofs.Spools.{still_marks, waited_marks, spool_still, spool_waited}
+use Rattle.cmd_backup_online.proofs.Spools.{still_marks, spool_still, spool_waited}
 use Rattle.cmd_backup_online.proofs.online_backup.back_up_online.Goals as goal
 
 abbrev asked : Text → Control → BackupKind → Option Content → Option Nodes → ℕ → List LinkState → Option (List ℕ) → Option (List ℕ) → ℕ → ℕ → ℕ → Option Content → Asked
@@ -212,9 +217,16 @@ returns-clause-taken g c =
     let before = known_before stanza b s (beside_on stanza b t s c.talk.ensures.beside (subst (λ (k : Text). StaysBeside k t s) x.draft.later.stanza_is c.end_backup.ensures.beside)) in
     let law = g.met.D.Disk.now_may_be_left c.wait.new.repo in
     let room = has_room stanza c.args.task.stanza.control.now c.args.task.stanza.archive.now c.args.task.stanza.backup a.now c.requires.archive c.requires.backup list c.in-Ok.ensures.settled c.in-Ok.ensures.of c.in-Ok.ensures.room in
+    let clock = g.C.Clock.state c.args.clock.now in
+    let mid = g.C.Clock.state c.prepare.new.clock in
+    let late = g.C.Clock.state c.talk.new.clock in
+    let last = g.C.Clock.state c.end_backup.new.clock in
+    let began = subst (λ (n : ℕ). ShowsSecond n clock mid) (sym c.in_ok-gathered.ensures.begins ∙ x.draft.later.start) c.in-Ok.ensures.shows in
+    let shown = shown_on x.draft.second clock mid late c.talk.ensures.least began in
     taken_online stanza c.args.task.stanza.control.now c.args.task.order.later a b looks.now list room (g.met.D.Disk.now_may_be_left c.prepare.new.repo) files from nodes d x.draft used now (left_comes used now [] c.prepare.new.pool.lost.items c.in-Ok.ensures.left) x.planned x.now comes received_reply s w e leaves before law
-    account account2 spool spool2 c.in_ok-wait.ensures.went o c.in_ok-gathered.ensures.known x.free arrived (string_bytes c.in_ok-gathered.gathered.lines) x.named.lines_are p.made p.ended p.end c.conclude.result p.is
-    (outcome_following stanza d x.draft.later.stanza_is (Some o) x.now ends account s w e spool spool2 p.made p.outcome staged)
+    account account2 spool spool2 c.in_ok-wait.ensures.went o c.in_ok-gathered.ensures.known x.free arrived (string_bytes c.in_ok-gathered.gathered.lines) x.named.lines_are clock late last shown p.made p.ended p.end c.conclude.result p.is
+    (stops_following c.conclude.result stanza d x.draft.later.stanza_is (Some o) x.now ends account s w e spool spool2 late last
+    (stops_staged d c.in_ok-gathered.gathered.fetched (Some o) c.in_ok-closed.closed refl c.in_ok-closed.ensures.of late last c.in_ok-closed.ensures.shows (g.D.Disk.state c.wait.new.repo) (g.D.Disk.state c.conclude.new.repo) c.conclude.result c.conclude.ensures.stops) staged)
     (published d c.in_ok-gathered.gathered.fetched (Some o) c.in_ok-closed.closed refl c.in_ok-closed.ensures.of (λ q y es. OnOk c.conclude.result (IsSome w.now → IfSome e.now (AgreeAt (main_of q)))) c.conclude.ensures.alike)
 
 pub returns-in-Err-clause-cause : goal.returns-in-Err-clause-cause
@@ -376,74 +388,34 @@ returns-clause-ended g c = ended_before _ _ _ (starting c.args.task.order.user.n
 
 pub returns-in-Err-clause-marks : goal.returns-in-Err-clause-marks
 returns-in-Err-clause-marks g c =
-    let stanza = c.args.task.stanza.name.now in
-    let a = (g.D.Disk.state c.args.repo.now).view in
     let account = (g.A.OtherProcesses.state c.args.processes.now).account in
-    let spool = (g.S.Disk.state c.args.spool.now).view in
-    still_marks stanza _ account account refl a spool
+    still_marks c.args.task.stanza.name.now _ account account refl (g.D.Disk.state c.args.repo.now).view (g.S.Disk.state c.args.spool.now).view
 
 pub returns-in_err-gathered-clause-marks : goal.returns-in_err-gathered-clause-marks
 returns-in_err-gathered-clause-marks g c =
-    let stanza = c.args.task.stanza.name.now in
-    let a = (g.D.Disk.state c.args.repo.now).view in
     let account = (g.A.OtherProcesses.state c.args.processes.now).account in
-    let spool = (g.S.Disk.state c.args.spool.now).view in
-    still_marks stanza _ account account refl a spool
+    still_marks c.args.task.stanza.name.now _ account account refl (g.D.Disk.state c.args.repo.now).view (g.S.Disk.state c.args.spool.now).view
 
 pub returns-in_err-closed-clause-marks : goal.returns-in_err-closed-clause-marks
 returns-in_err-closed-clause-marks g c =
-    let stanza = c.args.task.stanza.name.now in
-    let a = (g.D.Disk.state c.args.repo.now).view in
     let account = (g.A.OtherProcesses.state c.args.processes.now).account in
-    let spool = (g.S.Disk.state c.args.spool.now).view in
-    still_marks stanza _ account account refl a spool
+    still_marks c.args.task.stanza.name.now _ account account refl (g.D.Disk.state c.args.repo.now).view (g.S.Disk.state c.args.spool.now).view
 
 pub returns-in_err-wait-clause-marks : goal.returns-in_err-wait-clause-marks
 returns-in_err-wait-clause-marks g c =
-    let stanza = c.args.task.stanza.name.now in
-    let a = (g.D.Disk.state c.args.repo.now).view in
-    let account = (g.A.OtherProcesses.state c.args.processes.now).account in
-    let spool = (g.S.Disk.state c.args.spool.now).view in
-    let b = (g.D.Disk.state c.prepare.new.repo).view in
-    let looks = c.prepare.ensures.looks in
-    let nodes = (g.T.DataFolder.state c.args.tree.now).nodes in
-    let list = backup_info_of c.in-Ok.prepared.next.list in
-    let files = map file_entry_of c.files_of-old.result.now in
-    let from = begins_from stanza c.args.task.order.later c.args.task.stanza.archive.now c.args.task.stanza.backup a.now b.now looks.now c.requires.archive c.requires.backup list c.in-Ok.ensures.settled (option_map manifest_of c.in-Ok.prepared.base) c.in-Ok.ensures.base files c.files_of-old.ensures in
-    let t = (g.D.Disk.state c.talk.new.repo).view in
-    let s = (g.D.Disk.state c.end_backup.new.repo).view in
-    let x = c.in_ok-gathered.ensures.gathered in
-    let d = fetched_draft c.in_ok-gathered.gathered.fetched in
-    let begins = begins_of stanza c.args.task.order.later nodes list files d x.draft b (g.met.D.Disk.now_may_be_left c.prepare.new.repo) from in
-    let leaves = leaves_after d (apart d x.draft.is_draft) b t s x.unlisted c.end_backup.ensures.unlisted in
-    let w = (g.D.Disk.state c.wait.new.repo).view in
-    let account2 = (g.A.OtherProcesses.state c.wait.new.others).account in
-    let spool2 = (g.S.Disk.state c.wait.new.spool).view in
-    waited_marks a b s w looks.time looks.now d begins leaves account account2 spool spool2 stanza x.draft.later.stanza_is false _
+    waited_receipts c.args.task c.in-Ok.prepared (g.D.Disk.state c.args.repo.now) (g.D.Disk.state c.prepare.new.repo) c.prepare.ensures.looks c.requires.archive c.requires.backup c.in-Ok.ensures.settled c.in-Ok.ensures.base
+    (map file_entry_of c.files_of-old.result.now) c.files_of-old.ensures _ (fetched_draft c.in_ok-gathered.gathered.fetched) c.in_ok-gathered.ensures.gathered.draft (g.met.D.Disk.now_may_be_left c.prepare.new.repo)
+    (g.D.Disk.state c.talk.new.repo).view (g.D.Disk.state c.end_backup.new.repo).view (g.D.Disk.state c.wait.new.repo).view c.in_ok-gathered.ensures.gathered.unlisted c.end_backup.ensures.unlisted
+    false (g.A.OtherProcesses.state c.args.processes.now).account (g.A.OtherProcesses.state c.wait.new.others).account (g.S.Disk.state c.args.spool.now).view (g.S.Disk.state c.wait.new.spool).view _
     (λ at. absurd (not_end c.from_residual-in_err-wait.result c.in_err-wait.field-0.0 c.from_residual-in_err-wait.ensures.1 at)) c.in_err-wait.ensures.went
 
 pub returns-clause-marks : goal.returns-clause-marks
 returns-clause-marks g c =
-    let stanza = c.args.task.stanza.name.now in
-    let a = (g.D.Disk.state c.args.repo.now).view in
-    let account = (g.A.OtherProcesses.state c.args.processes.now).account in
-    let spool = (g.S.Disk.state c.args.spool.now).view in
-    let b = (g.D.Disk.state c.prepare.new.repo).view in
-    let looks = c.prepare.ensures.looks in
-    let nodes = (g.T.DataFolder.state c.args.tree.now).nodes in
-    let list = backup_info_of c.in-Ok.prepared.next.list in
-    let files = map file_entry_of c.files_of-old.result.now in
-    let from = begins_from stanza c.args.task.order.later c.args.task.stanza.archive.now c.args.task.stanza.backup a.now b.now looks.now c.requires.archive c.requires.backup list c.in-Ok.ensures.settled (option_map manifest_of c.in-Ok.prepared.base) c.in-Ok.ensures.base files c.files_of-old.ensures in
-    let t = (g.D.Disk.state c.talk.new.repo).view in
-    let s = (g.D.Disk.state c.end_backup.new.repo).view in
-    let x = c.in_ok-gathered.ensures.gathered in
-    let d = fetched_draft c.in_ok-gathered.gathered.fetched in
-    let begins = begins_of stanza c.args.task.order.later nodes list files d x.draft b (g.met.D.Disk.now_may_be_left c.prepare.new.repo) from in
-    let leaves = leaves_after d (apart d x.draft.is_draft) b t s x.unlisted c.end_backup.ensures.unlisted in
-    let w = (g.D.Disk.state c.wait.new.repo).view in
-    let account2 = (g.A.OtherProcesses.state c.wait.new.others).account in
-    let spool2 = (g.S.Disk.state c.wait.new.spool).view in
-    waited_marks a b s w looks.time looks.now d begins leaves account account2 spool spool2 stanza x.draft.later.stanza_is true _ (λ at. refl) c.in_ok-wait.ensures.went
+    waited_receipts c.args.task c.in-Ok.prepared (g.D.Disk.state c.args.repo.now) (g.D.Disk.state c.prepare.new.repo) c.prepare.ensures.looks c.requires.archive c.requires.backup c.in-Ok.ensures.settled c.in-Ok.ensures.base
+    (map file_entry_of c.files_of-old.result.now) c.files_of-old.ensures _ (fetched_draft c.in_ok-gathered.gathered.fetched) c.in_ok-gathered.ensures.gathered.draft (g.met.D.Disk.now_may_be_left c.prepare.new.repo)
+    (g.D.Disk.state c.talk.new.repo).view (g.D.Disk.state c.end_backup.new.repo).view (g.D.Disk.state c.wait.new.repo).view c.in_ok-gathered.ensures.gathered.unlisted c.end_backup.ensures.unlisted
+    true (g.A.OtherProcesses.state c.args.processes.now).account (g.A.OtherProcesses.state c.wait.new.others).account (g.S.Disk.state c.args.spool.now).view (g.S.Disk.state c.wait.new.spool).view _
+    (λ at. refl) c.in_ok-wait.ensures.went
 
 pub returns-in-Err-clause-spool_beside : goal.returns-in-Err-clause-spool_beside
 returns-in-Err-clause-spool_beside g c = spool_still c.args.task.stanza.name.now (g.A.OtherProcesses.state c.args.processes.now).account (g.S.Disk.state c.args.spool.now).view
@@ -473,3 +445,38 @@ pub talk-requires-clause-old : goal.talk-requires-clause-old
 talk-requires-clause-old g c =
     let base = base_in c.args.task.order.later.kind (backup_info_of c.in-Ok.prepared.next.list) in
     subst (λ (es : List FileEntry). MayBase base es) (sym c.files_of-old.ensures) (may_base c.args.task.stanza.name.now (g.D.Disk.state c.args.repo.now).view.now base (option_map manifest_of c.in-Ok.prepared.base) c.in-Ok.ensures.base)
+
+-- ---- what is touched
+
+pub returns-in-Err-clause-only : goal.returns-in-Err-clause-only
+returns-in-Err-clause-only g c =
+    let stanza = c.args.task.stanza.name.now in
+    let a = (g.D.Disk.state c.args.repo.now).view in
+    let looks = c.prepare.ensures.looks in
+    by_account (g.A.OtherProcesses.state c.args.processes.now).account (λ (k : Account). k.stanza ≡ stanza → TouchesOneOf stanza (IsOfRunning stanza) a (g.D.Disk.state c.prepare.new.repo).view) (λ k at of. inl (record { now = looks.now; time = looks.time }))
+
+pub returns-in_err-gathered-clause-only : goal.returns-in_err-gathered-clause-only
+returns-in_err-gathered-clause-only g c =
+    talked_names c.args.task c.in-Ok.prepared (g.D.Disk.state c.args.repo.now) (g.D.Disk.state c.prepare.new.repo) c.prepare.ensures.looks c.requires.archive c.requires.backup c.in-Ok.ensures.settled c.in-Ok.ensures.base
+    c.in-Ok.ensures.valid c.in-Ok.ensures.next (g.D.Disk.state c.talk.new.repo).view c.talk.ensures.only (g.A.OtherProcesses.state c.args.processes.now).account
+
+pub returns-in_err-closed-clause-only : goal.returns-in_err-closed-clause-only
+returns-in_err-closed-clause-only g c =
+    closed_names c.args.task c.in-Ok.prepared (g.D.Disk.state c.args.repo.now) (g.D.Disk.state c.prepare.new.repo) c.prepare.ensures.looks c.requires.archive c.requires.backup c.in-Ok.ensures.settled c.in-Ok.ensures.base
+    c.in-Ok.ensures.valid c.in-Ok.ensures.next (g.D.Disk.state c.talk.new.repo).view c.talk.ensures.only
+    _ _ (fetched_draft c.in_ok-gathered.gathered.fetched) c.in_ok-gathered.ensures.gathered.draft c.in_ok-gathered.ensures.begins (g.D.Disk.state c.end_backup.new.repo).view c.end_backup.ensures.only (g.A.OtherProcesses.state c.args.processes.now).account
+
+pub returns-in_err-wait-clause-only : goal.returns-in_err-wait-clause-only
+returns-in_err-wait-clause-only g c =
+    waited_names c.args.task c.in-Ok.prepared (g.D.Disk.state c.args.repo.now) (g.D.Disk.state c.prepare.new.repo) c.prepare.ensures.looks c.requires.archive c.requires.backup c.in-Ok.ensures.settled c.in-Ok.ensures.base
+    c.in-Ok.ensures.valid c.in-Ok.ensures.next (g.D.Disk.state c.talk.new.repo).view c.talk.ensures.only
+    _ _ (fetched_draft c.in_ok-gathered.gathered.fetched) c.in_ok-gathered.ensures.gathered.draft c.in_ok-gathered.ensures.begins (g.D.Disk.state c.end_backup.new.repo).view c.end_backup.ensures.only
+    false (g.A.OtherProcesses.state c.args.processes.now).account (g.A.OtherProcesses.state c.wait.new.others).account (g.D.Disk.state c.wait.new.repo).view (g.S.Disk.state c.args.spool.now).view (g.S.Disk.state c.wait.new.spool).view c.in_err-wait.ensures.went
+
+pub returns-clause-only : goal.returns-clause-only
+returns-clause-only g c =
+    listed_names c.args.task c.in-Ok.prepared (g.D.Disk.state c.args.repo.now) (g.D.Disk.state c.prepare.new.repo) c.prepare.ensures.looks c.requires.archive c.requires.backup c.in-Ok.ensures.settled c.in-Ok.ensures.base
+    c.in-Ok.ensures.valid c.in-Ok.ensures.next (g.D.Disk.state c.talk.new.repo).view c.talk.ensures.only
+    _ _ (fetched_draft c.in_ok-gathered.gathered.fetched) c.in_ok-gathered.ensures.gathered.draft c.in_ok-gathered.ensures.begins (g.D.Disk.state c.end_backup.new.repo).view c.end_backup.ensures.only
+    true (g.A.OtherProcesses.state c.args.processes.now).account (g.A.OtherProcesses.state c.wait.new.others).account (g.D.Disk.state c.wait.new.repo).view (g.S.Disk.state c.args.spool.now).view (g.S.Disk.state c.wait.new.spool).view c.in_ok-wait.ensures.went
+    (g.D.Disk.state c.conclude.new.repo).view (closed_draft c.in_ok-closed.closed) c.in_ok-closed.ensures.of.draft_is c.conclude.ensures.only

@@ -1,16 +1,21 @@
-use Rattle.std.proofs.Common.{◌≡◌, ◌<◌, ◌^◌, List, map, length, sym, subst}
+use Rattle.std.proofs.Common.{◌≡◌, ◌<◌, ◌^◌, ◌∙◌, List, ap, map, length, sym, subst}
 use Rattle.base_devices.specs.Cause.{Rises}
-use Rattle.base_model.specs.declared.labels.Label.{Label}
 use Rattle.base_model.specs.InfoFiles.{IsLabel}
 use Rattle.base_model.specs.Values.{backup_info_of, file_entry_of}
 use Rattle.backup_plan.specs.Views.{seen_of}
+use Rattle.backup_make.specs.declared.draft.Draft.{Draft}
+use Rattle.backup_make.specs.Touched.{IsOfBackup}
+use Rattle.backup_make.proofs.Touched.{touched_none}
 use Rattle.cmd_types.specs.Halts.{HaltCause}
+use Rattle.cmd_backup_common.specs.Priors.{made_label}
 use Rattle.cmd_backup_common.proofs.Beginnings.{ends_with}
+use Rattle.cmd_backup_offline.specs.Basing.{base_in}
 use Rattle.worker_pool.specs.declared.dispatch.fault.Lost.{Lost}
 use Rattle.cmd_backup_online.specs.Drafting.{IsDraftFrom}
 use Rattle.cmd_backup_online.specs.Gathering.{Begun, GatherCause}
 use Rattle.cmd_backup_online.proofs.Finishings.{halt_of_draft}
 use Rattle.cmd_backup_online.proofs.Gatherings.{OrTree, is_gathered, list_stops, fetch_stops}
+use Rattle.cmd_backup_online.proofs.Touchings.{touched_as}
 use Rattle.cmd_backup_online.proofs.online_read.gather.Goals as goal
 
 pub returns-in-Ok-clause-gathered : goal.returns-in-Ok-clause-gathered
@@ -74,3 +79,36 @@ returns-in_err-seen-clause-cause g c =
     let clock = Rises (g.C.Clock.state c.args.clock.now).faults (g.C.Clock.state c.list_folder.new.clock).faults in
     ends_with (HaltCause (GatherCause b.stanza.now b.order nodes list files links before) (OrTree repo tree clock)) c.from_residual.result c.in_err-seen.field-0.0 c.from_residual.ensures.1
     (list_stops b.stanza.now b.order nodes list files links before repo tree clock c.in_err-seen.field-0.0 c.in_err-seen.ensures.cause)
+
+-- ---- when it begins
+
+pub returns-in-Ok-clause-begins : goal.returns-in-Ok-clause-begins
+returns-in-Ok-clause-begins g c = ap (λ (d : Draft). d.start) c.in-Ok.ensures.of ∙ c.in_ok-draft.ensures.later.start
+
+-- ---- what is touched
+
+pub returns-in_err-seen-clause-only : goal.returns-in_err-seen-clause-only
+returns-in_err-seen-clause-only g c =
+    let b = c.args.task.basis in
+    let label = made_label b.order.kind (base_in b.order.kind (backup_info_of c.args.task.next.list)) c.args.task.next.second in
+    touched_none (IsOfBackup b.stanza.now label) (g.D.Disk.state c.args.repo.now).view
+
+pub returns-in_err-draft-clause-only : goal.returns-in_err-draft-clause-only
+returns-in_err-draft-clause-only g c =
+    let b = c.args.task.basis in
+    let label = made_label b.order.kind (base_in b.order.kind (backup_info_of c.args.task.next.list)) c.args.task.next.second in
+    touched_none (IsOfBackup b.stanza.now label) (g.D.Disk.state c.args.repo.now).view
+
+pub returns-in-Ok-clause-only : goal.returns-in-Ok-clause-only
+returns-in-Ok-clause-only g c =
+    let b = c.args.task.basis in
+    let label = made_label b.order.kind (base_in b.order.kind (backup_info_of c.args.task.next.list)) c.args.task.next.second in
+    let later = c.in_ok-draft.ensures.later in
+    touched_as b.stanza.now label c.in_ok-draft.draft.draft later.stanza_is later.label (g.D.Disk.state c.args.repo.now).view (g.D.Disk.state c.fetch_running.new.d).view c.fetch_running.ensures.only
+
+pub returns-clause-only : goal.returns-clause-only
+returns-clause-only g c =
+    let b = c.args.task.basis in
+    let label = made_label b.order.kind (base_in b.order.kind (backup_info_of c.args.task.next.list)) c.args.task.next.second in
+    let later = c.in_ok-draft.ensures.later in
+    touched_as b.stanza.now label c.in_ok-draft.draft.draft later.stanza_is later.label (g.D.Disk.state c.args.repo.now).view (g.D.Disk.state c.fetch_running.new.d).view c.fetch_running.ensures.only

@@ -6,6 +6,10 @@ use Rattle.cmd_types.specs.declared.stages.object.Object.TheVariants as objects
 use Rattle.cmd_types.specs.Halts.{HaltCause, Only}
 use Rattle.cmd_backup_common.proofs.Beginnings.{ends_with, halt_as}
 use Rattle.backup_make.specs.Staged.{fetched_draft}
+use Rattle.backup_make.specs.Touched.{IsOfBackup}
+use Rattle.backup_make.proofs.Touched.{touched_none}
+use Rattle.cmd_backup_common.specs.Priors.{made_label}
+use Rattle.cmd_backup_offline.specs.Basing.{base_in}
 use Rattle.cmd_backup_online.specs.Gathering.{Begun}
 use Rattle.cmd_backup_online.specs.Talking.{SpokenCause}
 use Rattle.cmd_backup_online.specs.Modelled.{OfTalk}
@@ -41,3 +45,9 @@ returns-in_err-online-clause-cause g c =
     ends_with (HaltCause (SpokenCause stanza order nodes list files links before c.args.task.system old.pending new.pending) (OrServer repo tree rose clock)) c.from_residual.result c.in_err-online.field-0.0 c.from_residual.ensures.1
     (not_stopped stanza order nodes list files links before c.args.task.system old.pending new.pending repo tree rose clock c.in-Ok.begun mid.pending c.in-Ok.ensures.known c.in_err-online.field-0.0
     (halt_as Why Why (Only objects.Server (Rises mid.faults new.faults)) (Only objects.Server rose) (λ e h. h) (server_from old.faults mid.faults new.faults c.start.ensures.later) c.in_err-online.field-0.0 c.in_err-online.ensures.cause))
+
+pub returns-in-Err-clause-only : goal.returns-in-Err-clause-only
+returns-in-Err-clause-only g c =
+    let b = c.args.task.basis in
+    let label = made_label b.order.kind (base_in b.order.kind (backup_info_of c.args.task.next.list)) c.args.task.next.second in
+    touched_none (IsOfBackup b.stanza.now label) (g.D.Disk.state c.args.repo.now).view

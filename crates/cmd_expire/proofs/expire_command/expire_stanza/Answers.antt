@@ -1,9 +1,10 @@
 use Rattle.std.proofs.Common.{inr}
-use Rattle.base_model.specs.Values.{backup_info_of}
+use Rattle.base_model.specs.Values.{archive_info_of, backup_info_of}
 use Rattle.expire_make.proofs.Alike.{always}
+use Rattle.expire_make.proofs.Planned.{have_list}
 use Rattle.expire_make.proofs.Spelled.{fits_less, unfits}
 use Rattle.cmd_expire.proofs.Moments.{shown_in}
-use Rattle.cmd_expire.proofs.Prunings.{has_list, undone}
+use Rattle.cmd_expire.proofs.Prunings.{undone}
 use Rattle.cmd_expire.proofs.expire_command.expire_stanza.Goals as goal
 
 pub returns-in_err-list-clause-pruned : goal.returns-in_err-list-clause-pruned
@@ -15,7 +16,7 @@ returns-in_err-moment-clause-pruned g c = undone c.args.stanza.now c.args.rules.
     (g.D.Disk.state c.args.repo.now).view c.from_residual-in_err-moment.result c.in_err-moment.field-0.0 c.from_residual-in_err-moment.ensures.1
 
 pub expire_at-requires-clause-list : goal.expire_at-requires-clause-list
-expire_at-requires-clause-list g c = has_list c.args.stanza.now (g.D.Disk.state c.args.repo.now).view.now c.args.pairs.archive c.args.pairs.backup c.in_ok-list.list c.requires.archive c.requires.backup c.in_ok-list.ensures.settled
+expire_at-requires-clause-list g c = have_list c.args.stanza.now (g.D.Disk.state c.args.repo.now).view.now (archive_info_of c.args.pairs.archive) (backup_info_of c.args.pairs.backup) (backup_info_of c.in_ok-list.list) c.requires.archive.0 c.requires.backup.0 c.in_ok-list.ensures.settled
 
 pub expire_at-requires-clause-within : goal.expire_at-requires-clause-within
 expire_at-requires-clause-within g c = fits_less (backup_info_of c.args.pairs.backup) (backup_info_of c.in_ok-list.list) c.in_ok-list.ensures.shorter (unfits (backup_info_of c.args.pairs.backup) c.requires.fits)

@@ -1,7 +1,7 @@
-use Rattle.std.proofs.Common.{◌≡◌, ◌∙◌, subst, map, take}
+use Rattle.std.proofs.Common.{◌≡◌, ◌∙◌, ap, subst, map, take}
 use Rattle.std.specs.Prelude.{IfSome}
 use Rattle.std.proofs.lemmas.Result.{on_ok_weaker}
-use Rattle.base_model.specs.Restored.{Recovery}
+use Rattle.restore_make.specs.Recovered.{Recovery}
 use Rattle.base_model.specs.Values.{manifest_of}
 use Rattle.restore_make.specs.Options.{Options, recovery_of}
 use Rattle.restore_make.specs.Finished.{IsFinished}
@@ -20,7 +20,7 @@ returns-clause-finished g c =
     let now = map g.L.Link.link_state c.start_workers.new.pool.links.items in
     let old = (g.T.DataFolder.state c.args.tree.now).nodes in
     let new = (g.T.DataFolder.state c.put_files.new.tree).nodes in
-    let is : recovery_of c.recovery_by.result ≡ recovery_by stanza kind = c.recovery_by.ensures ∙ recovery_is stanza kind c.deref.result.now (c.deref.ensures.value ∙ c.in-Ok.ensures) in
+    let is : recovery_of c.recovery_by.result ≡ recovery_by stanza kind = c.recovery_by.ensures ∙ recovery_is stanza kind c.deref.result.now (map (λ line. line.items) c.deref-2.result.now) (c.deref.ensures.value ∙ c.in-Ok.ensures) (ap (map (λ line. line.items)) c.deref-2.ensures.value ∙ c.in-Ok-settings_for.ensures) in
     on_ok_weaker c.put_files.result
     (λ done. finished_used stanza used now c.start_workers.new.pool.lost.items (options_by stanza delta kind) m old new c.in_ok-start_workers.ensures.left
     (subst (λ (r : Recovery). let o : Options = (record { delta = delta; recovery = r }) in IfSome new (IsFinished stanza now o m old)) is done))

@@ -3,7 +3,7 @@ use Rattle.std.specs.List.{list_any}
 use Rattle.std.proofs.lemmas.Result.{IfErr-weaker}
 use Rattle.restore_steps.specs.Clearing.{seen_of}
 use Rattle.cmd_restore.specs.Looking.{server_path, HoldingCause, SeenCause}
-use Rattle.cmd_restore.proofs.Halts.{halt_as}
+use Rattle.restore_choice.proofs.Halts.{halt_as}
 use Rattle.cmd_restore.proofs.Listings.{is_at, path_in, path_not_in, not_running}
 use Rattle.cmd_restore.proofs.folder_listing.check_folder.Goals as goal
 

@@ -5,7 +5,7 @@ use Rattle.restore_steps.specs.Clearing.{seen_of}
 use Rattle.cmd_types.specs.declared.stages.object.Object.TheVariants.{TheDataFolder}
 use Rattle.cmd_types.specs.Halts.{HaltCause, Only}
 use Rattle.cmd_restore.specs.Looking.{IsSeenOpen, FolderCause, SeenCause}
-use Rattle.cmd_restore.proofs.Halts.{halt_as, ends_with, none_failed}
+use Rattle.restore_choice.proofs.Halts.{halt_as, ends_with, none_failed}
 use Rattle.cmd_restore.proofs.Listings.{opened, seen_cause}
 use Rattle.cmd_restore.proofs.folder_listing.look.Goals as goal
 

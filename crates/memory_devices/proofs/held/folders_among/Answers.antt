@@ -1,4 +1,4 @@
-use Rattle.std.proofs.Common.{◌≡◌, ◌≢◌, ◌∷◌, ◌++◌, Some, None, List, take, map, length, string_bytes, sym, ◌∙◌, ap, subst}
+use Rattle.std.proofs.Common.{List, map, string_bytes, ◌∙◌, subst}
 use Rattle.std.proofs.lemmas.List.{take_all}
 use Rattle.base_devices.specs.declared.disk.Found.{Found}
 use Rattle.memory_devices.proofs.Through.{AreThrough, through_known, through_passed, are_folders}

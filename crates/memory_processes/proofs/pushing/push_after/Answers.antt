@@ -9,9 +9,11 @@ use Rattle.memory_processes.proofs.Pushed.{turn_by, has_by, turn_none, went_turn
 use Rattle.memory_processes.proofs.pushing.push_after.Goals as goal
 
 pub returns-in-Ok-true-clause-turn : goal.returns-in-Ok-true-clause-turn
-returns-in-Ok-true-clause-turn g c = went_turn c.args.stanza.now c.args.id c.args.segment c.args.bytes.now _ _ _ _ c.went_by.ensures
+returns-in-Ok-true-clause-turn g c =
+    let fits : (sum : Text) → IsSum sum → IsArchivePlace c.args.id (Whole c.args.segment) sum = search rules in
+    went_turn c.args.stanza.now c.args.id c.args.segment c.args.bytes.now _ _ _ _ c.went_by.ensures
     (turn_by c.args.stanza.now c.args.id c.args.before c.args.segment c.args.bytes.now _ _ _ c.may_push.ensures.looks.time c.may_push.ensures.looks.now c.in-Ok-true.ensures.begun c.in-Ok-true.ensures.fits (c.in-Ok-true.ensures.stored c.in-Ok-true.field-0-test)
-    c.push.ensures.leaves.part c.push.result c.push.ensures.file c.push.ensures.refused)
+    c.push.ensures.leaves.part fits c.push.result c.push.ensures.file c.push.ensures.new c.push.ensures.same c.push.ensures.refused)
 
 pub returns-in-Ok-true-clause-stored : goal.returns-in-Ok-true-clause-stored
 returns-in-Ok-true-clause-stored g c =

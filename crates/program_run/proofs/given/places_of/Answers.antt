@@ -1,6 +1,6 @@
 use Rattle.std.proofs.Common.{◌∙◌, ap}
 use Rattle.std.specs.Prelude.{[]}
-use Rattle.options_table.specs.Values.{is_stanza}
+use Rattle.base_model.specs.StanzaName.{is_stanza}
 use Rattle.options_read.specs.Filled.{or_else}
 use Rattle.program_run.proofs.InForce.{place_same}
 use Rattle.program_run.proofs.Names.{folders_fit}

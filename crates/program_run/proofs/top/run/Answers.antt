@@ -1,11 +1,11 @@
-use Rattle.std.proofs.Common.{◌≡◌, ap, sym, subst, ◌∙◌, map, string_bytes}
+use Rattle.std.proofs.Common.{ap, ◌∙◌, map, string_bytes}
 use Rattle.base_crash_lists.proofs.Beside.{keeps_others}
-use Rattle.program_run.specs.Asked.{asked, unbuilt}
+use Rattle.program_run.specs.Asked.{asked}
 use Rattle.program_run.specs.Ranges.{AsksNoServer, UsesNoSpool, UsesNoWorkers, IsOnRepository}
 use Rattle.program_run.proofs.Answered.{runs_on, runs_off}
 use Rattle.program_run.proofs.Each.{found, finishes, part_done, turns_back, fulfils, leaves_rest, opens_places, only_locked, completes, closes_talk}
 use Rattle.program_run.proofs.InForm.{command_in_form, asked_in_form}
-use Rattle.program_run.proofs.Unused.{only_unbuilt, all_asked, each_asked, some_as}
+use Rattle.program_run.proofs.Unused.{never_none, all_asked, each_asked}
 use Rattle.program_run.proofs.top.run.Goals as goal
 
 pub carry-requires-clause-form : goal.carry-requires-clause-form
@@ -72,12 +72,10 @@ pub returns-clause-closed : goal.returns-clause-closed
 returns-clause-closed g c = closes_talk (map string_bytes c.args.arguments.now) _ _ c.carry.result (returns-clause-answers g c)
 
 pub returns-clause-quiet : goal.returns-clause-quiet
-returns-clause-quiet g c = λ none. all_asked (map string_bytes c.args.arguments.now) (g.I.InputFiles.state c.args.outside.now.config).files c.in-Ok.command c.in-Ok.ensures.command AsksNoServer _ c.carry.ensures.quiet
-    (λ s is. some_as (unbuilt s) _ _ (λ e. ap (λ o. o.server) e) (c.carry.ensures.unbuilt s is)) none
+returns-clause-quiet g c = λ none. all_asked (map string_bytes c.args.arguments.now) (g.I.InputFiles.state c.args.outside.now.config).files c.in-Ok.command c.in-Ok.ensures.command AsksNoServer _ c.carry.ensures.quiet none
 
 pub returns-clause-untouched : goal.returns-clause-untouched
-returns-clause-untouched g c = λ none. all_asked (map string_bytes c.args.arguments.now) (g.I.InputFiles.state c.args.outside.now.config).files c.in-Ok.command c.in-Ok.ensures.command UsesNoSpool _ c.carry.ensures.waits
-    (λ s is. some_as (unbuilt s) _ _ (λ e. (ap (λ o. o.spool) e, ap (λ o. o.processes) e)) (c.carry.ensures.unbuilt s is)) none
+returns-clause-untouched g c = λ none. all_asked (map string_bytes c.args.arguments.now) (g.I.InputFiles.state c.args.outside.now.config).files c.in-Ok.command c.in-Ok.ensures.command UsesNoSpool _ c.carry.ensures.waits none
 
 pub returns-clause-unused : goal.returns-clause-unused
 returns-clause-unused g c = λ s asks on. each_asked (map string_bytes c.args.arguments.now) (g.I.InputFiles.state c.args.outside.now.config).files c.in-Ok.command c.in-Ok.ensures.command IsOnRepository _ s c.carry.ensures.unused asks on
@@ -86,10 +84,7 @@ pub returns-clause-alone : goal.returns-clause-alone
 returns-clause-alone g c = λ s asks off. each_asked (map string_bytes c.args.arguments.now) (g.I.InputFiles.state c.args.outside.now.config).files c.in-Ok.command c.in-Ok.ensures.command UsesNoWorkers _ s c.carry.ensures.alone asks off
 
 pub returns-clause-unasked : goal.returns-clause-unasked
-returns-clause-unasked g c = λ none.
-    let o = c.args.outside.now in
-    let e = only_unbuilt (map string_bytes c.args.arguments.now) (g.I.InputFiles.state o.config).files c.in-Ok.command c.in-Ok.ensures.command _ c.carry.ensures.unbuilt none in
-    subst (λ i. c.carry.new.outside ≡ record { repo = o.repo; spool = o.spool; tree = o.tree; server = o.server; processes = o.processes; clock = o.clock; locks = o.locks; config = i; out = c.carry.new.outside.out; pool = o.pool }) (ap (λ x. x.config) (sym e)) e
+returns-clause-unasked g c = λ none. never_none (map string_bytes c.args.arguments.now) (g.I.InputFiles.state c.args.outside.now.config).files c.in-Ok.command c.in-Ok.ensures.command none
 
 pub returns-in-Err-clause-others : goal.returns-in-Err-clause-others
 returns-in-Err-clause-others g c = λ s asks.

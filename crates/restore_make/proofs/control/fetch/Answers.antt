@@ -17,7 +17,7 @@ write_files-requires-clause-jobs g c =
     let own = c.args.file.now.own.now in
     let e = file_entry_of c.args.file.now.entry.now in
     let j = reading stanza own e in
-    let w : Wanted = record { path = c.args.path; size = c.args.file.now.entry.now.size; sum = c.args.file.now.entry.now.sum } in
+    let w : Wanted = record { path = c.args.path; size = c.args.file.now.entry.now.size; sum = c.args.file.now.entry.now.sum; time = c.args.file.now.entry.now.time } in
     let list : map job_of c.deref.result.now ≡ j ∷ [] = ap (map job_of) (c.deref.ensures.value ∙ c.in_ok-push.ensures.items ∙ ap (λ l. l ++ c.in_ok-source_job.field-0 ∷ []) c.new-jobs.ensures.items) ∙ ap (λ (x : Job). x ∷ []) c.in_ok-source_job.ensures.job in
     subst (λ (js : List Job). AreJobsOf (w ∷ []) js) (sym list) (one_job w j (one_want e j w stanza own refl refl c.requires.some))
 
@@ -27,11 +27,11 @@ returns-in-Ok-clause-fetched g c =
     let own = c.args.file.now.own.now in
     let e = file_entry_of c.args.file.now.entry.now in
     let j = reading stanza own e in
-    let w : Wanted = record { path = c.args.path; size = c.args.file.now.entry.now.size; sum = c.args.file.now.entry.now.sum } in
+    let w : Wanted = record { path = c.args.path; size = c.args.file.now.entry.now.size; sum = c.args.file.now.entry.now.sum; time = c.args.file.now.entry.now.time } in
     let list : map job_of c.deref.result.now ≡ j ∷ [] = ap (map job_of) (c.deref.ensures.value ∙ c.in_ok-push.ensures.items ∙ ap (λ l. l ++ c.in_ok-source_job.field-0 ∷ []) c.new-jobs.ensures.items) ∙ ap (λ (x : Job). x ∷ []) c.in_ok-source_job.ensures.job in
     let links = map g.L.Link.link_state c.args.pool.now.links.items in
     let new = (g.T.DataFolder.state c.write_files.new.tree).nodes in
-    entry_fetched stanza own links e j w c.args.path.now new refl refl refl refl (c.in-Ok.ensures.fetched 0 j w (ap (λ (js : List Job). slice_get js 0) list) refl)
+    entry_fetched stanza own links e j w c.args.path.now new refl refl refl refl refl (c.in-Ok.ensures.fetched 0 j w (ap (λ (js : List Job). slice_get js 0) list) refl)
 
 pub returns-in-Ok-clause-alone : goal.returns-in-Ok-clause-alone
 returns-in-Ok-clause-alone g c =
@@ -39,7 +39,7 @@ returns-in-Ok-clause-alone g c =
     let own = c.args.file.now.own.now in
     let e = file_entry_of c.args.file.now.entry.now in
     let j = reading stanza own e in
-    let w : Wanted = record { path = c.args.path; size = c.args.file.now.entry.now.size; sum = c.args.file.now.entry.now.sum } in
+    let w : Wanted = record { path = c.args.path; size = c.args.file.now.entry.now.size; sum = c.args.file.now.entry.now.sum; time = c.args.file.now.entry.now.time } in
     let list : map job_of c.deref.result.now ≡ j ∷ [] = ap (map job_of) (c.deref.ensures.value ∙ c.in_ok-push.ensures.items ∙ ap (λ l. l ++ c.in_ok-source_job.field-0 ∷ []) c.new-jobs.ensures.items) ∙ ap (λ (x : Job). x ∷ []) c.in_ok-source_job.ensures.job in
     let links = map g.L.Link.link_state c.args.pool.now.links.items in
     let new = (g.T.DataFolder.state c.write_files.new.tree).nodes in
@@ -51,7 +51,7 @@ returns-clause-fault g c =
     let own = c.args.file.now.own.now in
     let e = file_entry_of c.args.file.now.entry.now in
     let j = reading stanza own e in
-    let w : Wanted = record { path = c.args.path; size = c.args.file.now.entry.now.size; sum = c.args.file.now.entry.now.sum } in
+    let w : Wanted = record { path = c.args.path; size = c.args.file.now.entry.now.size; sum = c.args.file.now.entry.now.sum; time = c.args.file.now.entry.now.time } in
     let list : map job_of c.deref.result.now ≡ j ∷ [] = ap (map job_of) (c.deref.ensures.value ∙ c.in_ok-push.ensures.items ∙ ap (λ l. l ++ c.in_ok-source_job.field-0 ∷ []) c.new-jobs.ensures.items) ∙ ap (λ (x : Job). x ∷ []) c.in_ok-source_job.ensures.job in
     let links = map g.L.Link.link_state c.args.pool.now.links.items in
     let left = map g.L.Link.link_state c.write_files.new.pool.links.items in
@@ -65,30 +65,30 @@ returns-clause-fault g c =
 
 pub returns-in-Ok-clause-proper : goal.returns-in-Ok-clause-proper
 returns-in-Ok-clause-proper g c = λ placed.
-    let w : Wanted = record { path = c.args.path; size = c.args.file.now.entry.now.size; sum = c.args.file.now.entry.now.sum } in
+    let w : Wanted = record { path = c.args.path; size = c.args.file.now.entry.now.size; sum = c.args.file.now.entry.now.sum; time = c.args.file.now.entry.now.time } in
     c.write_files.ensures.proper (one_housed w c.args.path.now (g.T.DataFolder.state c.args.tree.now).nodes refl placed)
 
 pub returns-clause-proper : goal.returns-clause-proper
 returns-clause-proper g c = λ placed.
-    let w : Wanted = record { path = c.args.path; size = c.args.file.now.entry.now.size; sum = c.args.file.now.entry.now.sum } in
+    let w : Wanted = record { path = c.args.path; size = c.args.file.now.entry.now.size; sum = c.args.file.now.entry.now.sum; time = c.args.file.now.entry.now.time } in
     c.write_files.ensures.proper (one_housed w c.args.path.now (g.T.DataFolder.state c.args.tree.now).nodes refl placed)
 
 pub returns-in_err-renamed-in-Err-clause-proper : goal.returns-in_err-renamed-in-Err-clause-proper
 returns-in_err-renamed-in-Err-clause-proper g c = λ placed.
-    let w : Wanted = record { path = c.args.path; size = c.args.file.now.entry.now.size; sum = c.args.file.now.entry.now.sum } in
+    let w : Wanted = record { path = c.args.path; size = c.args.file.now.entry.now.size; sum = c.args.file.now.entry.now.sum; time = c.args.file.now.entry.now.time } in
     c.write_files.ensures.proper (one_housed w c.args.path.now (g.T.DataFolder.state c.args.tree.now).nodes refl placed)
 
 pub returns-in-Ok-clause-others : goal.returns-in-Ok-clause-others
 returns-in-Ok-clause-others g c = λ q off off_temp.
-    let w : Wanted = record { path = c.args.path; size = c.args.file.now.entry.now.size; sum = c.args.file.now.entry.now.sum } in
+    let w : Wanted = record { path = c.args.path; size = c.args.file.now.entry.now.size; sum = c.args.file.now.entry.now.sum; time = c.args.file.now.entry.now.time } in
     c.write_files.ensures.others q (one_none w q off off_temp)
 
 pub returns-in_err-renamed-in-Err-clause-others : goal.returns-in_err-renamed-in-Err-clause-others
 returns-in_err-renamed-in-Err-clause-others g c = λ q off off_temp.
-    let w : Wanted = record { path = c.args.path; size = c.args.file.now.entry.now.size; sum = c.args.file.now.entry.now.sum } in
+    let w : Wanted = record { path = c.args.path; size = c.args.file.now.entry.now.size; sum = c.args.file.now.entry.now.sum; time = c.args.file.now.entry.now.time } in
     c.write_files.ensures.others q (one_none w q off off_temp)
 
 pub returns-clause-others : goal.returns-clause-others
 returns-clause-others g c = λ q off off_temp.
-    let w : Wanted = record { path = c.args.path; size = c.args.file.now.entry.now.size; sum = c.args.file.now.entry.now.sum } in
+    let w : Wanted = record { path = c.args.path; size = c.args.file.now.entry.now.size; sum = c.args.file.now.entry.now.sum; time = c.args.file.now.entry.now.time } in
     c.write_files.ensures.others q (one_none w q off off_temp)

@@ -1,4 +1,4 @@
-use Rattle.std.proofs.Common.{◌≡◌, ◌∙◌, sym, ap, subst, List, map, option_map, string_bytes}
+use Rattle.std.proofs.Common.{◌≡◌, ◌∙◌, true, sym, ap, subst, List, map, option_map, string_bytes}
 use Rattle.std.proofs.lemmas.Result.{on_ok_weaker}
 use Rattle.base_devices.specs.Order.{are_in_order}
 use Rattle.base_model.specs.ManifestText.{HasItsFolders}
@@ -9,6 +9,9 @@ use Rattle.restore_steps.proofs.Nodes.{none_at}
 use Rattle.restore_make.proofs.Plain.{bare_no_control}
 use Rattle.restore_make.proofs.Prepared.{are_placed, have_folders, then_folders}
 use Rattle.restore_make.proofs.data_files.prepare.Goals as goal
+
+pub begin_bare-requires : goal.begin_bare-requires
+begin_bare-requires g c = record { order = subst (λ (es : List FileEntry). are_in_order (map (λ (e : FileEntry). e.path) es) ≡ true) (sym (ap (map file_entry_of) c.deref-2.ensures.value)) c.requires.rules.file_order }
 
 pub returns-clause-control : goal.returns-clause-control
 returns-clause-control g c = λ was. none_at control_path (g.T.DataFolder.state c.make_folders.new.tree).nodes (g.T.DataFolder.state c.begin_bare.new.tree).nodes (c.begin_bare.ensures.others control_path (λ e i bare is. bare_no_control e bare (sym is))) (c.make_folders.ensures.control (c.clear.ensures.control was))

@@ -1,7 +1,7 @@
 use Rattle.std.proofs.Common.{◌∙◌, map, ◌++◌, []}
 use Rattle.std.proofs.lemmas.Result.{on_ok_weaker, IfErr-weaker}
 use Rattle.base_model.specs.Values.{manifest_of}
-use Rattle.restore_make.specs.Options.{options_of}
+use Rattle.restore_make.specs.Options.{options_of, recovery_of}
 use Rattle.restore_make.proofs.Failing.{fails_before, fails_later}
 use Rattle.restore_make.proofs.Fetched.{on_err, on_err_more}
 use Rattle.worker_pool.proofs.Links.{left_beyond}
@@ -46,5 +46,5 @@ returns-clause-none g c = on_err_more c.put_last.result _ _ (λ stays was. stays
 
 pub returns-clause-proper : goal.returns-clause-proper
 returns-clause-proper g c = λ there.
-    c.put_last.ensures.proper (folders_beside_settings (manifest_of c.args.what.now.manifest.now) c.requires.rules (g.T.DataFolder.state c.args.tree.now).nodes (g.T.DataFolder.state c.add_settings.new.tree).nodes c.add_settings.ensures.others there)
+    c.put_last.ensures.proper (folders_beside_settings (manifest_of c.args.what.now.manifest.now) c.requires.rules (recovery_of c.args.what.now.options.recovery) (g.T.DataFolder.state c.args.tree.now).nodes (g.T.DataFolder.state c.add_settings.new.tree).nodes c.add_settings.ensures.others there)
     ∙ c.add_settings.ensures.proper

@@ -18,6 +18,16 @@ find_kept-requires-clause-entries g c = λ e i.
 pub put_rest-requires-clause-ready : goal.put_rest-requires-clause-ready
 put_rest-requires-clause-ready g c = λ i s is. (c.in_ok-marks.ensures.left.each i s is).ready
 
+pub put_rest-requires-clause-marks : goal.put_rest-requires-clause-marks
+put_rest-requires-clause-marks g c =
+    let m = manifest_of c.args.what.now.manifest.now in
+    let o = options_of c.args.what.now.options in
+    let seen = map seen_of c.args.what.now.seen.now in
+    let links = map g.L.Link.link_state c.args.pool.now.links.items in
+    let files : map file_entry_of c.deref.result.now ≡ m.files = ap (map file_entry_of) c.deref.ensures.value in
+    let alike = subst (λ (es : List FileEntry). AllAlike links o seen es c.deref-2.result.now) files (subst (λ (ms : List Bool). AllAlike links o seen (map file_entry_of c.deref.result.now) ms) (sym c.deref-2.ensures.value) c.in_ok-marks.ensures.alike) in
+    λ e i. let x = alike e i in (x.ordinary, x.shown)
+
 pub returns-clause-finished : goal.returns-clause-finished
 returns-clause-finished g c =
     let m = manifest_of c.args.what.now.manifest.now in

@@ -1,6 +1,6 @@
 use Rattle.std.proofs.Common.{refl, map, Some}
 use Rattle.std.proofs.lemmas.Result.{IfOk-weaker, IfErr-weaker}
-use Rattle.base_model.specs.Restored.{conf_path}
+use Rattle.restore_make.specs.Recovered.{conf_path}
 use Rattle.base_model.specs.Values.{file_entry_of}
 use Rattle.restore_steps.proofs.Bare.{in_at}
 use Rattle.restore_steps.proofs.Listing.{got, map_get}

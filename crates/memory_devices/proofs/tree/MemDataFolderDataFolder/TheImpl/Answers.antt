@@ -52,6 +52,18 @@ append-tells c =
       cause = c.ensures.cause;
     }
 
+pub set_time-tells : goal.set_time-tells
+set_time-tells c =
+    let f = nodes_at c.args.self.now.nodes in
+    let path = c.args.path.now in
+    record {
+      nodes = search rules;
+      there = on_ok_weaker c.result (file_there (f path)) (ok_proper (is_to_fail c.args.self.now.failing) (is_file (f path)) c.result c.ensures.fails);
+      proper = λ there. tried_proper (is_file (f path)) c.args.self.now.failing c.new.self.now.failing c.ensures.counts (is_there (f path) there);
+      opened = ap (map string_bytes) c.ensures.opened;
+      cause = c.ensures.cause;
+    }
+
 pub rename-tells : goal.rename-tells
 rename-tells c =
     let f = nodes_at c.args.self.now.nodes in

@@ -15,7 +15,7 @@ returns-clause-ran g c =
     let s = c.args.self.now in
     let known = c.in-Some-Some-Some.control in
     let shows = backup_shows p.stanza _ _ c.args.ready c.requires.ready known c.in-Some-Some-Some.is-0 in
-    online_ran p (server_view s.server) s.fast s.turns _ g.D.Disk.state _ _ _ _ _ _ g.C.Clock.state _ _ _ e.looks.nodes c.offline_order.result known shows c.back_up_online-made.result _ c.offline_order.ensures.how_is (record { started = e.started; turns = e.few }) e.beside e.spool_beside
+    online_ran p (server_view s.server) s.fast s.turns _ g.D.Disk.state _ _ _ _ _ _ g.C.Clock.state _ _ _ e.looks.nodes c.offline_order.result known shows c.back_up_online-made.result _ c.offline_order.ensures.how_is (record { started = e.started; turns = e.few }) e.beside e.only e.spool_beside
     (runs_online p.stanza _ _ _ _ _ _ _ _ _ _ e.does e.marks) e.taken
     (asks_backup c.back_up_online-made.result (server_view s.server) s.fast _ _ _ _ (c.deref.ensures ∙ c.requires.order) e.place e.sent)
     e.ended _ (rose_to _ _ _ (λ h. h) (λ h. h) (λ h. h) (λ h. h) (λ h. absurd h) (λ h. h) (λ h. absurd h) (λ h. absurd h) (λ h. absurd h)) e.cause

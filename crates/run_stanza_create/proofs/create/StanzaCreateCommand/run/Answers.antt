@@ -3,7 +3,8 @@ use Rattle.std.specs.Prelude.{option_map}
 use Rattle.cmd_stanza_create.specs.Server.{server_view}
 use Rattle.cmd_trait.specs.Code.{place_of}
 use Rattle.cmd_trait.proofs.Ends.{rose_to, all_later}
-use Rattle.run_stanza_create.proofs.PartEffects.{create_shows, no_server, as_server, created_ran}
+use Rattle.cmd_stanza_create.proofs.Servers.{no_server, as_server}
+use Rattle.run_stanza_create.proofs.PartEffects.{create_shows, created_ran}
 use Rattle.run_stanza_create.proofs.create.StanzaCreateCommand.run.Goals as goal
 
 pub returns-clause-ran : goal.returns-clause-ran

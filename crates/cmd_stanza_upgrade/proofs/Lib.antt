@@ -1,0 +1,4 @@
+mod Lists
+mod Upgrades
+pub mod Asked
+pub mod Statuses
