@@ -115,16 +115,22 @@ module _ (stanza : Text) (f : Content) (s : Stanza) (now : NowRepresents stanza 
 
   archives : (n : ℕ) (bytes : Text) → HasHistory stanza f n bytes → ArchivesHistory s n bytes
   archives n bytes (fits, (c, current, stores)) =
-      let d = current_is c current in
-      (d.0, d.1, got_archived stanza (id_of d.0) (History n) (place_of stanza f s now (History n) fits d.0 (get_in (λ (x : Cluster). x.id) s.history (current_number s - 1) d.0 d.1)) (Some f) bytes
-      (subst (λ (x : ClusterId). StoresBytes stanza (id_kept x) (History n) f (sha1 bytes) bytes) d.2 stores) s refl now)
+      let d = current_is c current in (
+        d.0,
+        d.1,
+        got_archived stanza (id_of d.0) (History n) (place_of stanza f s now (History n) fits d.0 (get_in (λ (x : Cluster). x.id) s.history (current_number s - 1) d.0 d.1)) (Some f) bytes
+            (subst (λ (x : ClusterId). StoresBytes stanza (id_kept x) (History n) f (sha1 bytes) bytes) d.2 stores) s refl now,
+      )
 
   -- where it lacks a history, the stanza has none archived
   pub lacks : (n : ℕ) → LacksHistory stanza f n → (d : Cluster) × (at_number (current_number s) s.history ≡ Some d) × IsUnarchived (id_of d) (History n) s.archived
   lacks n (fits, (c, current, none)) =
-      let d = current_is c current in
-      (d.0, d.1, answer_none stanza (id_of d.0) (History n) (place_of stanza f s now (History n) fits d.0 (get_in (λ (x : Cluster). x.id) s.history (current_number s - 1) d.0 d.1)) {T = Text} (Some f) ⊥ (Err NotFound)
-      (subst (λ (x : ClusterId). StoresNone stanza (id_kept x) (History n) f) d.2 none) refl s refl now)
+      let d = current_is c current in (
+        d.0,
+        d.1,
+        answer_none stanza (id_of d.0) (History n) (place_of stanza f s now (History n) fits d.0 (get_in (λ (x : Cluster). x.id) s.history (current_number s - 1) d.0 d.1)) {T = Text} (Some f) ⊥ (Err NotFound)
+            (subst (λ (x : ClusterId). StoresNone stanza (id_kept x) (History n) f) d.2 none) refl s refl now,
+      )
 
   pub ancestry_is : (o : Option ℕ) (line : Option Ancestry) → HasAncestry stanza f o line → IsAncestryOf s o line
   ancestry_is o line h = ancestry_by (HasHistory stanza f) (ArchivesHistory s) archives o line h
@@ -164,9 +170,18 @@ module _ (stanza : Text) (f : Content) (s : Stanza) (now : NowRepresents stanza 
     last_of : (entries : List Entry) → entries ≡ map (λ (b : Backup). b.entry) s.backups → (e : Entry) → IsLastOn stanza f deadline line entries e → (b : Backup) × IsLastOf deadline line s.backups b × In b s.backups × (b.entry ≡ e)
     last_of entries same e ((front, back, is, off), q) =
         let r = split_in (λ (b : Backup). b.entry) s.backups e front back (sym same ∙ is) in
-        let listed : In r.1 s.backups = subst (λ (l : List Backup). In r.1 l) (sym r.3) (in_middle r.0 r.2 r.1) in
-        (r.1, (r.0, r.2, r.3, qualifies_of r.1 listed (subst (λ (d : Entry). QualifiesOn stanza f deadline line d) (sym r.4) q),
-        λ c i. excluded_of c (subst (λ (l : List Backup). In c l) (sym r.3) (in_back r.0 r.2 r.1 c i)) (off c.entry (subst (λ (l : List Entry). In c.entry l) r.5 (in_mapped (λ (b : Backup). b.entry) r.2 c i)))), listed, r.4)
+        let listed : In r.1 s.backups = subst (λ (l : List Backup). In r.1 l) (sym r.3) (in_middle r.0 r.2 r.1) in (
+          r.1,
+          (
+            r.0,
+            r.2,
+            r.3,
+            qualifies_of r.1 listed (subst (λ (d : Entry). QualifiesOn stanza f deadline line d) (sym r.4) q),
+            λ c i. excluded_of c (subst (λ (l : List Backup). In c l) (sym r.3) (in_back r.0 r.2 r.1 c i)) (off c.entry (subst (λ (l : List Entry). In c.entry l) r.5 (in_mapped (λ (b : Backup). b.entry) r.2 c i))),
+          ),
+          listed,
+          r.4,
+        )
 
   -- ---- the chosen one
 

@@ -1,6 +1,8 @@
 // Backups of a running server over devices in memory.
 
-use crate::fixture::{FILES, FIRST, NODES, SECOND, backed_up_online, disk_of, links_to, listed, reopened};
+use crate::fixture::{
+    FILES, FIRST, NODES, SECOND, backed_up_online, disk_of, links_to, listed, reopened,
+};
 use crate::same::{same, well};
 use memory_devices::{MemClock, MemDisk};
 use repo_manifest::load_manifest;

@@ -39,8 +39,12 @@ loop-last-preserved g c =
     let off : is_some judged ≡ false = search rules in
     let is = parts_on c.args.backups.now c.loop-last.rest.now c.in-Some.earlier.now last i.parts.0 i.parts.1 end in
     record {
-      parts = (last ∷ i.parts.0, is, judged_none c.args.stanza.now c.args.deadline line c.args.backups.now c.in-Some.earlier.now last i.parts.0 is (g.D.Disk.state c.args.repo.now).view.now judged off i.parts.2
-          (subst (λ (o : Option Content). JudgedAs c.args.stanza.now o c.args.deadline line (entry_of last) judged) i.looks.now c.in_ok-judged.ensures.judged));
+      parts = (
+        last ∷ i.parts.0,
+        is,
+        judged_none c.args.stanza.now c.args.deadline line c.args.backups.now c.in-Some.earlier.now last i.parts.0 is (g.D.Disk.state c.args.repo.now).view.now judged off i.parts.2
+            (subst (λ (o : Option Content). JudgedAs c.args.stanza.now o c.args.deadline line (entry_of last) judged) i.looks.now c.in_ok-judged.ensures.judged),
+      );
       looks = looks_on (g.D.Disk.state c.args.repo.now) (g.D.Disk.state c.loop-last.repo) (g.D.Disk.state c.judge.new.repo) i.looks c.judge.ensures.looks;
     }
 
