@@ -1,16 +1,12 @@
-// When what is written into a data folder reaches the disk: all of a restore before the control file has its name, and
-// a single file where the file system reports some failures at a sync alone.
+// When what is written into a data folder reaches the disk: all of a restore where it is synced, and a single file where
+// the file system reports some failures at a sync alone.
 use crate::filesystem_sync::WholeSync;
 use crate::handles::{Handles, Writes};
 use crate::mounts::{kind_of_folder, may_hold_file_systems};
-use crate::place::{Place, sync_folder};
+use crate::place::{Place, folder_of, sync_folder};
 use crate::walk::{Listing, nodes_below};
 use base_devices::{FolderEntry, Node};
 use std::io;
-
-const CONTROL: &str = "global/pg_control";
-
-const CONTROLS_FOLDER: &str = "global";
 
 // On these a byte that was written has its place: no failure is reported at the end alone.
 const LOCAL: &[&str] = &["ext4", "xfs", "btrfs", "tmpfs"];
@@ -18,7 +14,7 @@ const LOCAL: &[&str] = &["ext4", "xfs", "btrfs", "tmpfs"];
 /// How the bytes of a data folder reach the disk.
 #[derive(Drop)]
 pub struct Restoring {
-    // whether all of it is durable before the control file has its name
+    // whether all of it is synced at the end
     is_on: bool,
     // of all files of a restore: None where none was written yet
     writes: Option<Writes>,
@@ -37,7 +33,7 @@ impl Restoring {
         }
     }
 
-    /// From now on all is durable before the control file has its name.
+    /// From now on all that is written is synced at the end.
     pub fn begin(&mut self) {
         self.is_on = true;
     }
@@ -77,54 +73,43 @@ impl Restoring {
         writes
     }
 
-    fn is_of_control(&self, path: &str) -> bool {
-        self.is_on && path == CONTROL
-    }
-
-    /// Moves a file. The control file of a restore comes last on the disk too: all else is durable before, and its name
-    /// then.
-    pub fn move_file(
-        &mut self,
-        place: &Place,
-        handles: &mut Handles,
-        from: &str,
-        to: &str,
-    ) -> io::Result<()> {
-        handles.close(from)?;
-        handles.forget_name(to);
-        if !self.is_of_control(to) {
-            return place.rename(from, to);
-        }
-        self.sync_all(place, handles)?;
-        place.rename(from, to)?;
-        let done = sync_folder(&place.rt, &place.path_of(CONTROLS_FOLDER)?);
-        if done.is_err() {
-            // what failed has done nothing
-            let _ = place.rename(to, from);
-        }
-        done.map(|_| ())
-    }
-
-    /// A node was removed. The old control file is removed on the disk too, before anything else is changed.
-    pub fn end_removal(&self, place: &Place, path: &str) -> io::Result<()> {
-        if self.is_of_control(path) {
-            sync_folder(&place.rt, &place.path_of(CONTROLS_FOLDER)?)?;
-        }
-        Ok(())
-    }
-
-    fn sync_all(&mut self, place: &Place, handles: &mut Handles) -> io::Result<()> {
+    /// Syncs all that was done.
+    pub fn sync_all(&mut self, place: &Place, handles: &mut Handles) -> io::Result<()> {
         handles.demand_none_lost()?;
-        if self.writes_of_all(place) == Writes::Early {
+        if self.is_on && self.writes_of_all(place) == Writes::Early {
             return self.whole.demand(place);
         }
         handles.finish_all()?;
         let seen = nodes_below(place.rt.alloc(), place, "", Listing::whole())?;
-        if self.keeps {
+        if self.keeps || !self.is_on {
             sync_files(place, handles, &seen)?;
         }
         sync_folders(place, &seen)
     }
+}
+
+/// Moves a file.
+pub fn move_file(place: &Place, handles: &mut Handles, from: &str, to: &str) -> io::Result<()> {
+    handles.close(from)?;
+    handles.forget_name(to);
+    place.rename(from, to)
+}
+
+/// Moves a file, and syncs both names. What failed has done nothing.
+pub fn move_synced(place: &Place, handles: &mut Handles, from: &str, to: &str) -> io::Result<()> {
+    move_file(place, handles, from, to)?;
+    let done = sync_name(place, to).and_then(|()| sync_name(place, from));
+    if done.is_err() {
+        let _ = place.rename(to, from);
+    }
+    done
+}
+
+/// Syncs the folder that holds a name.
+pub fn sync_name(place: &Place, name: &str) -> io::Result<()> {
+    let path = place.path_of(name)?;
+    sync_folder(&place.rt, folder_of(&path))?;
+    Ok(())
 }
 
 // Outside of a restore a single file is waited for only where it has to be.

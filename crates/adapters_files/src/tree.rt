@@ -1,11 +1,11 @@
 // The data folder, on the system's files.
-ghost use Rattle.std.specs.Prelude.{◌≡◌, ◌≤◌, None, IfOk, IfSome, length, map, string_bytes};
+ghost use Rattle.std.specs.Prelude.{◌≡◌, ◌≤◌, false, None, IfOk, IfSome, length, map, string_bytes};
 ghost use Rattle.base_devices.specs.DataFolder.{known_path};
 
 use crate::handles::Handles;
 use crate::place::Place;
 use crate::progress::Progress;
-use crate::restore_sync::Restoring;
+use crate::restore_sync::{Restoring, move_file, move_synced, sync_name};
 use crate::walk::{Listing, nodes_below, nodes_of_folder};
 use adapters_process::Faults;
 use base_devices::{DataFolder, DeviceError, FolderEntry, Node, ReadableFile};
@@ -51,7 +51,7 @@ impl RealDataFolder {
         }
     }
 
-    /// From now on all that was written is durable before the control file has its name.
+    /// From now on all that is written is synced at the end, by `sync`.
     pub fn restores(&mut self) {
         self.restore_sync.begin();
     }
@@ -107,6 +107,7 @@ impl RealDataFolder {
 impl DataFolder for RealDataFolder {
     ghost state = { λ t. record {
       nodes = None;
+      unsynced = λ _. false;
       opened = map string_bytes t.place.opened.items;
       faulty_calls = 0;
       faults = t.faults.count;
@@ -210,17 +211,30 @@ impl DataFolder for RealDataFolder {
     }
 
     fn rename(&mut self, from: &str, to: &str) -> Result<(), DeviceError> {
-        let done = self
-            .restore_sync
-            .move_file(&self.place, &mut self.handles, from, to);
+        let done = move_file(&self.place, &mut self.handles, from, to);
         self.faults.counted(&self.place.move_of(from, to), done)
     }
 
     fn remove(&mut self, path: &str) -> Result<(), DeviceError> {
         self.handles.forget_name(path);
-        let done = remove_node(&self.place, path).and_then(|()| self
-            .restore_sync
-            .end_removal(&self.place, path));
+        let done = remove_node(&self.place, path);
+        self.faults
+            .counted(&self.place.call("removal of", path), done)
+    }
+
+    fn sync(&mut self) -> Result<(), DeviceError> {
+        let done = self.restore_sync.sync_all(&self.place, &mut self.handles);
+        self.faults.counted(&self.place.call("sync of", ""), done)
+    }
+
+    fn rename_synced(&mut self, from: &str, to: &str) -> Result<(), DeviceError> {
+        let done = move_synced(&self.place, &mut self.handles, from, to);
+        self.faults.counted(&self.place.move_of(from, to), done)
+    }
+
+    fn remove_synced(&mut self, path: &str) -> Result<(), DeviceError> {
+        self.handles.forget_name(path);
+        let done = remove_node(&self.place, path).and_then(|()| sync_name(&self.place, path));
         self.faults
             .counted(&self.place.call("removal of", path), done)
     }

@@ -1,6 +1,6 @@
 -- What a data folder holds: a node for each path below its root, and what calls do to it.
-use Rattle.std.specs.Prelude.{◌≡◌, ℕ, Bool, true, false, [], List, ◌∷◌, ◌++◌, length, map, codes, Option, Some, None, Result, Ok, Err, option_map, MatchResult, Contains, IfSome, IsSome, string_bytes}
-use Rattle.base_devices.specs.Content.{Name, Value, set_at, SameBut}
+use Rattle.std.specs.Prelude.{◌≡◌, ◌⊎◌, ℕ, Bool, true, false, [], List, ◌∷◌, ◌++◌, length, map, codes, Option, Some, None, Result, Ok, Err, option_map, MatchResult, Contains, IfSome, IsSome, string_bytes}
+use Rattle.base_devices.specs.Content.{Name, Value, set_at, SameBut, LiesDirectlyIn}
 use Rattle.base_devices.specs.Order.{are_in_order}
 use Rattle.base_devices.specs.declared.data_folder.Node.{Node}
 use Rattle.base_devices.specs.declared.data_folder.Node.TheVariants.{File, Folder, Link, Other}
@@ -24,10 +24,6 @@ shown folder = Folder
 shown link = Link
 shown other = Other
 
--- the path is that of a node right within the folder
-abbrev pub IsWithin : Name → Name → Type 0
-IsWithin within path = (last : Name) × (path ≡ within ++ 47 ∷ last) × ¬ Contains last 47
-
 -- a listing: every node once, in byte order of the paths, each folder on a path among them
 pub record IsTreeListing (nodes : Nodes) (seen : List (Name × Node)) : Type 0 where
   pub each : (path : Name) (node : Node) → Contains seen (path, node)
@@ -39,9 +35,9 @@ pub record IsTreeListing (nodes : Nodes) (seen : List (Name × Node)) : Type 0 w
 
 -- the nodes right within a folder, each once, in byte order of the paths
 pub record IsFolderListing (nodes : Nodes) (within : Name) (seen : List (Name × Node)) : Type 0 where
-  pub each : (path : Name) (node : Node) → Contains seen (path, node) → IsWithin within path
+  pub each : (path : Name) (node : Node) → Contains seen (path, node) → LiesDirectlyIn within path
       × ((held : Held) × (nodes path ≡ Some held) × (node ≡ shown held))
-  pub all : (path : Name) (held : Held) → IsWithin within path → nodes path ≡ Some held
+  pub all : (path : Name) (held : Held) → LiesDirectlyIn within path → nodes path ≡ Some held
       → Contains seen (path, shown held)
   pub order : are_in_order (map (λ s. s.0) seen) ≡ true
 
@@ -108,6 +104,11 @@ moved_node from to f = with_node to (f from) (with_node from None f)
 -- At `Ok` the tree is after the change. At an `Err` it is as before.
 abbrev pub ChangesTree : {T E : Type 0} → Result T E → (Nodes → Nodes) → Option Nodes → Option Nodes → Type 0
 ChangesTree result change old new = MatchResult result (λ _. new ≡ option_map change old) (λ _. new ≡ old)
+
+-- At `Ok` the node is gone. At an `Err` it may be, or the tree is as before.
+abbrev pub RemovesSynced : {T E : Type 0} → Result T E → Name → Option Nodes → Option Nodes → Type 0
+RemovesSynced result path old new = MatchResult result (λ _. new ≡ option_map (with_node path None) old)
+    (λ _. (new ≡ old) ⊎ (new ≡ option_map (with_node path None) old))
 
 -- At `Ok` the tree is after the change, with some time of the file. At an `Err` only the file itself may have changed.
 abbrev pub ChangesFile : {T E : Type 0} → Result T E → Name → (ℕ → Nodes → Nodes) → Option Nodes → Option Nodes → Type 0

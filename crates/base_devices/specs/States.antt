@@ -1,5 +1,5 @@
 -- What each device reports, as one value, and what a call leaves of it.
-use Rattle.std.specs.Prelude.{◌≡◌, ◌⊎◌, ◌≤◌, ◌++◌, ◌↔◌, [], ◌∷◌, ℕ, false, List, Option, Result, String, MatchResult, option_map, option_and_then, map, length, string_bytes, IfSome, Contains}
+use Rattle.std.specs.Prelude.{◌≡◌, ◌≢◌, ◌⊎◌, ◌≤◌, ◌++◌, ◌↔◌, [], ◌∷◌, ℕ, Bool, false, List, Option, Result, String, MatchResult, option_map, option_and_then, map, length, string_bytes, IfSome, Contains}
 use Rattle.std.specs.declared.alloc.Global.{Global}
 use Rattle.base_devices.specs.declared.disk.Found.{Found}
 use Rattle.base_devices.specs.declared.data_folder.FolderEntry.{FolderEntry}
@@ -104,6 +104,8 @@ DiskFailed old new = Rises old.faults new.faults
 pub record DataFolderState : Type 0 where
   -- what it holds, where that is known
   pub nodes : Option Nodes
+  -- the paths at which a crash may leave something else than what is there
+  pub unsynced : Name → Bool
   -- the places that were opened, the last one first
   pub opened : List Name
   -- how many of its calls were faulty, where its contents are known
@@ -117,6 +119,26 @@ pub record OnlyReadsFolder (old new : DataFolderState) : Type 0 where
   pub opened : new.opened ≡ old.opened
   pub proper : new.faulty_calls ≡ old.faulty_calls
   pub later : old.faults ≤ new.faults
+
+-- a crash leaves what is there
+abbrev pub IsSyncedAt : DataFolderState → Name → Type 0
+IsSyncedAt tree path = tree.unsynced path ≡ false
+
+abbrev pub AllSynced : DataFolderState → Type 0
+AllSynced tree = (path : Name) → IsSyncedAt tree path
+
+-- what was synced still is
+abbrev pub StaySynced : DataFolderState → DataFolderState → Type 0
+StaySynced old new = (path : Name) → IsSyncedAt old path → IsSyncedAt new path
+
+-- so it is at all paths but one
+abbrev pub StaySyncedBut : Name → DataFolderState → DataFolderState → Type 0
+StaySyncedBut path old new = (other : Name) → other ≢ path → IsSyncedAt old other → IsSyncedAt new other
+
+-- at all but two
+abbrev pub StaySyncedButTwo : Name → Name → DataFolderState → DataFolderState → Type 0
+StaySyncedButTwo first second old new =
+    (other : Name) → other ≢ first → other ≢ second → IsSyncedAt old other → IsSyncedAt new other
 
 -- no faulty call was made
 abbrev pub ProperInFolder : DataFolderState → DataFolderState → Type 0

@@ -1,7 +1,7 @@
 // A data folder: nodes below a root.
 ghost use Rattle.std.specs.Prelude.{◌≡◌, ◌≤◌, Option, None, IfOk, OnOk, IfSome, length};
-ghost use Rattle.base_devices.specs.DataFolder.{IsPlaced, IsFileAt, IsBare, with_node, moved_node, ChangesTree, BeginsNew, AppendsFile, BeginsEmpty, with_folder, timed_file};
-ghost use Rattle.base_devices.specs.States.{DataFolderState, Opens, OnlyReadsFolder, HasFileSize, ListsTree, MovesProperly, ProperInFolder, ReadsFile, ListsWithin};
+ghost use Rattle.base_devices.specs.DataFolder.{IsPlaced, IsFileAt, IsBare, with_node, moved_node, ChangesTree, RemovesSynced, BeginsNew, AppendsFile, BeginsEmpty, with_folder, timed_file};
+ghost use Rattle.base_devices.specs.States.{DataFolderState, Opens, OnlyReadsFolder, HasFileSize, ListsTree, MovesProperly, ProperInFolder, ReadsFile, ListsWithin, IsSyncedAt, AllSynced, StaySynced, StaySyncedBut, StaySyncedButTwo};
 ghost use Rattle.base_devices.specs.Cause.{HasCause};
 
 use crate::DeviceError;
@@ -36,7 +36,7 @@ pub enum ReadableFile {
 
 /// A data folder. Paths are relative to the place that was opened last.
 pub trait DataFolder {
-    /// What it holds, the places that were opened, and its counts.
+    /// What it holds and what of it is synced, the places that were opened, and its counts.
     ghost state: { Self → DataFolderState };
 
     /// Opens a folder as the root, and makes it where it is absent.
@@ -44,12 +44,14 @@ pub trait DataFolder {
         ensures opens { Opens result path.now (state self.old).opened (state self.new).opened }
         ensures nodes { (state self.new).nodes ≡ (state self.old).nodes }
         ensures proper { ProperInFolder (state self.old) (state self.new) }
+        ensures synced { StaySynced (state self.old) (state self.new) }
         ensures cause { HasCause (state self.old).faults (state self.new).faults result };
 
     /// Every node below the root. Links aren't followed.
     fn list(&mut self, alloc: Global) -> Result<Vec<FolderEntry>, DeviceError>
         ensures listing { IfOk result (λ seen. ListsTree (state self.old) seen.items) }
         ensures looks { OnlyReadsFolder (state self.old) (state self.new) }
+        ensures synced { StaySynced (state self.old) (state self.new) }
         ensures cause { HasCause (state self.old).faults (state self.new).faults result };
 
     /// The nodes right within a folder, with their paths below the root; none where the folder isn't there. Links aren't
@@ -57,6 +59,7 @@ pub trait DataFolder {
     fn list_folder(&mut self, alloc: Global, folder: &str) -> Result<Vec<FolderEntry>, DeviceError>
         ensures listing { IfOk result (λ seen. ListsWithin folder.now (state self.old) seen.items) }
         ensures looks { OnlyReadsFolder (state self.old) (state self.new) }
+        ensures synced { StaySynced (state self.old) (state self.new) }
         ensures cause { HasCause (state self.old).faults (state self.new).faults result };
 
     /// Bytes of a known file from a place on: None where it isn't a file that is there, 0 at its end.
@@ -69,12 +72,14 @@ pub trait DataFolder {
         ensures bytes { IfOk result (λ n. ReadsFile (state self.old) what.now at buf.old buf.new n) }
         ensures room { IfOk result (λ n. IfSome n (λ n. n ≤ length buf.old)) }
         ensures looks { OnlyReadsFolder (state self.old) (state self.new) }
+        ensures synced { StaySynced (state self.old) (state self.new) }
         ensures cause { HasCause (state self.old).faults (state self.new).faults result };
 
     /// How many bytes a known file has: None where it isn't a file that is there.
     fn size(&mut self, what: &ReadableFile) -> Result<Option<u64>, DeviceError>
         ensures size { IfOk result (λ n. HasFileSize (state self.old) what.now n) }
         ensures looks { OnlyReadsFolder (state self.old) (state self.new) }
+        ensures synced { StaySynced (state self.old) (state self.new) }
         ensures cause { HasCause (state self.old).faults (state self.new).faults result };
 
     /// Makes a folder.
@@ -82,6 +87,7 @@ pub trait DataFolder {
         ensures nodes { ChangesTree result (with_folder folder.now) (state self.old).nodes (state self.new).nodes }
         ensures proper { IsPlaced (state self.old).nodes folder.now → ProperInFolder (state self.old) (state self.new) }
         ensures opened { (state self.new).opened ≡ (state self.old).opened }
+        ensures synced { StaySyncedBut folder.now (state self.old) (state self.new) }
         ensures cause { HasCause (state self.old).faults (state self.new).faults result };
 
     /// Makes the path a file of no bytes.
@@ -89,6 +95,7 @@ pub trait DataFolder {
         ensures nodes { BeginsEmpty result path.now (state self.old).nodes (state self.new).nodes }
         ensures proper { IsPlaced (state self.old).nodes path.now → ProperInFolder (state self.old) (state self.new) }
         ensures opened { (state self.new).opened ≡ (state self.old).opened }
+        ensures synced { StaySyncedBut path.now (state self.old) (state self.new) }
         ensures cause { HasCause (state self.old).faults (state self.new).faults result };
 
     /// Makes the path a file of no bytes where nothing is there, and returns whether it did.
@@ -96,6 +103,7 @@ pub trait DataFolder {
         ensures nodes { BeginsNew result path.now (state self.old).nodes (state self.new).nodes }
         ensures proper { IsPlaced (state self.old).nodes path.now → ProperInFolder (state self.old) (state self.new) }
         ensures opened { (state self.new).opened ≡ (state self.old).opened }
+        ensures synced { StaySyncedBut path.now (state self.old) (state self.new) }
         ensures cause { HasCause (state self.old).faults (state self.new).faults result };
 
     /// Adds bytes at the end of a file.
@@ -104,6 +112,7 @@ pub trait DataFolder {
         ensures there { OnOk result (IsFileAt (state self.old).nodes path.now) }
         ensures proper { IsFileAt (state self.old).nodes path.now → ProperInFolder (state self.old) (state self.new) }
         ensures opened { (state self.new).opened ≡ (state self.old).opened }
+        ensures synced { StaySyncedBut path.now (state self.old) (state self.new) }
         ensures cause { HasCause (state self.old).faults (state self.new).faults result };
 
     /// Gives a file this time.
@@ -112,6 +121,7 @@ pub trait DataFolder {
         ensures there { OnOk result (IsFileAt (state self.old).nodes path.now) }
         ensures proper { IsFileAt (state self.old).nodes path.now → ProperInFolder (state self.old) (state self.new) }
         ensures opened { (state self.new).opened ≡ (state self.old).opened }
+        ensures synced { StaySyncedBut path.now (state self.old) (state self.new) }
         ensures cause { HasCause (state self.old).faults (state self.new).faults result };
 
     /// Moves a file to another path; its time goes along.
@@ -120,6 +130,7 @@ pub trait DataFolder {
         ensures there { OnOk result (IsFileAt (state self.old).nodes from.now) }
         ensures proper { MovesProperly from.now to.now (state self.old) (state self.new) }
         ensures opened { (state self.new).opened ≡ (state self.old).opened }
+        ensures synced { StaySyncedButTwo from.now to.now (state self.old) (state self.new) }
         ensures cause { HasCause (state self.old).faults (state self.new).faults result };
 
     /// Removes a node, but no folder that holds something.
@@ -128,5 +139,36 @@ pub trait DataFolder {
         ensures bare { OnOk result (IsBare (state self.old).nodes path.now) }
         ensures proper { IsBare (state self.old).nodes path.now → ProperInFolder (state self.old) (state self.new) }
         ensures opened { (state self.new).opened ≡ (state self.old).opened }
+        ensures synced { StaySyncedBut path.now (state self.old) (state self.new) }
+        ensures cause { HasCause (state self.old).faults (state self.new).faults result };
+
+    /// Syncs all that was done.
+    fn sync(&mut self) -> Result<(), DeviceError>
+        ensures all { OnOk result (AllSynced (state self.new)) }
+        ensures nodes { (state self.new).nodes ≡ (state self.old).nodes }
+        ensures proper { ProperInFolder (state self.old) (state self.new) }
+        ensures opened { (state self.new).opened ≡ (state self.old).opened }
+        ensures synced { StaySynced (state self.old) (state self.new) }
+        ensures cause { HasCause (state self.old).faults (state self.new).faults result };
+
+    /// Moves a file to another path, and syncs both names; its time goes along.
+    fn rename_synced(&mut self, from: &str, to: &str) -> Result<(), DeviceError>
+        ensures nodes { ChangesTree result (moved_node from.now to.now) (state self.old).nodes (state self.new).nodes }
+        ensures there { OnOk result (IsFileAt (state self.old).nodes from.now) }
+        ensures source { OnOk result (IsSyncedAt (state self.new) from.now) }
+        ensures target { OnOk result (IsSyncedAt (state self.new) to.now) }
+        ensures proper { MovesProperly from.now to.now (state self.old) (state self.new) }
+        ensures opened { (state self.new).opened ≡ (state self.old).opened }
+        ensures synced { StaySyncedButTwo from.now to.now (state self.old) (state self.new) }
+        ensures cause { HasCause (state self.old).faults (state self.new).faults result };
+
+    /// Removes a node, but no folder that holds something, and syncs its name. Where that fails it may be removed.
+    fn remove_synced(&mut self, path: &str) -> Result<(), DeviceError>
+        ensures nodes { RemovesSynced result path.now (state self.old).nodes (state self.new).nodes }
+        ensures bare { OnOk result (IsBare (state self.old).nodes path.now) }
+        ensures gone { OnOk result (IsSyncedAt (state self.new) path.now) }
+        ensures proper { IsBare (state self.old).nodes path.now → ProperInFolder (state self.old) (state self.new) }
+        ensures opened { (state self.new).opened ≡ (state self.old).opened }
+        ensures synced { StaySyncedBut path.now (state self.old) (state self.new) }
         ensures cause { HasCause (state self.old).faults (state self.new).faults result };
 }

@@ -2,9 +2,9 @@
 use Rattle.std.proofs.Common.{◌≡◌, ◌≢◌, ⊎_elim, Bool, true, false, List, [], ◌∷◌, ◌++◌, map, Option, Some, None, refl, ap, ◌∙◌, sym, subst, append_assoc, rules}
 use Rattle.std.specs.Prelude.{IfSome, IfNone, IsSome, codes, string_bytes}
 use Rattle.std.proofs.lemmas.List.{append_cancel_left, append_cancel_right}
-use Rattle.base_devices.specs.Content.{Name}
+use Rattle.base_devices.specs.Content.{Name, LiesDirectlyIn}
 use Rattle.base_devices.specs.Order.{are_in_order}
-use Rattle.base_devices.specs.DataFolder.{Nodes, Held, file, folder, link, other, file_bytes, shown, IsWithin, IsFolderListing}
+use Rattle.base_devices.specs.DataFolder.{Nodes, Held, file, folder, link, other, file_bytes, shown, IsFolderListing}
 use Rattle.base_devices.specs.declared.data_folder.Node.{Node}
 use Rattle.base_devices.specs.declared.data_folder.FolderEntry.{FolderEntry}
 use Rattle.base_model.specs.declared.wal.ArchiveName.{ArchiveName}
@@ -55,7 +55,7 @@ ready_slash : Lacks 47 (codes ".ready")
 ready_slash = search rules
 
 -- that of a file lies right within the folder
-ready_lies : (name : ArchiveName) → IsWithin ready_folder (ready_path name)
+ready_lies : (name : ArchiveName) → LiesDirectlyIn ready_folder (ready_path name)
 ready_lies name =
     let last = wal_text name ++ codes ".ready" in
     (last, append_assoc ready_folder (47 ∷ []) last, lacks_not 47 last (lacks_append 47 (wal_text name) (codes ".ready") (wal_slash name) ready_slash))

@@ -1,9 +1,9 @@
 -- What a call of a tree in memory did, as it is known.
-use Rattle.std.proofs.Common.{◌≡◌, ℕ, Bool, true, false, cond, ◌&&◌, ◌||◌, not, List, [], Result, Ok, Err, Option, Some, None, IsSome, refl, sym, ◌∙◌, ap}
+use Rattle.std.proofs.Common.{◌≡◌, ℕ, Bool, true, false, cond, ◌&&◌, ◌||◌, not, List, [], Result, Ok, Err, Option, Some, None, IsSome, refl, sym, ◌∙◌, ap, inl}
 use Rattle.std.specs.Prelude.{OnOk, OnErr, IfOk, is_none, option_map}
 use Rattle.base_devices.specs.declared.device_error.DeviceError.{DeviceError}
 use Rattle.base_devices.specs.Content.{Name, at, SameBut}
-use Rattle.base_devices.specs.DataFolder.{Held, file, folder, link, other, Nodes, with_node, file_bytes, longer, lengthened_file, ChangesFile, BeginsNew}
+use Rattle.base_devices.specs.DataFolder.{Held, file, folder, link, other, Nodes, with_node, file_bytes, longer, lengthened_file, ChangesFile, BeginsNew, RemovesSynced}
 use Rattle.memory_devices.specs.declared.failing.Failing.{Failing}
 use Rattle.memory_devices.specs.Counts.{is_to_fail, counted, was_faulty_call, faulted, tried, tried_on, FailsWhere}
 use Rattle.memory_devices.specs.Nodes.{is_file, longer_node}
@@ -90,3 +90,8 @@ pub appended_file : {T E : Type 0} (result : Result T E) (path : Name) (more : L
     → ChangesFile result path (lengthened_file path more) (Some f) (Some g)
 appended_file (Ok x) path more f g ok err = let k = keeps_time more (f path) in (k.0, ap (λ (h : Nodes). Some h) (ok ∙ ap (λ (o : Option Held). with_node path o f) k.1))
 appended_file (Err e) path more f g ok err = same_but path f g err
+
+-- a node that is removed and synced
+pub removed_synced : {T E : Type 0} (result : Result T E) (path : Name) (f g : Nodes) → OnOk result (g ≡ with_node path None f) → OnErr result (g ≡ f) → RemovesSynced result path (Some f) (Some g)
+removed_synced (Ok x) path f g ok err = ap (λ (h : Nodes). Some h) ok
+removed_synced (Err e) path f g ok err = inl (ap (λ (h : Nodes). Some h) err)

@@ -1,5 +1,5 @@
 // A data folder in memory.
-ghost use Rattle.std.specs.Prelude.{◌≡◌, ◌≤◌, ◌||◌, [], map, not, is_none, length, string_bytes, option_map, Some, None, IfOk, IfErr, IfSome, OnOk, OnErr};
+ghost use Rattle.std.specs.Prelude.{◌≡◌, ◌≤◌, ◌||◌, [], map, not, false, is_none, length, string_bytes, option_map, Some, None, IfOk, IfErr, IfSome, OnOk, OnErr};
 ghost use Rattle.base_devices.specs.Cause.{HasCause};
 ghost use Rattle.base_devices.specs.States.{Opens, last_opened};
 ghost use Rattle.base_devices.specs.DataFolder.{with_node, moved_node, timed_file, with_empty_file, with_folder};
@@ -36,7 +36,7 @@ impl From<AllocError> for TreeFault {
     }
 }
 
-/// A data folder whose nodes are known.
+/// A data folder whose nodes are known. What was done in it is synced at once.
 #[derive(Drop)]
 pub struct MemDataFolder {
     alloc: Global,
@@ -120,6 +120,7 @@ impl MemDataFolder {
 impl DataFolder for MemDataFolder {
     ghost state = { λ t. record {
       nodes = Some (nodes_at t.nodes);
+      unsynced = λ _. false;
       opened = map string_bytes t.opened.items;
       faulty_calls = t.failing.faulty_calls;
       faults = t.failing.faults;
@@ -347,5 +348,40 @@ impl DataFolder for MemDataFolder {
         }
         take_node(&mut self.nodes, path);
         Ok(())
+    }
+
+    fn sync(&mut self) -> Result<(), DeviceError>
+        ensures same { nodes_at self.new.nodes ≡ nodes_at self.old.nodes }
+        ensures fails { FailsWhere (is_to_fail self.old.failing) result }
+        ensures counts { self.new.failing ≡ counted self.old.failing }
+        ensures opened { self.new.opened.items ≡ self.old.opened.items }
+        ensures cause { HasCause self.old.failing.faults self.new.failing.faults result }
+    {
+        if self.failing.fails() {
+            return Err(DeviceError::Failed);
+        }
+        Ok(())
+    }
+
+    fn rename_synced(&mut self, from: &str, to: &str) -> Result<(), DeviceError>
+        ensures ok { OnOk result (nodes_at self.new.nodes ≡ moved_node from.now to.now (nodes_at self.old.nodes)) }
+        ensures err { OnErr result (nodes_at self.new.nodes ≡ nodes_at self.old.nodes) }
+        ensures fails { FailsUnless (may_move (nodes_at self.old.nodes) from.now to.now) self.old.failing result }
+        ensures counts { self.new.failing ≡ tried_move (nodes_at self.old.nodes) from.now to.now self.old.failing }
+        ensures opened { self.new.opened.items ≡ self.old.opened.items }
+        ensures cause { HasCause self.old.failing.faults self.new.failing.faults result }
+    {
+        self.rename(from, to)
+    }
+
+    fn remove_synced(&mut self, path: &str) -> Result<(), DeviceError>
+        ensures ok { OnOk result (nodes_at self.new.nodes ≡ with_node path.now None (nodes_at self.old.nodes)) }
+        ensures err { OnErr result (nodes_at self.new.nodes ≡ nodes_at self.old.nodes) }
+        ensures fails { FailsWhere (is_to_fail self.old.failing || not (holds_nothing path.now self.old.nodes)) result }
+        ensures counts { self.new.failing ≡ tried (holds_nothing path.now self.old.nodes) self.old.failing }
+        ensures opened { self.new.opened.items ≡ self.old.opened.items }
+        ensures cause { HasCause self.old.failing.faults self.new.failing.faults result }
+    {
+        self.remove(path)
     }
 }
