@@ -1,5 +1,6 @@
 // Puts the backup's files into the folder.
 ghost use Rattle.std.specs.Prelude.{◌≡◌, ◌≤◌, ◌<◌, ◌^◌, [], true, false, map, vec_len, IfErr, IfSome, OnOk, OnErr};
+ghost use Rattle.base_devices.specs.States.{AllSynced};
 ghost use Rattle.base_devices.specs.DataFolder.{IsTreeListing};
 ghost use Rattle.base_model.specs.ManifestText.{IsManifest};
 ghost use Rattle.base_model.specs.Values.{manifest_of};
@@ -45,6 +46,7 @@ fn put_files<T: DataFolder, L: Link, U: Scheduler>(
     requires rules { IsManifest (manifest_of asked.now.manifest.now) }
     requires seen { IfSome (T.state tree.old).nodes (λ f. IsTreeListing f (map seen_of asked.now.seen.now)) }
     ensures finished { OnOk result (PutsFiles asked.now options.now L.link_state pool.old T.state tree.old tree.new) }
+    ensures synced { OnOk result (AllSynced (T.state tree.new)) }
     ensures control { OnErr result (StopsSafely (T.state tree.old) (T.state tree.new)) }
     ensures changes { IfErr result (λ halt. leaves_folder halt ≡ false) }
     ensures proper { (T.state tree.new).faulty_calls ≡ (T.state tree.old).faulty_calls }
@@ -79,6 +81,7 @@ pub(crate) fn fill<T: DataFolder, L: Link, U: Scheduler>(
     requires rules { IsManifest (manifest_of asked.now.manifest.now) }
     requires seen { IfSome (T.state tree.old).nodes (λ f. IsTreeListing f (map seen_of asked.now.seen.now)) }
     ensures finished { OnOk result (FillsBy asked.now L.link_state pool.old T.state tree.old tree.new) }
+    ensures synced { OnOk result (AllSynced (T.state tree.new)) }
     ensures control { OnErr result (StopsSafely (T.state tree.old) (T.state tree.new)) }
     ensures changes { IfErr result (λ halt. leaves_folder halt ≡ false) }
     ensures proper { (T.state tree.new).faulty_calls ≡ (T.state tree.old).faulty_calls }

@@ -1,6 +1,6 @@
 // restore: puts a backup into the data folder.
-ghost use Rattle.std.specs.Prelude.{◌≡◌, ◌≤◌, ◌<◌, ◌^◌, true, vec_len, IfOk, IfErr, OnErr};
-ghost use Rattle.base_devices.specs.States.{OnlyReads};
+ghost use Rattle.std.specs.Prelude.{◌≡◌, ◌≤◌, ◌<◌, ◌^◌, true, vec_len, IfOk, IfErr, OnOk, OnErr};
+ghost use Rattle.base_devices.specs.States.{OnlyReads, AllSynced};
 ghost use Rattle.base_model.specs.InfoFiles.{IsLabel};
 ghost use Rattle.base_model.specs.ManifestText.{IsManifest};
 ghost use Rattle.base_model.specs.Values.{manifest_of};
@@ -70,6 +70,8 @@ pub fn restore_backup<D: Disk, T: DataFolder, L: Link, U: Scheduler>(
     // Where the repository represents a stanza, the backup is one of the stanza's.
     ensures given { IfOk result
         (GivesBackupBy stanza.now order.now (D.state repo.old) L.link_state pool.old T.state tree.old tree.new) }
+    // A crash leaves all of it.
+    ensures synced { OnOk result (AllSynced (T.state tree.new)) }
     // After a refusal there is no control file, unless nothing was changed.
     ensures control { OnErr result (StopsSafely (T.state tree.old) (T.state tree.new)) }
     ensures unchanged { IfErr result (LeavesFolder (T.state tree.old) (T.state tree.new)) }

@@ -278,6 +278,7 @@ module _ {F : Type 0} (p : Place) (m : Meaning F) (laws : IsLawful m) where
     lasts = ok_as r _ _ (λ outcome h synced some. subst (λ (n : Option Nodes). OnLasting Scope m.plan.pairs (m.lasts p n k.repo.view k.tree.nodes outcome)) read.nodes
         (h (rests_synced p.stanza b.repo.view c.repo.view read.repo.time read.repo.now synced) (subst (λ (o : Option Content). IsSome o) (sym read.repo.now) some))) did.lasts;
     synced = unless_as m.unsyncs _ _ (still_synced p.stanza b.repo.view c.repo.view k.repo.view read.repo) did.synced;
+    folder_synced = did.folder_synced;
     acknowledges = on_ok r _ _ (laws.acknowledges_on p b c k read) did.acknowledges;
     cause = err_as r _ _ (cause_from b c k read) did.cause;
     healed = on_ok r (HealsPairs p m c k) (HealsPairs p m b k) (λ h. record {
@@ -311,6 +312,7 @@ module _ {F : Type 0} (p : Place) (m : Meaning F) (laws : IsLawful m) where
     promise = tt;
     lasts = tt;
     synced = any_unless m.unsyncs _ synced;
+    folder_synced = any_unless m.folder_unsynced _ tt;
     acknowledges = tt;
     cause = cause;
     healed = tt;
@@ -329,6 +331,7 @@ module _ {F : Type 0} (p : Place) (m : Meaning F) (laws : IsLawful m) where
     promise = ok_as r _ _ (λ outcome h. (c.repo.view.now, heals, subst (λ (o : KnownWorld). m.promise p o (known_world k) outcome) known_is h)) ran.promise;
     lasts = lasting Scope m.plan.pairs refl refl begun durable ran.lasts;
     synced = unless_as m.unsyncs _ _ (λ own synced some. own (stays synced some) (quiet.now.known some)) ran.synced;
+    folder_synced = ran.folder_synced;
     acknowledges = all_ok r _ (laws.through staged p (disks_of b) (disks_of k));
     cause = err_as r _ _ own ran.cause;
     healed = on_ok r (StaysHealed p m c k) (HealsPairs p m b k) (λ h. record {
@@ -400,6 +403,7 @@ module _ {F : Type 0} (p : Place) (m : Meaning F) (laws : IsLawful m) where
     promise = ok_as r _ _ (λ outcome h. (b.repo.view.now, heals, h)) ran.promise;
     lasts = each_ok r (LastsAfter p m b k) (λ outcome synced some. any_lasting Scope m.plan.pairs _ (laws.lasts_alone off p b.tree.nodes k.repo.view k.tree.nodes outcome));
     synced = ran.synced;
+    folder_synced = ran.folder_synced;
     acknowledges = ran.acknowledges;
     cause = err_as r _ _ (λ fault h. alone_cause b k fault heals h) ran.cause;
     healed = all_ok r (HealsPairs p m b k) (record {

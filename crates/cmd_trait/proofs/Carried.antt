@@ -123,6 +123,7 @@ module _ {F : Type 0} (p : Place) (m : Meaning F) (laws : IsLawful m) where
       promise = did.promise;
       lasts = did.lasts;
       synced = did.synced;
+      folder_synced = did.folder_synced;
       acknowledges = did.acknowledges;
       cause = err_as r _ _ out_cause did.cause;
       healed = on_ok r (HealsPairs p m b k) (HealsPairs p m b written) (λ h. record { agree = h.agree; lasts = h.lasts }) did.healed;

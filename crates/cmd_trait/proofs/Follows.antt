@@ -101,7 +101,7 @@ module _ {F : Type 0} (p : Place) (m : Meaning F) (laws : IsLawful m) (u : List 
   fulfils well = go c.ended c.did n refl c.answered
     where
       go : (r : Result Outcome (Fault F)) → CallEffect p m b k r → (x : ℕ) → n ≡ x → IsPrinted b.out.written (lines_of m u (ending_of r)) (status m (ending_of r)) k.out.written (Failed b k Output) x → Fulfils p m b k n
-      go (Ok outcome) did x is (Whole result same wrote) = record { outcome = outcome; is = is ∙ same; promise = did.promise; lasts = did.lasts; acknowledges = did.acknowledges; unknown = u; wrote = wrote }
+      go (Ok outcome) did x is (Whole result same wrote) = record { outcome = outcome; is = is ∙ same; promise = did.promise; lasts = did.lasts; folder_synced = did.folder_synced; acknowledges = did.acknowledges; unknown = u; wrote = wrote }
       go (Err e) did x is (Whole result same wrote) = absurd (ill (status_of m e) (over m laws e) (apart m laws e) (subst EndsWell (is ∙ same) well))
       go r did _ is (Cut rose prefix) = absurd (ill 87 (omega arith) (λ e. absurd (omega (arith, e))) (subst EndsWell is well))
       go r did _ is (Starved lines which prefix) = absurd (ill 90 (omega arith) (λ e. absurd (omega (arith, e))) (subst EndsWell is well))

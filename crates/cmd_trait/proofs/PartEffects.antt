@@ -4,6 +4,7 @@ use Rattle.std.specs.Prelude.{OnOk, IfSome, IsSome}
 use Rattle.base_devices.specs.Content.{Content}
 use Rattle.base_devices.specs.Moments.{View}
 use Rattle.base_devices.specs.DataFolder.{Nodes}
+use Rattle.base_devices.specs.States.{AllSynced}
 use Rattle.base_model.specs.Text.{Text}
 use Rattle.base_model.proofs.Walking.{rests_synced}
 use Rattle.base_model.specs.Steps.{Command, Reading}
@@ -34,7 +35,7 @@ use Rattle.cmd_trait.specs.Ends.{status, reached_of, ending_of}
 use Rattle.cmd_trait.specs.Faults.{of_own, own_of}
 use Rattle.cmd_trait.specs.CallEffect.{PartEffect, OwnSteps, OwnLasts, OwnCause, OnLasting, StaysHealed, Spares, Closes, SamePlaces}
 use Rattle.cmd_trait.proofs.Ends.{reached_same, own_ok, own_on, own_err}
-use Rattle.cmd_trait.proofs.CallEffects.{any_reading, any_unless, all_none, lasting_as}
+use Rattle.cmd_trait.proofs.CallEffects.{any_reading, any_unless, unless_as, all_none, lasting_as}
 
 pub both_ok : {E : Type 0} (r : Result Outcome E) (P Q : Outcome → Type 0) → IfOk r P → IfOk r Q → IfOk r (λ o. P o × Q o)
 both_ok (Ok o) P Q p q = (p, q)
@@ -71,14 +72,15 @@ module _ {F : Type 0} (p : Place) (m : Meaning F) (b k : World) (failed : Object
   own HaltMemory h = tt
 
   -- what a command's own part did, whichever it is
-  pub ran_of : m.staged ≡ true → m.acknowledges p (disks_of b) (disks_of k) → (r : Result Outcome (Halt F)) → On (m.manner p (known_world b) (known_world k)) (λ command. DisksEffect m.plan.sync_scope p.stanza command (reached_by m.early r) b.repo.view b.spool.view k.repo.view k.spool.view) → IfOk r (m.promise p (known_world b) (known_world k)) →
+  pub ran_of : m.staged ≡ true → m.acknowledges p (disks_of b) (disks_of k) → (r : Result Outcome (Halt F)) → Unless m.folder_unsynced (OnOk r (AllSynced k.tree)) → On (m.manner p (known_world b) (known_world k)) (λ command. DisksEffect m.plan.sync_scope p.stanza command (reached_by m.early r) b.repo.view b.spool.view k.repo.view k.spool.view) → IfOk r (m.promise p (known_world b) (known_world k)) →
       OnLasting m.plan.sync_scope m.plan.pairs (IfOk r (OwnLasts p m b k)) → Unless m.unsyncs (StaysSynced p.stanza b.repo.view k.repo.view) → IfErr r (HaltCause why failed) → OnOk r (StaysHealed p m b k) → Spares p m b k (own_of r) → SamePlaces b k → AreLater b k → PartEffect p m b k (own_of r)
-  ran_of staged acknowledges r steps promise lasts synced cause healed spares places later = record {
+  ran_of staged acknowledges r folder steps promise lasts synced cause healed spares places later = record {
     steps = subst (λ (s : Bool). On (m.manner p (known_world b) (known_world k)) (λ command. OwnSteps s m.plan.sync_scope p.stanza command (reached_of m (ending_of (own_of r))) b.repo.view b.spool.view k.repo.view k.spool.view)) (sym staged)
         (subst (λ (reached : Reached). On (m.manner p (known_world b) (known_world k)) (λ command. DisksEffect m.plan.sync_scope p.stanza command reached b.repo.view b.spool.view k.repo.view k.spool.view)) (sym (reached_same m r)) steps);
     promise = own_ok (m.promise p (known_world b) (known_world k)) r promise;
     lasts = lasting_as m.plan.sync_scope m.plan.pairs _ _ (λ h. own_ok (OwnLasts p m b k) r h) lasts;
     synced = synced;
+    folder_synced = unless_as m.folder_unsynced _ _ (own_on _ r) folder;
     acknowledges = own_on _ r (all_on r _ acknowledges);
     cause = own_err (HaltCause why failed) (OwnCause p m b k) own r cause;
     healed = own_on _ r healed;
@@ -116,7 +118,7 @@ module _ {F : Type 0} (promise : Place → KnownWorld → Outcome → Type 0) (c
   closes_none HaltMemory x = tt
 
   pub reader_ran : (r : Result Outcome (Halt F)) → (failed : Object → Type 0) → ((object : Object) → failed object → Failed b k object) → IfOk r (promise p (known_world b)) → IfErr r (HaltCause (cause p (known_world b)) failed) → SamePlaces b k → AreLater b k → PartEffect p means b k (own_of r)
-  reader_ran r failed rose known why places later = ran_of p means b k failed rose (cause p (known_world b)) (λ e h. h) refl tt r
+  reader_ran r failed rose known why places later = ran_of p means b k failed rose (cause p (known_world b)) (λ e h. h) refl tt r tt
       (λ command is. reading_runs Whole p.stanza command (reached_by (λ e. true) r) b k is still (ap (λ (s : World). s.spool.view) rest))
       known
       tt

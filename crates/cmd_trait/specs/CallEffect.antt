@@ -2,7 +2,7 @@
 use Rattle.std.specs.Prelude.{◌≡◌, ◌⊎◌, ℕ, Bool, true, false, List, Option, Some, None, Result, IfOk, IfErr, OnOk, IfSome, IsSome, IsSomeAnd}
 use Rattle.base_devices.specs.Content.{Content}
 use Rattle.base_devices.specs.Moments.{View}
-use Rattle.base_devices.specs.States.{IsOpened, OpensOnly}
+use Rattle.base_devices.specs.States.{IsOpened, OpensOnly, AllSynced}
 use Rattle.base_devices.specs.DataFolder.{Nodes}
 use Rattle.base_model.specs.Text.{Text}
 use Rattle.base_model.specs.Steps.{Command}
@@ -118,6 +118,7 @@ pub record PartEffect {F : Type 0} (p : Place) (m : Meaning F) (before after : W
   pub promise : IfOk result (m.promise p (known_world before) (known_world after))
   pub lasts : OnLasting m.plan.sync_scope m.plan.pairs (IfOk result (OwnLasts p m before after))
   pub synced : Unless m.unsyncs (StaysSynced p.stanza before.repo.view after.repo.view)
+  pub folder_synced : Unless m.folder_unsynced (OnOk result (AllSynced after.tree))
   pub acknowledges : OnOk result (m.acknowledges p (disks_of before) (disks_of after))
   pub cause : IfErr result (OwnCause p m before after)
   pub healed : OnOk result (StaysHealed p m before after)
@@ -201,6 +202,7 @@ pub record CallEffect {F : Type 0} (p : Place) (m : Meaning F) (before after : W
       (λ outcome. OnReady p m (known_world before) (λ old. m.promise p old (known_world after) outcome))
   pub lasts : IfOk result (LastsAfter p m before after)
   pub synced : Unless m.unsyncs (StaysSynced p.stanza before.repo.view after.repo.view)
+  pub folder_synced : Unless m.folder_unsynced (OnOk result (AllSynced after.tree))
   pub acknowledges : OnOk result (m.acknowledges p (disks_of before) (disks_of after))
   pub cause : IfErr result (Cause p m before after)
   pub healed : OnOk result (HealsPairs p m before after)

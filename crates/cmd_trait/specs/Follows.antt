@@ -1,5 +1,6 @@
 -- What follows for a command that is asked for.
 use Rattle.std.specs.Prelude.{◌≡◌, ◌≢◌, ◌≤◌, ◌⊎◌, ◌++◌, ℕ, true, false, List, Result, Ok, option_map}
+use Rattle.base_devices.specs.States.{AllSynced}
 use Rattle.base_model.specs.Text.{Text}
 use Rattle.base_crash_lists.specs.Beside.{StaysBeside}
 use Rattle.cmd_setup.specs.Calls.{StaysSynced}
@@ -49,12 +50,13 @@ abbrev pub EndsWell : ℕ → Type 0
 EndsWell status = (status ≤ 1) ⊎ (status ≡ 65)
 
 -- at one of these: it ended in this way, keeps its promise, also of all that a crash leaves, acknowledges what is so, and
--- wrote its lines
+-- wrote its lines; a crash leaves the data folder as it is, where the command syncs it
 pub record Fulfils {F : Type 0} (p : Place) (m : Meaning F) (before after : World) (result : ℕ) : Type 0 where
   pub outcome : Outcome
   pub is : result ≡ status m (ending_of (Ok outcome))
   pub promise : OnReady p m (known_world before) (λ old. m.promise p old (known_world after) outcome)
   pub lasts : LastsAfter p m before after outcome
+  pub folder_synced : Unless m.folder_unsynced (AllSynced after.tree)
   pub acknowledges : m.acknowledges p (disks_of before) (disks_of after)
   pub unknown : List Text
   pub wrote : after.out.written ≡ option_map (λ (text : Text). text ++ lines_of m unknown (ending_of (Ok outcome)))

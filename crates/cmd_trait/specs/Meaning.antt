@@ -58,6 +58,8 @@ pub record Meaning (F : Type 0) : Type 1 where
   pub uses : Uses
   -- whether it may leave names unsynced that were synced, for all that is known of a repository that may be damaged
   pub unsyncs : Bool
+  -- whether, where it succeeds, a crash may leave something else of the data folder than what is there
+  pub folder_unsynced : Bool
   -- which command of the repository's log it is, from what the objects hold before and after it
   pub manner : Place → KnownWorld → KnownWorld → Manner
   -- Ok: what it promises; what of all that a crash leaves, where it syncs what it looks at alone; and what it

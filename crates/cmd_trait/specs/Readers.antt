@@ -33,6 +33,7 @@ reader_meaning promise cause status message = record {
   spool = None;
   uses = nothing;
   unsyncs = false;
+  folder_unsynced = true;
   manner = λ p old new. each (λ command. command ≡ Reading);
   promise = λ p old new outcome. promise p old outcome;
   lasts = λ p nodes repo now_nodes outcome. Unit {0};

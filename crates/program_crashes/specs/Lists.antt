@@ -1,5 +1,5 @@
 -- What a list of acts over devices in memory leads to.
-use Rattle.std.specs.Prelude.{◌≡◌, ◌≤◌, ◌++◌, ℕ, true, List, [], ◌∷◌, Option, Some, None, map, drop, string_bytes, is_some, option_map, if◌then◌else◌}
+use Rattle.std.specs.Prelude.{◌≡◌, ◌≤◌, ◌++◌, ℕ, true, false, List, [], ◌∷◌, Option, Some, None, map, drop, string_bytes, is_some, option_map, if◌then◌else◌}
 use Rattle.base_devices.specs.Content.{Content}
 use Rattle.base_devices.specs.Moments.{View, IsImage}
 use Rattle.base_devices.specs.States.{DiskState, DataFolderState, ConnectionState, ClockState, InputState, OutputState}
@@ -53,6 +53,7 @@ disk_of d = record {
 abbrev pub folder_of : MemDataFolder → DataFolderState
 folder_of t = record {
   nodes = Some (nodes_at t.nodes);
+  unsynced = λ _. false;
   opened = map string_bytes t.opened.items;
   faulty_calls = t.failing.faulty_calls;
   faults = t.failing.faults;

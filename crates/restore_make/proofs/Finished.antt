@@ -1,13 +1,14 @@
 -- A whole restore: the control file besides all else.
 use Rattle.std.proofs.Common.{ℕ, zero, suc, get_or, ◌||◌, Contains, Bool, true, false, ◌≡◌, ◌≢◌, ◌⊎◌, inl, inr, ⊎_elim, ◌<◌, ◌&&◌, refl, sym, ap, ◌∙◌, subst, arith, List, [], ◌∷◌, length, map, Option, Some, None, option_map, bytes_eq, not}
-use Rattle.std.specs.Prelude.{IfSome, ◌==◌, Result, Ok, Err, OnOk}
+use Rattle.std.specs.Prelude.{IfSome, ◌==◌, Result, Ok, Err, OnOk, OnErr}
 use Rattle.std.specs.List.{list_any}
 use Rattle.std.proofs.lemmas.Bool.Decides.{nat_tests}
 use Rattle.std.proofs.lemmas.Slice.Eq.{bytes_eq-Decides}
 use Rattle.base_devices.specs.Content.{at, SameBut}
 use Rattle.base_devices.specs.Links.{LinkState}
+use Rattle.base_devices.specs.States.{DataFolderState}
 use Rattle.base_devices.specs.declared.data_folder.Node.{Node}
-use Rattle.base_devices.specs.DataFolder.{Nodes, Held, file, folder, link, other, shown, file_bytes, with_node, ChangesTree, IsTreeListing}
+use Rattle.base_devices.specs.DataFolder.{Nodes, Held, file, folder, link, other, shown, file_bytes, with_node, RemovesSynced, IsTreeListing}
 use Rattle.base_model.specs.declared.labels.Label.{Label}
 use Rattle.restore_make.specs.Recovered.{LogFetch, Recovery, conf_path, signal_path}
 use Rattle.restore_make.specs.Recovered.Recovery.{FromArchive, Nothing}
@@ -23,6 +24,7 @@ use Rattle.restore_make.specs.Listed.{is_folder, is_control_node, IsListedBut, I
 use Rattle.restore_make.specs.Options.{Options, is_added}
 use Rattle.restore_make.specs.Kept.{marked, IsKept}
 use Rattle.restore_make.specs.Settings.{HasAdded}
+use Rattle.restore_make.specs.Restorations.{StopsSafely}
 use Rattle.restore_make.specs.Finished.{waiting_path, HasEntry, IsAway, HasCome, IsMarked}
 use Rattle.worker_pool.specs.Left.{IsLeft}
 use Rattle.restore_make.proofs.Links.{read_before}
@@ -182,13 +184,17 @@ pub none_there : (seen : List (Text × Node)) (o : Option Nodes) → list_any is
 none_there seen None none l = tt
 none_there seen (Some f) none l = ⊎_elim (λ (e : f control_path ≡ None). ap file_bytes e) (λ (h : (f control_path ≡ Some folder) × (f control_path ≡ Some folder)). ap file_bytes h.0) (no_file seen f none l)
 
-pub but_control : {T E : Type 0} (r : Result T E) (o new : Option Nodes) → ChangesTree r (with_node control_path None) o new → SameBut control_path o new
-but_control (Ok x) o new is q off = ap (at q) is ∙ go o
+pub but_control : {T E : Type 0} (r : Result T E) (o new : Option Nodes) → RemovesSynced r control_path o new → SameBut control_path o new
+but_control r o new gone q off = by r gone
   where
     go : (y : Option Nodes) → at q (option_map (with_node control_path None) y) ≡ at q y
     go None = refl
     go (Some f) = ap (λ (v : Option Held). Some v) (set_other control_path None f q off)
-but_control (Err e) o new is q off = ap (at q) is
+
+    by : (x : Result T E) → RemovesSynced x control_path o new → at q new ≡ at q o
+    by (Ok x) is = ap (at q) is ∙ go o
+    by (Err e) (inl is) = ap (at q) is
+    by (Err e) (inr is) = ap (at q) is ∙ go o
 
 pub listed_but : (seen : List (Text × Node)) (o new : Option Nodes) → IfSome o (λ f. IsTreeListing f seen) → new ≡ option_map (with_node control_path None) o → IfSome new (λ f. IsListedBut f seen)
 listed_but seen o new listing is = subst (λ (x : Option Nodes). IfSome x (λ f. IsListedBut f seen)) (sym is) (go o listing)
@@ -206,9 +212,14 @@ none_after o new is = subst (HasNone control_path) (sym is) (go o)
 
 -- ---- results
 
-pub on_removed : {A E : Type 0} (r : Result A E) (P : Type 0) (change : Nodes → Nodes) (old new : Option Nodes) → ChangesTree r change old new → (new ≡ option_map change old → P) → OnOk r P
-on_removed (Ok x) P change old new h to = to h
-on_removed (Err e) P change old new h to = tt
+pub on_removed : {A E : Type 0} (r : Result A E) (P : Type 0) (old new : Option Nodes) → RemovesSynced r control_path old new → (new ≡ option_map (with_node control_path None) old → P) → OnOk r P
+on_removed (Ok x) P old new h to = to h
+on_removed (Err e) P old new h to = tt
+
+pub stops_safely : {A E : Type 0} (r : Result A E) (old new : DataFolderState) → RemovesSynced r control_path old.nodes new.nodes → OnErr r (StopsSafely old new)
+stops_safely (Ok x) old new h = tt
+stops_safely (Err e) old new (inl is) = inl is
+stops_safely (Err e) old new (inr is) = inr (none_after old.nodes new.nodes is)
 
 pub on_ok_three : {A E : Type 0} (r : Result A E) (P Q R S : Type 0) → (P → Q → R → S) → OnOk r P → OnOk r Q → OnOk r R → OnOk r S
 on_ok_three (Ok x) P Q R S to p q s = to p q s

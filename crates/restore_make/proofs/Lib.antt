@@ -25,3 +25,4 @@ pub mod Settled
 pub mod Completed
 pub mod Earlier
 pub mod Headline
+pub mod Synced

@@ -1,5 +1,8 @@
 // Puts the control file in its place last.
 ghost use Rattle.std.specs.Prelude.{◌≡◌, ◌≢◌, ◌<◌, ◌≤◌, ◌^◌, true, map, vec_len, IfOk, OnOk, OnErr, IfErr, IfSome, IfNone};
+ghost use Rattle.base_devices.specs.Cause.{HasCause};
+ghost use Rattle.base_devices.specs.DataFolder.{ChangesTree, moved_node};
+ghost use Rattle.base_devices.specs.States.{AllSynced, MovesProperly};
 ghost use Rattle.base_model.specs.InfoFiles.{IsLabel};
 ghost use Rattle.base_model.specs.Text.{In};
 ghost use Rattle.base_model.specs.Values.{FileEntry as Entry, file_entry_of};
@@ -17,7 +20,7 @@ ghost use Rattle.restore_make.specs.Controlled.{IsControlOf, HasBackupFile, Stay
 use crate::fault::FillFault;
 use crate::file_jobs::FileJobs;
 use crate::file_writes::write_files;
-use base_devices::{DataFolder, Link, Scheduler};
+use base_devices::{DataFolder, DeviceError, Link, Scheduler};
 use base_model::{FileEntry, Label};
 use restore_steps::{Wanted, begin_timed, is_control, source_job};
 use std::alloc::{AllocError, Global};
@@ -135,6 +138,18 @@ fn stage<T: DataFolder, L: Link, U: Scheduler>(
     fetch(alloc, file, WAITING, pool, tree)
 }
 
+// Syncs all that was done, and then puts the control file in its place.
+fn place_synced<T: DataFolder>(tree: &mut T) -> Result<(), DeviceError>
+    ensures nodes { ChangesTree result (moved_node waiting_path control_path) (T.state tree.old).nodes (T.state tree.new).nodes }
+    ensures synced { OnOk result (AllSynced (T.state tree.new)) }
+    ensures proper { MovesProperly waiting_path control_path (T.state tree.old) (T.state tree.new) }
+    ensures opened { (T.state tree.new).opened ≡ (T.state tree.old).opened }
+    ensures cause { HasCause (T.state tree.old).faults (T.state tree.new).faults result }
+{
+    tree.sync()?;
+    tree.rename_synced(WAITING, CONTROL)
+}
+
 /// Writes the control file, and puts it in its place last of all.
 pub(crate) fn put_control<T: DataFolder, L: Link, U: Scheduler>(
     alloc: Global,
@@ -151,6 +166,8 @@ pub(crate) fn put_control<T: DataFolder, L: Link, U: Scheduler>(
     ensures waiting { OnOk result (IsAway waiting_path (T.state tree.new).nodes) }
     ensures clean { OnOk result (StaysAway (temporary_path waiting_path) (T.state tree.old) (T.state tree.new)) }
     ensures others { ChangesControl (T.state tree.old) (T.state tree.new) }
+    // A crash leaves all of it.
+    ensures synced { OnOk result (AllSynced (T.state tree.new)) }
     // Where it isn't put there, none is there.
     ensures none { OnErr result (StaysNone control_path (T.state tree.old).nodes (T.state tree.new).nodes) }
     // Where the file's folder is there, no call is faulty.
@@ -160,6 +177,6 @@ pub(crate) fn put_control<T: DataFolder, L: Link, U: Scheduler>(
     ensures fault { IfErr result (FailsToFetch file.now L.link_state pool.old pool.new T.state tree.old tree.new) }
 {
     stage(alloc, file, pool, tree)?;
-    tree.rename(WAITING, CONTROL)?;
+    place_synced(tree)?;
     Ok(())
 }

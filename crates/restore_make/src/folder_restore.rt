@@ -4,6 +4,7 @@ ghost use Rattle.std.specs.List.{list_any};
 ghost use Rattle.base_devices.specs.Cause.{HasCause};
 ghost use Rattle.base_devices.specs.Content.{SameBut};
 ghost use Rattle.base_devices.specs.DataFolder.{IsTreeListing};
+ghost use Rattle.base_devices.specs.States.{AllSynced};
 ghost use Rattle.base_model.specs.ManifestText.{IsManifest};
 ghost use Rattle.base_model.specs.Values.{manifest_of};
 ghost use Rattle.base_model.specs.StanzaName.{is_stanza};
@@ -45,13 +46,13 @@ fn remove_control<T: DataFolder>(tree: &mut T, seen: &[FolderEntry]) -> Result<(
     ensures listed { OnOk result (IfSome (T.state tree.new).nodes (λ f. IsListedBut f (map seen_of seen.now))) }
     ensures none { OnOk result (HasNone control_path (T.state tree.new).nodes) }
     ensures others { OnOk result (SameBut control_path (T.state tree.old).nodes (T.state tree.new).nodes) }
-    ensures same { OnErr result ((T.state tree.new).nodes ≡ (T.state tree.old).nodes) }
+    ensures safe { OnErr result (StopsSafely (T.state tree.old) (T.state tree.new)) }
     ensures proper { (T.state tree.new).faulty_calls ≡ (T.state tree.old).faulty_calls }
     ensures opened { (T.state tree.new).opened ≡ (T.state tree.old).opened }
     ensures cause { HasCause (T.state tree.old).faults (T.state tree.new).faults result }
 {
     if has_control(seen) {
-        return tree.remove(CONTROL);
+        return tree.remove_synced(CONTROL);
     }
     Ok(())
 }
@@ -68,6 +69,7 @@ fn put_last<T: DataFolder, L: Link, U: Scheduler>(
     requires stanza { is_stanza what.now.stanza.now ≡ true }
     requires rules { IsManifest (manifest_of what.now.manifest.now) }
     ensures finishes { OnOk result (FinishesAll what.now L.link_state pool.old T.state tree.old tree.new) }
+    ensures synced { OnOk result (AllSynced (T.state tree.new)) }
     ensures none { OnErr result (StaysNone control_path (T.state tree.old).nodes (T.state tree.new).nodes) }
     ensures proper { ProperInFolders what.now (T.state tree.old) (T.state tree.new) }
     ensures opened { (T.state tree.new).opened ≡ (T.state tree.old).opened }
@@ -83,7 +85,7 @@ fn put_last<T: DataFolder, L: Link, U: Scheduler>(
             };
             put_control(alloc, &control, pool, tree)
         }
-        None => Ok(()),
+        None => Ok(tree.sync()?),
     }
 }
 
@@ -99,6 +101,7 @@ fn apply_settings<T: DataFolder, L: Link, U: Scheduler>(
     requires stanza { is_stanza what.now.stanza.now ≡ true }
     requires rules { IsManifest (manifest_of what.now.manifest.now) }
     ensures completes { OnOk result (CompletesAll what.now L.link_state pool.old T.state tree.old tree.new) }
+    ensures synced { OnOk result (AllSynced (T.state tree.new)) }
     ensures none { OnErr result (StaysNone control_path (T.state tree.old).nodes (T.state tree.new).nodes) }
     ensures proper { ProperInFolders what.now (T.state tree.old) (T.state tree.new) }
     ensures opened { (T.state tree.new).opened ≡ (T.state tree.old).opened }
@@ -124,6 +127,7 @@ fn put_rest<T: DataFolder, L: Link, U: Scheduler>(
     requires seen { IfSome (T.state tree.old).nodes (λ f. IsListedBut f (map seen_of what.now.seen.now)) }
     requires marks { MarksShown what.now marks.now }
     ensures puts { OnOk result (PutsRest what.now marks.now L.link_state pool.old T.state tree.old tree.new) }
+    ensures synced { OnOk result (AllSynced (T.state tree.new)) }
     ensures none { OnErr result (StaysNone control_path (T.state tree.old).nodes (T.state tree.new).nodes) }
     ensures proper { (T.state tree.new).faulty_calls ≡ (T.state tree.old).faulty_calls }
     ensures opened { (T.state tree.new).opened ≡ (T.state tree.old).opened }
@@ -151,6 +155,8 @@ pub fn restore_files<T: DataFolder, L: Link, U: Scheduler>(
     ensures finished { OnOk result (LeavesFinished what.now L.link_state pool.old T.state tree.old tree.new) }
     // Over links that read the repository it is the restored tree of the manifest's backup.
     ensures restored { OnOk result (LeavesRestored what.now L.link_state pool.old T.state tree.old tree.new) }
+    // A crash leaves all of it.
+    ensures synced { OnOk result (AllSynced (T.state tree.new)) }
     // After a refusal there is no control file, unless nothing was changed.
     ensures control { OnErr result (StopsSafely (T.state tree.old) (T.state tree.new)) }
     // No call is faulty.

@@ -78,7 +78,7 @@ module _ (p : Place) (b k : World) (rest : k ≡ record b { repo = k.repo; tree 
       OnNone (reached_by get_early r) (k.tree.nodes ≡ b.tree.nodes) → (failed : Object → Type 0) → ((object : Object) → failed object → Failed b k object) →
       IfErr r (HaltCause (GetCause p.stanza folder word path b.repo.view.now b.tree.nodes) failed) → SamePlaces b k → AreLater b k → PartEffect p (get_meaning name at) b k (own_of r)
   got_ran name at in_it is_name is_at got lasting changes none failed rose cause places later = as_given p get_meaning b k (own_of r) folder word path name at in_it is_name is_at
-      (ran_of placed means b k failed rose (GetCause p.stanza folder word path b.repo.view.now b.tree.nodes) (λ e h. h) refl tt r
+      (ran_of placed means b k failed rose (GetCause p.stanza folder word path b.repo.view.now b.tree.nodes) (λ e h. h) refl tt r tt
       (λ command x. reading_runs Looked p.stanza command (reached_by get_early r) b k x still (ap (λ (s : World). s.spool.view) rest))
       got
       lasting

@@ -91,7 +91,7 @@ module _ (p : Place) (b k : World) (rest : k ≡ record b { repo = k.repo; spool
       let named : arguments ≡ fetch_argument_list p word spool queue = subst (λ (w : Text). arguments ≡ fetch_argument_list p w spool queue) (sym is_name) same in
       let as_placed : arguments ≡ fetch_argument_list placed word spool queue = subst (λ (f : Text). arguments ≡ fetch_argument_list (with_folder p f) word spool queue) (sym in_it) named in
       as_given p (λ w x. through_meaning w x spool queue) b k (own_of r) folder word path name at in_it is_name is_at
-      (ran_of placed means b k failed rose (GetAheadCause p.stanza folder word path known file b.repo.view.now b.tree.nodes b.spool.view.now) (λ e h. (file, known, wanted, h)) refl tt r
+      (ran_of placed means b k failed rose (GetAheadCause p.stanza folder word path known file b.repo.view.now b.tree.nodes b.spool.view.now) (λ e h. (file, known, wanted, h)) refl tt r tt
       (λ command x. ahead_runs Looked p.stanza command (reached_by get_early r) b k x still (λ whole. spool_reads p.stanza b.spool.view k.spool.view law new_law marks spool_known Looked whole b.repo.view))
       (gets_by placed word path spool queue b k r file known wanted got given (subst (λ (ws : List Text). IfOk r (FollowsUp p.stanza known file b.repo.view.now ws k.spool.view.now b.others k.others)) as_placed follows))
       lasting
@@ -119,7 +119,7 @@ module _ (p : Place) (b : World) (name path spool : Text) (queue : ℕ) where
   begins = through_meaning name path spool queue
 
   through_memory : PartEffect p begins b b (own_of (Err HaltMemory))
-  through_memory = ran_of p begins b b (λ object. ⊥) (λ object h. absurd h) (λ e. ⊥) (λ e h. absurd h) refl tt (Err HaltMemory)
+  through_memory = ran_of p begins b b (λ object. ⊥) (λ object h. absurd h) (λ e. ⊥) (λ e h. absurd h) refl tt (Err HaltMemory) tt
       (λ command x. reading_runs Looked p.stanza command stopped b b x (still_self b.repo.view) refl)
       tt
       tt

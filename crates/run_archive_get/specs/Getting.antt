@@ -46,6 +46,7 @@ get_meaning name path = record {
   spool = None;
   uses = nothing;
   unsyncs = false;
+  folder_unsynced = true;
   manner = λ p old new. each (λ command. command ≡ Reading);
   promise = λ p old new outcome. GotBy p.stanza p.data_folder name path old.repo old.nodes new.nodes outcome
       × OnStanza p.stanza old.repo (λ s. GivenBy s p.data_folder name path old.nodes new.nodes outcome);

@@ -51,6 +51,7 @@ through_meaning name path spool queue = record {
   spool = Some spool;
   uses = record nothing { spool = true };
   unsyncs = false;
+  folder_unsynced = true;
   manner = λ p old new. each (λ command. command ≡ Reading);
   promise = λ p old new outcome. GetsThrough p name path spool queue old new outcome;
   lasts = λ p nodes repo now_nodes outcome. (f : Content) → Leaves repo repo.moment f

@@ -100,7 +100,7 @@ module _ (p : Place) (b k : World) (rest : k ≡ record b { repo = k.repo; spool
       IfErr r (HaltCause (FollowUpCause p.stanza known segment queue b.repo.view.now) failed) → SamePlaces b k → AreLater b k → PartEffect p (fetch_meaning name spool queue) b k (own_of r)
   fetched_ran name is segment named known shows fetched failed rose cause places later =
       subst (λ (x : Text). PartEffect p (fetch_meaning x spool queue) b k (own_of r)) is
-      (ran_of p means b k failed rose (FollowUpCause p.stanza known segment queue b.repo.view.now) (λ e h. (segment, named, (known, shows, h))) refl tt r
+      (ran_of p means b k failed rose (FollowUpCause p.stanza known segment queue b.repo.view.now) (λ e h. (segment, named, (known, shows, h))) refl tt r tt
       (λ command x. ahead_runs Looked p.stanza command (reached_by get_early r) b k x still (λ whole. spool_reads p.stanza b.spool.view k.spool.view law new_law marks (known_beside p.stanza b.spool.view k.spool.view beside) Looked whole b.repo.view))
       (ahead_by p.stanza word queue b k r segment named known shows fetched)
       (any_ok r (OwnLasts p means b k) (λ o synced some pair. tt))

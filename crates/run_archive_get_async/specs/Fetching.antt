@@ -58,6 +58,7 @@ fetch_meaning name spool queue = record {
   spool = Some spool;
   uses = record nothing { spool = true };
   unsyncs = false;
+  folder_unsynced = true;
   manner = λ p old new. each (λ command. command ≡ Reading);
   promise = λ p old new outcome. FetchesAhead p name queue old new outcome;
   lasts = λ p nodes repo now_nodes outcome. Unit {0};

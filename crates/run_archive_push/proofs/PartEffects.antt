@@ -86,7 +86,7 @@ module _ (p : Place) (b k : World) (rest : k ≡ record b { repo = k.repo; tree 
       IfErr r (HaltCause (PushCause p.stanza folder path b.repo.view.now b.tree.nodes) failed) → SamePlaces b k → AreLater b k → PartEffect p (push_meaning asked) b k (own_of r)
   pushed_ran asked in_it is effect beside does stored lasting synced agrees alike failed rose cause places later =
       subst (λ (x : Text). PartEffect p (push_meaning x) b k (own_of r)) is (subst (λ (x : Text). PartEffect (with_folder p x) (push_meaning path) b k (own_of r)) in_it
-      (ran_of at (push_meaning path) b k failed rose (PushCause p.stanza folder path b.repo.view.now b.tree.nodes) (λ e h. h) refl tt r
+      (ran_of at (push_meaning path) b k failed rose (PushCause p.stanza folder path b.repo.view.now b.tree.nodes) (λ e h. h) refl tt r tt
       (λ command x. subst (λ (v : View). DisksEffect Looked p.stanza command (reached_by push_early r) b.repo.view b.spool.view k.repo.view v) (sym (ap (λ (s : World). s.spool.view) rest))
       (does_runs Looked p.stanza command (reached_by push_early r) b.repo.view k.repo.view b.spool.view (push_receipts p.stanza b.tree.nodes folder path command x b.spool.view) (does command x)))
       stored

@@ -165,6 +165,7 @@ module _ (p : Place) (b k : World) (rest : k ≡ record b { repo = k.repo; spool
       promise = ended_ok word _ r (ok_as r _ _ (λ o h. no_lines Stored o h) stored);
       lasts = ended_ok word _ r (any_ok r (OwnLasts p means b k) (λ o synced some pair. tt));
       synced = tt;
+      folder_synced = tt;
       acknowledges = ended_on word _ r (ok_on r _ _ (λ o h. queued_stored (after_lines Stored o h)) stored);
       cause = own_cause r cause;
       healed = ended_on word _ r (all_on r (StaysHealed p means b k) (record { agree = λ some h. any_some k.repo.view.now; lasts = λ synced some h. tt }));
@@ -199,6 +200,7 @@ module _ (p : Place) (b : World) (path spool : Text) (turns : ℕ) where
     promise = tt;
     lasts = tt;
     synced = tt;
+    folder_synced = tt;
     acknowledges = tt;
     cause = tt;
     healed = tt;

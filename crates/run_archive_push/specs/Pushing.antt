@@ -46,6 +46,7 @@ push_meaning path = record {
   spool = None;
   uses = nothing;
   unsyncs = false;
+  folder_unsynced = true;
   manner = λ p old new. each (λ command. IsSomeAnd old.nodes (λ f. IsPushOf f p.data_folder path command));
   promise = λ p old new outcome. OnFinished outcome (IsStored p.stanza p.data_folder path old.nodes old.repo new.repo);
   lasts = λ p nodes repo now_nodes outcome. OnFinished outcome (λ lines. IsLasting p.stanza p.data_folder path repo);

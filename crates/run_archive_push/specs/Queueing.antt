@@ -88,6 +88,7 @@ queued_push_meaning path spool turns = record {
   spool = Some spool;
   uses = record nothing { turns = true; spool = true };
   unsyncs = true;
+  folder_unsynced = true;
   manner = λ p old new. provided (TurnsKnownIf true p.stanza new) (IsWait old new);
   promise = λ p old new outcome. OnFinished outcome (λ lines. lines ≡ []);
   lasts = λ p nodes repo now_nodes outcome. Unit {0};

@@ -92,7 +92,7 @@ module _ (p : Place) (b k : World) (rest : k ≡ record b { repo = k.repo; spool
       × DisksEffect Whole p.stanza (ArchivePushDrain (kept_files drained.entries)) to_end b.repo.view b.spool.view k.repo.view k.spool.view)) → (failed : Object → Type 0) → ((object : Object) → failed object → Failed b k object) →
       IfErr r (HaltCause (DrainCause p.stanza b.repo.view.now k.repo.view.now b.tree.nodes) failed) → SamePlaces b k → AreLater b k → PartEffect p means b k (own_of r)
   drained_ran effect stays pair beside spool_beside runs drained failed rose cause places later =
-      ran_of p means b k failed rose (DrainCause p.stanza b.repo.view.now k.repo.view.now b.tree.nodes) (λ e h. h) refl tt r
+      ran_of p means b k failed rose (DrainCause p.stanza b.repo.view.now k.repo.view.now b.tree.nodes) (λ e h. h) refl tt r tt
       (λ some. drain_steps b.tree.nodes (is_ok r) (λ command. DisksEffect Whole p.stanza command (reached_by drain_early r) b.repo.view b.spool.view k.repo.view k.spool.view) runs some)
       (ok_as r _ _ (λ o h. record {
         known = known;

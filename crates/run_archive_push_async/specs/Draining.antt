@@ -61,6 +61,7 @@ drain_meaning spool = record {
   spool = Some spool;
   uses = record nothing { spool = true };
   unsyncs = false;
+  folder_unsynced = true;
   manner = λ p old new. provided (IsSome old.nodes) (λ command. IsSomeAnd old.nodes (λ f. IsSomeDrain f command));
   promise = λ p old new outcome. Drains p.stanza old new outcome;
   lasts = λ p nodes repo now_nodes outcome. LastsDrained p.stanza nodes repo;

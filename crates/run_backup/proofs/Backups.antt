@@ -156,7 +156,7 @@ module _ {F : Type 0} (M : BackupMeaning F) (facts : IsFollowable M) (p : Place)
       (M.promise p (known_world b) (known_world k) k.repo.view.now) none h.promise (h.steps turns))
 
   none_ran : PartEffect p means b k (own_of (of_made made))
-  none_ran = ran_of p means b k (Failed b k) (λ object rose. rose) (CommandCause M expires p (known_world b) (known_world k) (Failed b k)) (λ e why. why) refl tt (of_made made)
+  none_ran = ran_of p means b k (Failed b k) (λ object rose. rose) (CommandCause M expires p (known_world b) (known_world k) (Failed b k)) (λ e why. why) refl tt (of_made made) tt
       (subst Steps (sym (made_reached made)) none_there)
       (made_ok (means.promise p (known_world b) (known_world k)) made (none_promise p.stanza b.clock.least (known_world k) expires made (M.promise p (known_world b) (known_world k)) none h.promise))
       tt

@@ -127,6 +127,7 @@ backup_meaning m expires = record {
   spool = None;
   uses = record { turns = m.running; spool = m.running; server = m.running; workers = true; clock = true };
   unsyncs = true;
+  folder_unsynced = true;
   manner = λ p old new. manner_by m.running p.stanza new
       (WithExpiry expires old.clock.least new.clock.least (m.makes p old new));
   promise = λ p old new outcome. AfterIt expires p.stanza old.clock.least (IsBackedUp m p old new) new outcome;

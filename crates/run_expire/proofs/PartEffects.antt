@@ -54,7 +54,7 @@ module _ (p : Place) (b k : World) (rest : k ≡ record b { repo = k.repo; clock
       IfErr r (HaltCause (ExpireCommandCause p.stanza b.repo.view.now) failed) → SamePlaces b k → AreLater b k → PartEffect p (expire_meaning rules) b k (own_of r)
   pruned_ran x only beside unread failed rose cause places later =
       let command = Expire (retention rules x.moment) in
-      ran_of p (expire_meaning rules) b k failed rose (ExpireCommandCause p.stanza b.repo.view.now) (λ e h. h) refl tt r (
+      ran_of p (expire_meaning rules) b k failed rose (ExpireCommandCause p.stanza b.repo.view.now) (λ e h. h) refl tt r tt (
         command,
         (x.moment, x.may_be, refl),
         subst (λ (v : View). DisksEffect Whole p.stanza command (reached_by expire_early r) b.repo.view b.spool.view k.repo.view v) (sym (ap (λ (s : World). s.spool.view) rest))

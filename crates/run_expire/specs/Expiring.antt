@@ -39,6 +39,7 @@ expire_meaning rules = record {
   spool = None;
   uses = record nothing { clock = counts_days rules.full };
   unsyncs = true;
+  folder_unsynced = true;
   manner = λ p old new. one (IsExpiryBy rules old.clock.least new.clock.least);
   promise = λ p old new outcome. Removes p.stanza rules old new outcome;
   lasts = λ p nodes repo now_nodes outcome. Unit {0};

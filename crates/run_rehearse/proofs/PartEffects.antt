@@ -71,7 +71,7 @@ module _ (p : Place) (number : ℕ) (b k : World) (spool : k.spool.view ≡ b.sp
       let command = rehearsed (size_by number) keeps_one x y z in
       let why = RehearseCause p.stanza (size_by number) b.repo.view.now b.tree.nodes in
       let stays = rehearse_stays (k.tree.nodes ≡ b.tree.nodes) failed never why r (ok_as r _ _ (λ o h. after_known _ h.found o h.lines) shows) cause early in
-      ran_of p m b k failed rose why (λ e h. h) refl tt r (
+      ran_of p m b k failed rose why (λ e h. h) refl tt r tt (
         command,
         (x, y, z, refl),
         subst (λ (v : View). DisksEffect Whole p.stanza command (reached_by rehearse_early r) b.repo.view b.spool.view k.repo.view v) (sym spool)

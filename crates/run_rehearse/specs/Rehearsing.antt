@@ -46,6 +46,7 @@ rehearse_meaning number = record {
   spool = None;
   uses = record nothing { workers = true; clock = true };
   unsyncs = true;
+  folder_unsynced = true;
   manner = λ p old new. one (IsRehearsal (size_by number));
   promise = λ p old new outcome. Rehearses p.stanza (size_by number) old new outcome;
   lasts = λ p nodes repo now_nodes outcome. Unit {0};

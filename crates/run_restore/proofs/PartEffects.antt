@@ -1,7 +1,8 @@
 -- What restore's own part did, known of all objects.
 use Rattle.std.proofs.Common.{◌≡◌, ◌≢◌, ◌⊎◌, inl, inr, Option, Some, Result, Ok, Err, IfOk, IfErr, refl, subst, ap, true, string_bytes}
-use Rattle.std.specs.Prelude.{OnErr}
+use Rattle.std.specs.Prelude.{OnOk, OnErr}
 use Rattle.base_devices.specs.Content.{Content}
+use Rattle.base_devices.specs.States.{AllSynced}
 use Rattle.base_model.specs.declared.labels.Label.{Label}
 use Rattle.base_model.specs.Now.{NowRepresents}
 use Rattle.base_model.specs.Repository.{Stanza}
@@ -101,12 +102,12 @@ module _ (p : Place) (b k : World) (rest : k ≡ record b { repo = k.repo; tree 
 
   pub restored_ran : (asked : RestoreHow) → how ≡ asked → IfOk r IsIn →
       IfOk r (λ o. (s : Stanza) (f : Content) → b.repo.view.now ≡ Some f → NowRepresents p.stanza (Some s) b.repo.view.now → OnFinished o (GivesBackup s (found_for p choice how (known_world b)) f k.tree.nodes)) →
-      OnErr r (Stays ⊎ HasNone control_path k.tree.nodes) → IfErr r (λ h. leaves_folder h ≡ true → Stays) →
+      OnOk r (AllSynced k.tree) → OnErr r (Stays ⊎ HasNone control_path k.tree.nodes) → IfErr r (λ h. leaves_folder h ≡ true → Stays) →
       (failed : Object → Type 0) → (failed TheServer → ⊥) → ((object : Object) → failed object → Failed b k object) →
       IfErr r (HaltCause (RestoreCommandCause (found_for p choice how (known_world b))) failed) → SamePlaces b k → AreLater b k → PartEffect p (restore_meaning set asked) b k (own_of r)
-  restored_ran asked is restored given control unchanged failed never rose cause places later =
+  restored_ran asked is restored given synced control unchanged failed never rose cause places later =
       subst (λ (x : RestoreHow). PartEffect p (restore_meaning set x) b k (own_of r)) is
-      (ran_of p (restore_meaning set how) b k failed rose (RestoreCommandCause (found_for p choice how (known_world b))) (λ e h. (choice, is_choice, h)) refl tt r
+      (ran_of p (restore_meaning set how) b k failed rose (RestoreCommandCause (found_for p choice how (known_world b))) (λ e h. (choice, is_choice, h)) refl tt r synced
       (λ command x. reading_runs Whole p.stanza command (reached_by restore_early r) b k x still (ap (λ (s : World). s.spool.view) rest))
       (both r IsIn _ (Restores p set how (known_world b) (known_world k)) (λ o x y. record { choice = choice; is = is_choice; recovers = x; gives = y }) restored given)
       tt

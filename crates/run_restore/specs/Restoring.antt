@@ -96,6 +96,7 @@ restore_meaning set how = record {
   spool = None;
   uses = record nothing { workers = true };
   unsyncs = false;
+  folder_unsynced = false;
   manner = λ p old new. each (λ command. command ≡ Reading);
   promise = λ p old new outcome. Restores p set how old new outcome;
   lasts = λ p nodes repo now_nodes outcome. Unit {0};

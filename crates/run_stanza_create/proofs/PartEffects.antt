@@ -75,7 +75,7 @@ module _ (p : Place) (server : Option Server) (b k : World) (rest : k ≡ record
   created_ran only does created still same asked quiet closed failed rose cause places later =
       let command = StanzaCreate (Some (first_cluster known)) in
       let nodes = ap (λ (s : World). s.tree.nodes) rest in
-      ran_of p (create_meaning server) b k failed rose (CreateCause p.stanza known server b.repo.view.now b.server.pending) (λ e h. (known, shows, h)) refl tt r
+      ran_of p (create_meaning server) b k failed rose (CreateCause p.stanza known server b.repo.view.now b.server.pending) (λ e h. (known, shows, h)) refl tt r tt
       (λ one x. subst (λ (c : Command). DisksEffect Whole p.stanza c (reached_by create_early r) b.repo.view b.spool.view k.repo.view k.spool.view) (sym (create_of b.tree.nodes known one shows x)) (subst (λ (v : View). DisksEffect Whole p.stanza command (reached_by create_early r) b.repo.view b.spool.view k.repo.view v) (sym (ap (λ (s : World). s.spool.view) rest))
       (does_runs Whole p.stanza command (reached_by create_early r) b.repo.view k.repo.view b.spool.view (λ q log keeps. create_spool p.stanza (Some (first_cluster known)) true q log b.spool.view keeps) does)))
       (ok_with r _ _ _ _ (λ o made agrees asks. record { known = known; shows = shows; created = made; agrees = agrees; asks = asks }) created same asked)

@@ -58,6 +58,7 @@ create_meaning server = record {
   spool = None;
   uses = record nothing { server = is_some server };
   unsyncs = true;
+  folder_unsynced = true;
   manner = λ p old new. each (λ command. IsSomeAnd old.nodes (λ f. IsCreateOf f command));
   promise = λ p old new outcome. Creates p.stanza server old new outcome;
   lasts = λ p nodes repo now_nodes outcome. Unit {0};

@@ -59,6 +59,7 @@ upgrade_meaning server = record {
   spool = None;
   uses = record nothing { server = is_some server };
   unsyncs = true;
+  folder_unsynced = true;
   manner = λ p old new. each (λ command. IsSomeAnd old.nodes (λ f. IsUpgradeOf f command));
   promise = λ p old new outcome. Upgrades p.stanza server old new outcome;
   lasts = λ p nodes repo now_nodes outcome. Unit {0};

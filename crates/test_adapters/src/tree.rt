@@ -16,6 +16,9 @@ enum Call {
     SetTime(u64),
     RenameTo(&'static str),
     Remove,
+    RenameSynced(&'static str),
+    RemoveSynced,
+    Sync,
 }
 
 fn answer(tree: &mut RealDataFolder, call: Call, path: &str) -> Result<(), DeviceError> {
@@ -33,6 +36,9 @@ fn answer(tree: &mut RealDataFolder, call: Call, path: &str) -> Result<(), Devic
         Call::SetTime(time) => tree.set_time(path, time),
         Call::RenameTo(to) => tree.rename(path, to),
         Call::Remove => tree.remove(path),
+        Call::RenameSynced(to) => tree.rename_synced(path, to),
+        Call::RemoveSynced => tree.remove_synced(path),
+        Call::Sync => tree.sync(),
     }
 }
 
@@ -82,11 +88,21 @@ const CALLS: &[(Call, &str, Result<(), DeviceError>)] = &[
         "base/g",
         Err(DeviceError::Failed),
     ),
+    (
+        Call::RenameSynced("absent/h"),
+        "base/g",
+        Err(DeviceError::Failed),
+    ),
+    (Call::RenameSynced("base/h"), "base/g", Ok(())),
+    (Call::RenameSynced("base/g"), "base/h", Ok(())),
+    (Call::Sync, "", Ok(())),
+    (Call::RemoveSynced, "base", Err(DeviceError::Failed)),
     (Call::Remove, "base", Err(DeviceError::Failed)),
     (Call::Remove, "base/1", Ok(())),
     (Call::Remove, "base/1", Ok(())),
     (Call::Remove, "pipe", Ok(())),
-    (Call::Remove, "old", Ok(())),
+    (Call::RemoveSynced, "old", Ok(())),
+    (Call::RemoveSynced, "old", Ok(())),
 ];
 
 const LISTED: &[(&str, Node)] = &[
@@ -250,7 +266,7 @@ fn holds_its_folder(rt: HostRuntime) {
 
 // A restore whose control file comes last, over one of before, and one over more files than are kept open.
 const RESTORED: &[(Call, &str, Result<(), DeviceError>)] = &[
-    (Call::Remove, "global/pg_control", Ok(())),
+    (Call::RemoveSynced, "global/pg_control", Ok(())),
     (Call::Begin, "f.pgbackrest.tmp", Ok(())),
     (Call::Append(b"new"), "f.pgbackrest.tmp", Ok(())),
     (Call::RenameTo("f"), "f.pgbackrest.tmp", Ok(())),
@@ -262,8 +278,9 @@ const RESTORED: &[(Call, &str, Result<(), DeviceError>)] = &[
         "global/pg_control.pgbackrest.tmp",
         Ok(()),
     ),
+    (Call::Sync, "", Ok(())),
     (
-        Call::RenameTo("global/pg_control"),
+        Call::RenameSynced("global/pg_control"),
         "global/pg_control.pgbackrest.tmp",
         Ok(()),
     ),

@@ -16,6 +16,9 @@ enum Call {
     SetTime(&'static str, u64),
     Rename(&'static str, &'static str),
     Remove(&'static str),
+    RenameSynced(&'static str, &'static str),
+    RemoveSynced(&'static str),
+    Sync,
 }
 
 // How a call ends, by its counts.
@@ -41,6 +44,9 @@ fn run<T: DataFolder>(tree: &mut T, call: &Call) -> Result<(), DeviceError> {
         Call::SetTime(path, time) => tree.set_time(path, *time),
         Call::Rename(from, to) => tree.rename(from, to),
         Call::Remove(path) => tree.remove(path),
+        Call::RenameSynced(from, to) => tree.rename_synced(from, to),
+        Call::RemoveSynced(path) => tree.remove_synced(path),
+        Call::Sync => tree.sync(),
     }
 }
 
@@ -193,9 +199,29 @@ fn check_other_calls(rt: &impl Abort, tree: &mut MemDataFolder) {
         Call::Rename("PG_VERSION", "pg_tblspc/9"),
         End::Done,
     );
+    check_call(
+        rt,
+        tree,
+        Call::RenameSynced("base/none", "base/x"),
+        End::FaultyCall,
+    );
+    check_call(
+        rt,
+        tree,
+        Call::RenameSynced("base/old", "base/x"),
+        End::Done,
+    );
+    check_call(
+        rt,
+        tree,
+        Call::RenameSynced("base/x", "base/old"),
+        End::Done,
+    );
+    check_call(rt, tree, Call::Sync, End::Done);
+    check_call(rt, tree, Call::RemoveSynced("base"), End::FaultyCall);
     check_call(rt, tree, Call::Remove("base"), End::FaultyCall);
     check_call(rt, tree, Call::Remove("pg_wal/1"), End::Done);
-    check_call(rt, tree, Call::Remove("pg_wal"), End::Done);
+    check_call(rt, tree, Call::RemoveSynced("pg_wal"), End::Done);
     check_call(rt, tree, Call::Remove("pg_wal"), End::Done);
 }
 
@@ -321,6 +347,8 @@ fn each_call_of_a_tree_fails(rt: HostRuntime) {
     check_failing(&rt, alloc, Call::SetTime("PG_VERSION", 9));
     check_failing(&rt, alloc, Call::Rename("PG_VERSION", "pg_wal/1"));
     check_failing(&rt, alloc, Call::Remove("pg_wal/1"));
+    check_failing(&rt, alloc, Call::RenameSynced("PG_VERSION", "pg_wal/1"));
+    check_failing(&rt, alloc, Call::RemoveSynced("pg_wal/1"));
 }
 
 #[test]

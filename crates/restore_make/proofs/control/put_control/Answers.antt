@@ -12,25 +12,25 @@ use Rattle.restore_make.proofs.control.put_control.Goals as goal
 pub returns-in_err-stage-clause-none : goal.returns-in_err-stage-clause-none
 returns-in_err-stage-clause-none g c = on_err c.from_residual.result _ (none_at control_path (g.T.DataFolder.state c.args.tree.now).nodes (g.T.DataFolder.state c.stage.new.tree).nodes (c.stage.ensures.others control_path (control_lasts control_path) (control_lasts waiting_path)))
 
-pub returns-in_err-rename-clause-none : goal.returns-in_err-rename-clause-none
-returns-in_err-rename-clause-none g c = on_err c.from_residual-in_err-rename.result _ (none_at control_path (g.T.DataFolder.state c.args.tree.now).nodes (g.T.DataFolder.state c.rename.new.self).nodes (ap (at control_path) c.in_err-rename.ensures.nodes ∙ c.stage.ensures.others control_path (control_lasts control_path) (control_lasts waiting_path)))
+pub returns-in_err-place_synced-clause-none : goal.returns-in_err-place_synced-clause-none
+returns-in_err-place_synced-clause-none g c = on_err c.from_residual-in_err-place_synced.result _ (none_at control_path (g.T.DataFolder.state c.args.tree.now).nodes (g.T.DataFolder.state c.place_synced.new.tree).nodes (ap (at control_path) c.in_err-place_synced.ensures.nodes ∙ c.stage.ensures.others control_path (control_lasts control_path) (control_lasts waiting_path)))
 
 pub returns-clause-put : goal.returns-clause-put
-returns-clause-put g c = entry_moved c.args.file.now.stanza.now c.args.file.now.own.now (map g.L.Link.link_state c.args.pool.now.links.items) (file_entry_of c.args.file.now.entry.now) waiting_path control_path (g.T.DataFolder.state c.stage.new.tree).nodes (g.T.DataFolder.state c.rename.new.self).nodes c.in_ok-stage.ensures.waits c.in_ok-rename.ensures.nodes
+returns-clause-put g c = entry_moved c.args.file.now.stanza.now c.args.file.now.own.now (map g.L.Link.link_state c.args.pool.now.links.items) (file_entry_of c.args.file.now.entry.now) waiting_path control_path (g.T.DataFolder.state c.stage.new.tree).nodes (g.T.DataFolder.state c.place_synced.new.tree).nodes c.in_ok-stage.ensures.waits c.in_ok-place_synced.ensures.nodes
 
 pub returns-clause-others : goal.returns-clause-others
-returns-clause-others g c = λ q off off_waiting off_temp. moved_at waiting_path control_path q (g.T.DataFolder.state c.stage.new.tree).nodes (g.T.DataFolder.state c.rename.new.self).nodes off_waiting off c.in_ok-rename.ensures.nodes ∙ c.stage.ensures.others q off_waiting off_temp
+returns-clause-others g c = λ q off off_waiting off_temp. moved_at waiting_path control_path q (g.T.DataFolder.state c.stage.new.tree).nodes (g.T.DataFolder.state c.place_synced.new.tree).nodes off_waiting off c.in_ok-place_synced.ensures.nodes ∙ c.stage.ensures.others q off_waiting off_temp
 
-pub returns-in_err-rename-clause-proper : goal.returns-in_err-rename-clause-proper
-returns-in_err-rename-clause-proper g c = λ placed.
+pub returns-in_err-place_synced-clause-proper : goal.returns-in_err-place_synced-clause-proper
+returns-in_err-place_synced-clause-proper g c = λ placed.
     let old = (g.T.DataFolder.state c.args.tree.now).nodes in
     let mid = (g.T.DataFolder.state c.stage.new.tree).nodes in
-    c.rename.ensures.proper (entry_there c.args.file.now.stanza.now c.args.file.now.own.now (map g.L.Link.link_state c.args.pool.now.links.items) (file_entry_of c.args.file.now.entry.now) waiting_path mid c.in_ok-stage.ensures.waits) (control_placed old mid c.stage.ensures.others placed)
+    c.place_synced.ensures.proper (entry_there c.args.file.now.stanza.now c.args.file.now.own.now (map g.L.Link.link_state c.args.pool.now.links.items) (file_entry_of c.args.file.now.entry.now) waiting_path mid c.in_ok-stage.ensures.waits) (control_placed old mid c.stage.ensures.others placed)
     ∙ c.stage.ensures.proper placed
 
 pub returns-clause-proper : goal.returns-clause-proper
 returns-clause-proper g c = λ placed.
     let old = (g.T.DataFolder.state c.args.tree.now).nodes in
     let mid = (g.T.DataFolder.state c.stage.new.tree).nodes in
-    c.rename.ensures.proper (entry_there c.args.file.now.stanza.now c.args.file.now.own.now (map g.L.Link.link_state c.args.pool.now.links.items) (file_entry_of c.args.file.now.entry.now) waiting_path mid c.in_ok-stage.ensures.waits) (control_placed old mid c.stage.ensures.others placed)
+    c.place_synced.ensures.proper (entry_there c.args.file.now.stanza.now c.args.file.now.own.now (map g.L.Link.link_state c.args.pool.now.links.items) (file_entry_of c.args.file.now.entry.now) waiting_path mid c.in_ok-stage.ensures.waits) (control_placed old mid c.stage.ensures.others placed)
     ∙ c.stage.ensures.proper placed

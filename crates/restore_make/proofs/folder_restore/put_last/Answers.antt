@@ -1,11 +1,12 @@
-use Rattle.std.specs.Prelude.{◌≢◌}
+use Rattle.std.specs.Prelude.{◌≢◌, Option, IfSome}
 use Rattle.std.proofs.Common.{◌≡◌, sym, ap, subst, map, List}
 use Rattle.std.proofs.lemmas.Result.{IfErr-weaker}
 use Rattle.base_model.specs.declared.files.FileEntry as rust_file
-use Rattle.base_devices.specs.DataFolder.{IsPlaced}
+use Rattle.base_devices.specs.DataFolder.{Nodes, IsPlaced}
 use Rattle.base_model.specs.Text.{Text, In}
 use Rattle.base_model.specs.Values.{FileEntry, file_entry_of, manifest_of}
 use Rattle.restore_steps.specs.Clearing.{control_path}
+use Rattle.restore_make.specs.Finished.{IsMarked}
 use Rattle.restore_make.proofs.Failing.{fails_more}
 use Rattle.restore_make.proofs.Finished.{finished_none, put_finishes, on_ok_three, some_before}
 use Rattle.restore_make.proofs.Proper.{entry_placed}
@@ -14,9 +15,11 @@ use Rattle.restore_make.proofs.folder_restore.put_last.Goals as goal
 pub returns-in-None-clause-finishes : goal.returns-in-None-clause-finishes
 returns-in-None-clause-finishes g c = λ o marks first before after start left plain.
     let m = manifest_of c.args.what.now.manifest.now in
-    finished_none c.args.what.now.stanza.now first o m marks start c.requires.rules
+    let old = (g.T.DataFolder.state c.args.tree.now).nodes in
+    subst (λ (n : Option Nodes). IfSome n (IsMarked c.args.what.now.stanza.now first o m marks start)) (sym c.sync.ensures.nodes)
+    (finished_none c.args.what.now.stanza.now first o m marks start c.requires.rules
     (subst (λ (l : List rust_file.FileEntry). (e : FileEntry) → In e (map file_entry_of l) → e.path ≢ control_path) c.deref.ensures.value c.in-None.ensures.none)
-    (g.T.DataFolder.state c.args.tree.now).nodes plain
+    old plain)
 
 pub put_control-requires-clause-entry : goal.put_control-requires-clause-entry
 put_control-requires-clause-entry g c =

@@ -1,15 +1,21 @@
-use Rattle.std.proofs.Common.{◌≡◌, ◌∙◌, sym, map, None}
-use Rattle.base_devices.specs.DataFolder.{with_node}
+use Rattle.std.proofs.Common.{◌≡◌, ◌∙◌, sym, map}
 use Rattle.restore_steps.specs.Clearing.{control_path, seen_of}
 use Rattle.restore_make.specs.Listed.{is_control_node}
-use Rattle.restore_make.proofs.Finished.{on_removed, but_control, listed_but, listed_none, none_there, any_map}
+use Rattle.restore_make.proofs.Finished.{on_removed, stops_safely, but_control, listed_but, listed_none, none_there, none_after, any_map}
 use Rattle.restore_make.proofs.Proper.{control_bare}
 use Rattle.restore_make.proofs.HeldRead.{on_ok}
 use Rattle.restore_make.proofs.folder_restore.remove_control.Goals as goal
 
 pub returns-then-has_control-clause-listed : goal.returns-then-has_control-clause-listed
-returns-then-has_control-clause-listed g c = on_removed c.remove.result _ (with_node control_path None) (g.T.DataFolder.state c.args.tree.now).nodes (g.T.DataFolder.state c.remove.new.self).nodes c.remove.ensures.nodes
-    (λ is. listed_but (map seen_of c.args.seen.now) (g.T.DataFolder.state c.args.tree.now).nodes (g.T.DataFolder.state c.remove.new.self).nodes c.requires.seen is)
+returns-then-has_control-clause-listed g c = on_removed c.remove_synced.result _ (g.T.DataFolder.state c.args.tree.now).nodes (g.T.DataFolder.state c.remove_synced.new.self).nodes c.remove_synced.ensures.nodes
+    (λ is. listed_but (map seen_of c.args.seen.now) (g.T.DataFolder.state c.args.tree.now).nodes (g.T.DataFolder.state c.remove_synced.new.self).nodes c.requires.seen is)
+
+pub returns-then-has_control-clause-none : goal.returns-then-has_control-clause-none
+returns-then-has_control-clause-none g c = on_removed c.remove_synced.result _ (g.T.DataFolder.state c.args.tree.now).nodes (g.T.DataFolder.state c.remove_synced.new.self).nodes c.remove_synced.ensures.nodes
+    (none_after (g.T.DataFolder.state c.args.tree.now).nodes (g.T.DataFolder.state c.remove_synced.new.self).nodes)
+
+pub returns-then-has_control-clause-safe : goal.returns-then-has_control-clause-safe
+returns-then-has_control-clause-safe g c = stops_safely c.remove_synced.result (g.T.DataFolder.state c.args.tree.now) (g.T.DataFolder.state c.remove_synced.new.self) c.remove_synced.ensures.nodes
 
 pub returns-clause-listed : goal.returns-clause-listed
 returns-clause-listed g c = listed_none (map seen_of c.args.seen.now) (g.T.DataFolder.state c.args.tree.now).nodes (any_map is_control_node seen_of c.args.seen.now ∙ sym c.has_control.ensures ∙ c.if-has_control.false) c.requires.seen
@@ -18,7 +24,7 @@ pub returns-clause-none : goal.returns-clause-none
 returns-clause-none g c = none_there (map seen_of c.args.seen.now) (g.T.DataFolder.state c.args.tree.now).nodes (any_map is_control_node seen_of c.args.seen.now ∙ sym c.has_control.ensures ∙ c.if-has_control.false) c.requires.seen
 
 pub returns-then-has_control-clause-others : goal.returns-then-has_control-clause-others
-returns-then-has_control-clause-others g c = on_ok c.remove.result _ (but_control c.remove.result (g.T.DataFolder.state c.args.tree.now).nodes (g.T.DataFolder.state c.remove.new.self).nodes c.remove.ensures.nodes)
+returns-then-has_control-clause-others g c = on_ok c.remove_synced.result _ (but_control c.remove_synced.result (g.T.DataFolder.state c.args.tree.now).nodes (g.T.DataFolder.state c.remove_synced.new.self).nodes c.remove_synced.ensures.nodes)
 
 pub returns-then-has_control-clause-proper : goal.returns-then-has_control-clause-proper
-returns-then-has_control-clause-proper g c = c.remove.ensures.proper (control_bare (map seen_of c.args.seen.now) (g.T.DataFolder.state c.args.tree.now).nodes (any_map is_control_node seen_of c.args.seen.now ∙ sym c.has_control.ensures ∙ c.if-has_control.true) c.requires.seen)
+returns-then-has_control-clause-proper g c = c.remove_synced.ensures.proper (control_bare (map seen_of c.args.seen.now) (g.T.DataFolder.state c.args.tree.now).nodes (any_map is_control_node seen_of c.args.seen.now ∙ sym c.has_control.ensures ∙ c.if-has_control.true) c.requires.seen)

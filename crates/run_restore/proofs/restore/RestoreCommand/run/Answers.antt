@@ -11,7 +11,7 @@ pub returns-clause-ran : goal.returns-clause-ran
 returns-clause-ran g c =
     let e = c.restore_backup.ensures in
     let is = c.requires.order in
-    restored_ran (place_of c.args.places.now) _ _ refl (record { now = e.looks.now; time = e.looks.time }) (set_of c.args.self.now) c.args.order.choice (ordered_how c.args.order) (subst (λ (how : RestoreHow). ShowsChoice (set_of c.args.self.now) how.recovery c.args.order.choice) (sym is.2) is.3) c.restore_backup.result (how_of c.args.self.now) is.2 e.restored e.given e.control e.unchanged
+    restored_ran (place_of c.args.places.now) _ _ refl (record { now = e.looks.now; time = e.looks.time }) (set_of c.args.self.now) c.args.order.choice (ordered_how c.args.order) (subst (λ (how : RestoreHow). ShowsChoice (set_of c.args.self.now) how.recovery c.args.order.choice) (sym is.2) is.3) c.restore_backup.result (how_of c.args.self.now) is.2 e.restored e.given e.synced e.control e.unchanged
     _ (λ h. h) (rose_to _ _ _ (λ h. h) (λ h. absurd h) (λ h. h) (λ h. absurd h) (λ h. absurd h) (λ h. absurd h) (λ h. absurd h) (λ h. absurd h) (λ h. absurd h)) e.cause
     (record { spool = refl; repo = e.looks.opened; tree = e.opened })
     (all_later _ _ e.looks.later (omega arith) e.later (omega arith) (omega arith) (omega arith) (omega arith) (omega arith) (omega arith))
