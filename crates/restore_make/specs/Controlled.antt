@@ -1,6 +1,7 @@
 -- How the control file is put in its place. Own.
-use Rattle.std.specs.Prelude.{◌≡◌, ◌≢◌, List, [], ◌∷◌, IfSome}
+use Rattle.std.specs.Prelude.{◌≡◌, ◌≢◌, List, [], ◌∷◌, Result, IfSome}
 use Rattle.base_devices.specs.Content.{at}
+use Rattle.base_devices.specs.DataFolder.{ChangesTree, moved_node}
 use Rattle.base_devices.specs.Links.{LinkState}
 use Rattle.base_devices.specs.States.{DataFolderState}
 use Rattle.base_model.specs.Text.{Text, In}
@@ -26,6 +27,10 @@ HasBackupFile file path of pool tree = IfSome tree.nodes
 -- where nothing was at a path nothing is
 abbrev pub StaysAway : Text → DataFolderState → DataFolderState → Type 0
 StaysAway path old new = IsAway path old.nodes → IsAway path new.nodes
+
+-- the control file that waits gets its own name
+abbrev pub MovesControl : {A E : Type 0} → Result A E → DataFolderState → DataFolderState → Type 0
+MovesControl result old new = ChangesTree result (moved_node waiting_path control_path) old.nodes new.nodes
 
 -- nothing but the control file, and what it is before, has changed
 abbrev pub ChangesControl : DataFolderState → DataFolderState → Type 0

@@ -1,7 +1,6 @@
 // Puts the control file in its place last.
 ghost use Rattle.std.specs.Prelude.{◌≡◌, ◌≢◌, ◌<◌, ◌≤◌, ◌^◌, true, map, vec_len, IfOk, OnOk, OnErr, IfErr, IfSome, IfNone};
 ghost use Rattle.base_devices.specs.Cause.{HasCause};
-ghost use Rattle.base_devices.specs.DataFolder.{ChangesTree, moved_node};
 ghost use Rattle.base_devices.specs.States.{AllSynced, MovesProperly};
 ghost use Rattle.base_model.specs.InfoFiles.{IsLabel};
 ghost use Rattle.base_model.specs.Text.{In};
@@ -15,7 +14,7 @@ ghost use Rattle.restore_steps.specs.Sources.{IsEntry};
 ghost use Rattle.restore_steps.specs.Trees.{ProperAt};
 ghost use Rattle.restore_make.specs.Finished.{waiting_path, IsAway};
 ghost use Rattle.restore_make.specs.Faults.{Renames};
-ghost use Rattle.restore_make.specs.Controlled.{IsControlOf, HasBackupFile, StaysAway, ChangesControl, FailsToFetch};
+ghost use Rattle.restore_make.specs.Controlled.{IsControlOf, HasBackupFile, StaysAway, MovesControl, ChangesControl, FailsToFetch};
 
 use crate::fault::FillFault;
 use crate::file_jobs::FileJobs;
@@ -140,7 +139,7 @@ fn stage<T: DataFolder, L: Link, U: Scheduler>(
 
 // Syncs all that was done, and then puts the control file in its place.
 fn place_synced<T: DataFolder>(tree: &mut T) -> Result<(), DeviceError>
-    ensures nodes { ChangesTree result (moved_node waiting_path control_path) (T.state tree.old).nodes (T.state tree.new).nodes }
+    ensures nodes { MovesControl result (T.state tree.old) (T.state tree.new) }
     ensures synced { OnOk result (AllSynced (T.state tree.new)) }
     ensures proper { MovesProperly waiting_path control_path (T.state tree.old) (T.state tree.new) }
     ensures opened { (T.state tree.new).opened ≡ (T.state tree.old).opened }
