@@ -6,7 +6,7 @@ use Rattle.base_devices.specs.Content.{Content}
 use Rattle.base_devices.specs.DataFolder.{Nodes}
 use Rattle.base_model.specs.declared.clusters.ClusterId.{ClusterId}
 use Rattle.base_model.specs.declared.wal.ArchiveName.{ArchiveName}
-use Rattle.base_model.specs.declared.wal.ArchiveName.TheVariants.{Segment as Whole, Partial, History, Backup}
+use Rattle.base_model.specs.declared.wal.ArchiveName.TheVariants.{Segment as Whole}
 use Rattle.base_model.specs.Repository.{Stanza}
 use Rattle.base_model.specs.Text.{Text, In}
 use Rattle.repo_stanza.specs.declared.control.Control.{Control}
@@ -108,9 +108,7 @@ abbrev pub LacksFetched : Text → Control → ArchiveName → Option Content �
 LacksFetched stanza known (Whole segment) repo spool =
     (file : Stored) × IsKeptAs stanza known (Whole segment) file repo
     × IfSome file.sum (λ sum. LacksSum spool (ahead_name stanza segment sum.0) sum.0)
-LacksFetched stanza known (Partial segment) repo spool = Unit {0}
-LacksFetched stanza known (History timeline) repo spool = Unit {0}
-LacksFetched stanza known (Backup segment offset) repo spool = Unit {0}
+LacksFetched stanza known other repo spool = Unit {0}
 
 -- Why it isn't: as without the spool; and a damaged segment isn't in the spool either.
 abbrev pub GetAheadCause : Text → Text → Text → Text → Control → ArchiveName → Option Content → Option Nodes

@@ -1,7 +1,7 @@
 -- Which answer of archive-push a fault of the archive is, and which refusals come before its first step.
 use Rattle.std.specs.Prelude.{Bool, true}
 use Rattle.archive_lookup.specs.declared.stored.fault.ArchiveFault.{ArchiveFault}
-use Rattle.archive_lookup.specs.declared.stored.fault.ArchiveFault.TheVariants.{HeaderForm as FormOf, SegmentSize as SizeOf, HeaderMismatch as MismatchOf, Ambiguous as AmbiguousOf, Duplicate as DuplicateOf, NotFound, SegmentDamaged as DamagedOf, TooLong as LongOf, TooMany as ManyOf, Disk as ArchiveDisk, NoMemory as ArchiveNoMemory}
+use Rattle.archive_lookup.specs.declared.stored.fault.ArchiveFault.TheVariants.{HeaderForm as FormOf, SegmentSize as SizeOf, HeaderMismatch as MismatchOf, Ambiguous as AmbiguousOf, Duplicate as DuplicateOf, TooLong as LongOf, Disk as ArchiveDisk}
 use Rattle.archive_store.specs.declared.fault.PushFault.{PushFault as StoreFault}
 use Rattle.archive_store.specs.declared.fault.PushFault.TheVariants.{Archive, Source}
 use Rattle.cmd_types.specs.declared.stages.object.Object.TheVariants.{Repo, TheDataFolder}
@@ -17,12 +17,9 @@ of_archive (SizeOf known found) = Refused (SegmentSize known found)
 of_archive (MismatchOf kept found) = Refused (HeaderMismatch kept found)
 of_archive (AmbiguousOf first second) = Refused (Ambiguous first second)
 of_archive (DuplicateOf kept found) = Refused (Duplicate kept found)
-of_archive NotFound = NoMemory
-of_archive (DamagedOf known found) = NoMemory
 of_archive (LongOf name limit) = Refused (TooLong name limit)
-of_archive (ManyOf limit) = NoMemory
 of_archive ArchiveDisk = Failed Repo
-of_archive ArchiveNoMemory = NoMemory
+of_archive other = NoMemory
 
 abbrev pub of_store : StoreFault → Halt PushFault
 of_store (Archive fault) = of_archive fault

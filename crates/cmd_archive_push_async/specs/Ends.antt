@@ -15,7 +15,7 @@ use Rattle.cmd_types.specs.declared.stages.halt.Halt.TheVariants.{Refused, Faile
 use Rattle.cmd_types.specs.declared.stages.object.Object.TheVariants.{Spool}
 use Rattle.cmd_types.specs.Risen.{Rose, none}
 use Rattle.cmd_archive_push.specs.declared.fault.PushFault.{PushFault}
-use Rattle.cmd_archive_push.specs.declared.fault.PushFault.TheVariants.{SegmentName, PathOutside, StanzaMismatch, SegmentMissing, TooLong, HeaderForm, SegmentSize, HeaderMismatch, Ambiguous, Duplicate}
+use Rattle.cmd_archive_push.specs.declared.fault.PushFault.TheVariants.{SegmentMissing, TooLong, Ambiguous}
 use Rattle.cmd_archive_push.specs.WalPath.{wal_path}
 use Rattle.cmd_archive_push_async.specs.declared.files.push_marks.Drained.{Drained}
 
@@ -31,14 +31,7 @@ EndCause stanza id nodes now name (TooLong path limit) = (limit ≡ limit_of nam
     ⊎ IfSome now (λ f. StoresLong stanza id name f (string_bytes path) limit))
 EndCause stanza id nodes now name (Ambiguous first second) =
     IfSome now (λ f. StoresTwo stanza id name f (string_bytes first) (string_bytes second))
-EndCause stanza id nodes now name (SegmentName word) = ⊥
-EndCause stanza id nodes now name (PathOutside word) = ⊥
-EndCause stanza id nodes now name (StanzaMismatch kept found) = ⊥
-EndCause stanza id nodes now name (SegmentMissing path) = ⊥
-EndCause stanza id nodes now name (HeaderForm info) = ⊥
-EndCause stanza id nodes now name (SegmentSize known found) = ⊥
-EndCause stanza id nodes now name (HeaderMismatch kept found) = ⊥
-EndCause stanza id nodes now name (Duplicate kept found) = ⊥
+EndCause stanza id nodes now name other = ⊥
 
 -- one of these files ends it so
 abbrev pub EndCauseOf : Text → ArchiveId → Option Nodes → Option Content → List ArchiveName → PushFault → Type 0
@@ -58,17 +51,7 @@ halt_of_spool StoreMemory = NoMemory
 -- the file isn't there
 abbrev pub is_missing : Halt PushFault → Bool
 is_missing (Refused (SegmentMissing path)) = true
-is_missing (Refused (SegmentName word)) = false
-is_missing (Refused (PathOutside word)) = false
-is_missing (Refused (StanzaMismatch kept found)) = false
-is_missing (Refused (TooLong path limit)) = false
-is_missing (Refused (HeaderForm info)) = false
-is_missing (Refused (SegmentSize known found)) = false
-is_missing (Refused (HeaderMismatch kept found)) = false
-is_missing (Refused (Ambiguous first second)) = false
-is_missing (Refused (Duplicate kept found)) = false
-is_missing (Failed object) = false
-is_missing NoMemory = false
+is_missing other = false
 
 -- a file that isn't there is passed over, and counts nothing; every other end is the drain's
 abbrev pub SkipsMissing : Halt PushFault → Result Drained (Halt PushFault) → Type 0

@@ -15,7 +15,7 @@ use Rattle.archive_lookup.specs.Stored.{StoresOnly}
 use Rattle.archive_lookup.specs.declared.stored.fault.ArchiveFault.TheVariants.{HeaderForm as FormOf, SegmentSize as SizeOf, HeaderMismatch as MismatchOf}
 use Rattle.archive_lookup.specs.Turns.{refusal_name}
 use Rattle.cmd_archive_push.specs.declared.fault.PushFault.{PushFault}
-use Rattle.cmd_archive_push.specs.declared.fault.PushFault.TheVariants.{SegmentName, PathOutside, StanzaMismatch, SegmentMissing, TooLong, HeaderForm, SegmentSize, HeaderMismatch, Ambiguous, Duplicate}
+use Rattle.cmd_archive_push.specs.declared.fault.PushFault.TheVariants.{HeaderForm, SegmentSize, HeaderMismatch, Duplicate}
 use Rattle.cmd_archive_push.specs.Texts.{push_status, content_text}
 use Rattle.cmd_archive_push.specs.WalPath.{wal_path}
 use Rattle.archive_spool.specs.Marks.{named, receipt_text, refusal_text}
@@ -42,9 +42,8 @@ names_of (e ∷ es) = e.name ∷ names_of es
 
 -- the file, where it was stored
 abbrev pub kept_of : ArchiveName → Fate → List Named
-kept_of name absent = []
 kept_of name (saved bytes) = named name bytes ∷ []
-kept_of name (refused code line) = []
+kept_of name other = []
 
 -- the files that were stored, in their order
 abbrev pub kept_files : List Entry → List Named
@@ -52,14 +51,12 @@ kept_files [] = []
 kept_files (e ∷ es) = kept_of e.name e.fate ++ kept_files es
 
 abbrev pub refused_count : Fate → ℕ
-refused_count absent = 0
-refused_count (saved bytes) = 0
 refused_count (refused code line) = 1
+refused_count other = 0
 
 abbrev pub kept_count : Fate → ℕ
-kept_count absent = 0
 kept_count (saved bytes) = 1
-kept_count (refused code line) = 0
+kept_count other = 0
 
 -- how many were stored
 abbrev pub kept_number : List Entry → ℕ
@@ -106,12 +103,7 @@ IsContentOf other system name bytes (SegmentSize known found) = HeaderCause name
 IsContentOf other system name bytes (HeaderMismatch kept found) = HeaderCause name bytes system (MismatchOf kept found)
 IsContentOf other system name bytes (Duplicate kept found) = IsFileOf name bytes system × (found.0 ≡ sha1 bytes)
     × (found.0 ≢ kept.0) × other kept.0
-IsContentOf other system name bytes (SegmentName word) = ⊥
-IsContentOf other system name bytes (PathOutside word) = ⊥
-IsContentOf other system name bytes (StanzaMismatch kept found) = ⊥
-IsContentOf other system name bytes (SegmentMissing path) = ⊥
-IsContentOf other system name bytes (TooLong path limit) = ⊥
-IsContentOf other system name bytes (Ambiguous first second) = ⊥
+IsContentOf other system name bytes fault = ⊥
 
 -- such a refusal has this status and this line
 abbrev pub IsRefusedAs : (other : Text → Type 0) → ℕ → ArchiveName → Text → ℕ → Text → Type 0

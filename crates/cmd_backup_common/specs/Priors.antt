@@ -15,10 +15,9 @@ latest_full (e ∷ es) = max e.label.full (latest_full es)
 
 -- a differential backup is based on a full one, an incremental one on any
 abbrev pub bases : BackupKind → BackupKind → Bool
-bases Full kind = false
 bases Diff Full = true
-bases Diff kind = false
 bases Incr kind = true
+bases other kind = false
 
 -- A backup of the kind may be based on it: it is of this cluster, and belongs to the latest full backup, so that the
 -- new label comes last.
@@ -42,7 +41,6 @@ made_label kind (Some e) second = record { full = e.label.full; later = Some (re
 
 -- what is reported where a backup of another kind was asked for, and has no prior
 abbrev pub kind_line : BackupKind → Option Entry → Text
-kind_line Full prior = []
 kind_line Diff None = codes "WARN: no prior backup exists, diff backup has been changed to full\n"
 kind_line Incr None = codes "WARN: no prior backup exists, incr backup has been changed to full\n"
-kind_line kind (Some e) = []
+kind_line kind prior = []

@@ -3,16 +3,13 @@
 use Rattle.std.specs.Prelude.{◌≡◌, ◌<◌, ℕ, List, Option, Some, None, IsSomeAnd, slice_get}
 use Rattle.base_model.specs.Values.{FileEntry}
 use Rattle.backup_plan.specs.declared.values.Choice.{Choice}
-use Rattle.backup_plan.specs.declared.values.Choice.TheVariants.{Skip, Empty, Alone, Bundle, Last}
+use Rattle.backup_plan.specs.declared.values.Choice.TheVariants.{Bundle}
 use Rattle.backup_plan.specs.Listed.{Taken}
 
 -- bytes of the backup's own lie as the choice says: in the bundle of its number, or at the file's own name
 abbrev pub LiesBy : Choice → FileEntry → Type 0
-LiesBy Skip e = e.bundle ≡ None
-LiesBy Empty e = e.bundle ≡ None
-LiesBy (Alone job) e = e.bundle ≡ None
 LiesBy (Bundle number item) e = IsSomeAnd e.bundle (λ b. b.number ≡ number)
-LiesBy Last e = e.bundle ≡ None
+LiesBy other e = e.bundle ≡ None
 
 -- The entry is of one of these files, for each of which a choice was made. Where its bytes are the backup's own they
 -- lie as the choice of its file says.

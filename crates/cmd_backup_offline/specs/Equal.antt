@@ -45,9 +45,8 @@ IsMarked links old f false = IsChanged links old f
 -- each file has its mark
 abbrev pub AreMarked : List LinkState → List FileEntry → List Taken → List Bool → Type 0
 AreMarked links old [] [] = Unit {0}
-AreMarked links old [] (m ∷ ms) = ⊥
-AreMarked links old (f ∷ fs) [] = ⊥
 AreMarked links old (f ∷ fs) (m ∷ ms) = IsMarked links old f m × AreMarked links old fs ms
+AreMarked links old fs ms = ⊥
 
 -- ---- which files are left
 

@@ -11,7 +11,7 @@ use Rattle.base_model.specs.Text.{Text}
 use Rattle.repo_pair.specs.declared.fault.InfoFault.{InfoFault}
 use Rattle.archive_store.specs.Still.{IsStill}
 use Rattle.expire_rules.specs.declared.rules.FullRule.{FullRule}
-use Rattle.expire_rules.specs.declared.rules.FullRule.TheVariants.{Unset, Count, Days}
+use Rattle.expire_rules.specs.declared.rules.FullRule.TheVariants.{Days}
 use Rattle.expire_rules.specs.declared.rules.Rules.{Rules}
 use Rattle.expire_make.specs.declared.expiry_run.Expired.{Expired}
 use Rattle.expire_make.specs.declared.fault.ExpireFault.{ExpireFault}
@@ -60,9 +60,8 @@ AddsExpiry stanza rules moment old new lines new_lines =
 -- by which moment the rules are read after a backup: where they count days, by a second that the clock showed; else it
 -- is 0
 abbrev pub WasKnown : FullRule → ClockState → ℕ → Type 0
-WasKnown Unset clock moment = moment ≡ 0
-WasKnown (Count n) clock moment = moment ≡ 0
 WasKnown (Days n) clock moment = (moment ≤ last_second) × (moment ≤ clock.least)
+WasKnown other clock moment = moment ≡ 0
 
 -- What the expiry after a backup does, at some moment: at the one that the clock showed, or nothing changes. Where it
 -- succeeded, what was removed is reported after the lines.

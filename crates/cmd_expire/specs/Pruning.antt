@@ -18,7 +18,7 @@ use Rattle.repo_stanza.specs.Judging.{Validates}
 use Rattle.archive_store.specs.Still.{IsStill}
 use Rattle.repo_stanza.specs.Pairs.{AgreeAt, DifferFirst, HasPending, identities}
 use Rattle.expire_rules.specs.declared.rules.FullRule.{FullRule}
-use Rattle.expire_rules.specs.declared.rules.FullRule.TheVariants.{Unset, Count, Days}
+use Rattle.expire_rules.specs.declared.rules.FullRule.TheVariants.{Days}
 use Rattle.expire_rules.specs.declared.rules.Rules.{Rules}
 use Rattle.expire_rules.specs.Condemned.{condemned_labels}
 use Rattle.expire_make.specs.Emptying.{LeavesListed}
@@ -39,29 +39,25 @@ use Rattle.cmd_expire.specs.Texts.{lines_of}
 
 -- the rule counts days
 abbrev pub counts_days : FullRule → Bool
-counts_days Unset = false
-counts_days (Count n) = false
 counts_days (Days n) = true
+counts_days other = false
 
 -- By which moment the rules may be read: where they count days, by none before the least second that the clock may
 -- show; else it is 0.
 abbrev pub IsMoment : FullRule → ℕ → ℕ → Type 0
-IsMoment Unset least moment = moment ≡ 0
-IsMoment (Count n) least moment = moment ≡ 0
 IsMoment (Days n) least moment = least ≤ moment
+IsMoment other least moment = moment ≡ 0
 
 -- By which moment they may be read between two states of the clock: by one of these, and, unless it is the least second
 -- that it might show before, by none after the least that it may show afterwards.
 abbrev pub IsMomentIn : FullRule → ℕ → ℕ → ℕ → Type 0
-IsMomentIn Unset first last moment = moment ≡ 0
-IsMomentIn (Count n) first last moment = moment ≡ 0
 IsMomentIn (Days n) first last moment = (first ≤ moment) × ((moment ≡ first) ⊎ (moment ≤ last))
+IsMomentIn other first last moment = moment ≡ 0
 
 -- by which they are read: where they count days, by the second that the clock showed; else it is 0
 abbrev pub ShowsMoment : FullRule → ClockState → ClockState → ℕ → Type 0
-ShowsMoment Unset old new moment = moment ≡ 0
-ShowsMoment (Count n) old new moment = moment ≡ 0
 ShowsMoment (Days n) old new moment = ShowsSecond moment old new
+ShowsMoment other old new moment = moment ≡ 0
 
 -- an expiry by these rules; the two are the least seconds that the clock may show before and afterwards
 abbrev pub IsExpiryBy : Rules → ℕ → ℕ → Command → Type 0

@@ -52,9 +52,8 @@ pub record IsLived (stanza : Text) (number : ℕ) (b c d : Backup) (old : Option
 
 -- how many findings a verification reported
 abbrev pub count_of : Outcome → ℕ
-count_of (Finished lines) = 0
-count_of (Absent name) = 0
 count_of (FindingsFound lines count) = count
+count_of other = 0
 
 -- a verification ends with what it found, or with nothing
 abbrev pub IsKnown : Outcome → Type 0

@@ -3,7 +3,7 @@ use Rattle.std.specs.Prelude.{IfSome}
 use Rattle.base_model.specs.declared.labels.Label.{Label}
 use Rattle.base_model.specs.Values.{Manifest}
 use Rattle.cmd_restore.specs.declared.fault.RestoreCommandFault.{RestoreCommandFault}
-use Rattle.cmd_restore.specs.declared.fault.RestoreCommandFault.TheVariants.{SetForm, TargetForm, Unchosen, Running, NotEmpty, ManifestDamaged, WorkersLost, Unread, FileDamaged}
+use Rattle.cmd_restore.specs.declared.fault.RestoreCommandFault.TheVariants.{Unchosen, Running, NotEmpty, ManifestDamaged, WorkersLost, Unread, FileDamaged}
 use Rattle.restore_choice.specs.declared.fault.ChoiceFault.{ChoiceFault}
 use Rattle.restore_choice.specs.declared.fault.DamagedManifest.{DamagedManifest}
 use Rattle.restore_choice.specs.Choosing.{ChooseCause}
@@ -30,8 +30,6 @@ FilesCause b fault =
 
 -- why a restore is refused
 abbrev pub RestoreCommandCause : Before → RestoreCommandFault → Type 0
-RestoreCommandCause b SetForm = ⊥
-RestoreCommandCause b TargetForm = ⊥
 RestoreCommandCause b (Unchosen fault) = ListCause b fault
 RestoreCommandCause b Running = FolderCause b.options.delta b.nodes Running
 RestoreCommandCause b (NotEmpty path) = FolderCause b.options.delta b.nodes (NotEmpty path)
@@ -39,3 +37,4 @@ RestoreCommandCause b (ManifestDamaged fault) = ManifestCause b fault
 RestoreCommandCause b (WorkersLost lost) = FilesCause b (WorkersLost lost)
 RestoreCommandCause b (Unread path) = FilesCause b (Unread path)
 RestoreCommandCause b (FileDamaged path known found) = FilesCause b (FileDamaged path known found)
+RestoreCommandCause b other = ⊥

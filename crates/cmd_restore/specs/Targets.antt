@@ -62,10 +62,9 @@ inclusive_lines exclusive =
     if exclusive then setting (codes "recovery_target_inclusive") (codes "false") ∷ [] else []
 
 abbrev pub end_lines : RecoveryEnd → List Text
-end_lines Archive = []
 end_lines (Consistent action) = setting (codes "recovery_target") (codes "immediate") ∷ []
 end_lines (AtTarget t) = setting (target_name t.kind) t.text ∷ inclusive_lines t.exclusive
-end_lines Standby = []
+end_lines other = []
 
 abbrev pub timeline_text : Timeline → Text
 timeline_text Current = codes "current"
@@ -75,10 +74,8 @@ timeline_text (Number n) = decimal n
 -- the timeline in force: to be consistent, a backup needs no other than its own
 abbrev pub timeline_for : RecoveryEnd → Option Timeline → Option Timeline
 timeline_for end (Some timeline) = Some timeline
-timeline_for Archive None = None
 timeline_for (Consistent action) None = Some Current
-timeline_for (AtTarget target) None = None
-timeline_for Standby None = None
+timeline_for other None = None
 
 abbrev pub timeline_lines : Option Timeline → List Text
 timeline_lines None = []
@@ -91,10 +88,9 @@ action_lines Promote = setting (codes "recovery_target_action") (codes "promote"
 action_lines Shutdown = setting (codes "recovery_target_action") (codes "shutdown") ∷ []
 
 abbrev pub action_of : RecoveryEnd → TargetAction
-action_of Archive = Pause
 action_of (Consistent action) = action
 action_of (AtTarget t) = t.action
-action_of Standby = Pause
+action_of other = Pause
 
 -- a setting of one's own, `name=value`: what comes before the first `=` is its name
 abbrev pub own_setting : Text → Text
@@ -110,7 +106,5 @@ abbrev pub lines_in : Vec (Vec ℕ Global) Global → List Text
 lines_in lines = map (λ line. line.items) lines.items
 
 abbrev pub is_standby : RecoveryEnd → Bool
-is_standby Archive = false
-is_standby (Consistent action) = false
-is_standby (AtTarget target) = false
 is_standby Standby = true
+is_standby other = false

@@ -16,11 +16,11 @@ use Rattle.cmd_restore.specs.declared.fault.RestoreCommandFault.TheVariants.{Set
 use Rattle.cmd_restore.specs.declared.order.TargetKind.{TargetKind}
 use Rattle.cmd_restore.specs.declared.order.TargetKind.TheVariants.{Time, Position, Transaction, RestorePoint}
 use Rattle.cmd_restore.specs.declared.order.Timeline.{Timeline}
-use Rattle.cmd_restore.specs.declared.order.Timeline.TheVariants.{Current, Latest, Number}
+use Rattle.cmd_restore.specs.declared.order.Timeline.TheVariants.{Number}
 use Rattle.cmd_restore.specs.Fetching.{RecoveryType}
 use Rattle.cmd_restore.specs.Fetching.RecoveryType.{FromArchive, Without}
 use Rattle.cmd_restore.specs.Targets.{RecoveryEnd}
-use Rattle.cmd_restore.specs.Targets.RecoveryEnd.{Archive, Consistent, AtTarget, Standby}
+use Rattle.cmd_restore.specs.Targets.RecoveryEnd.{AtTarget}
 
 -- ---- the label
 
@@ -32,9 +32,8 @@ IsSet (Some l) = IsLabel l
 -- no label is asked for, or the one of which this value is the text
 abbrev pub ShowsSet : Option Text → Option Label → Type 0
 ShowsSet None None = Unit {0}
-ShowsSet None (Some l) = ⊥
-ShowsSet (Some word) None = ⊥
 ShowsSet (Some word) (Some l) = word ≡ label_text l
+ShowsSet set label = ⊥
 
 -- the value is the text of no label
 abbrev pub IsNoLabel : Option Text → Type 0
@@ -46,14 +45,12 @@ IsNoLabel (Some word) = (l : Label) → IsLabel l → word ≢ label_text l
 -- the deadline of a target of time is this moment
 abbrev pub IsTimeOf : Text → Option Deadline → Type 0
 IsTimeOf text (Some (Moment second)) = IsMomentText text second
-IsTimeOf text (Some (UpTo at)) = ⊥
-IsTimeOf text None = ⊥
+IsTimeOf text other = ⊥
 
 -- and that of a position of the log is this one
 abbrev pub IsPositionOf : Text → Option Deadline → Type 0
-IsPositionOf text (Some (Moment second)) = ⊥
 IsPositionOf text (Some (UpTo at)) = IsLsn text at.0
-IsPositionOf text None = ⊥
+IsPositionOf text other = ⊥
 
 -- the text has the form of a target of this kind; and this is the deadline that it sets for a backup
 abbrev pub ShowsKind : TargetKind → Text → Option Deadline → Type 0
@@ -63,10 +60,8 @@ ShowsKind Transaction text deadline = (is_transaction text ≡ true) × (deadlin
 ShowsKind RestorePoint text deadline = (is_restore_point text ≡ true) × (deadline ≡ None)
 
 abbrev pub ShowsEnd : RecoveryEnd → Option Deadline → Type 0
-ShowsEnd Archive deadline = deadline ≡ None
-ShowsEnd (Consistent action) deadline = deadline ≡ None
 ShowsEnd (AtTarget t) deadline = ShowsKind t.kind t.text deadline
-ShowsEnd Standby deadline = deadline ≡ None
+ShowsEnd other deadline = deadline ≡ None
 
 -- a target has its form; and this is the deadline that it sets for a backup
 abbrev pub ShowsDeadline : RecoveryType → Option Deadline → Type 0
@@ -81,10 +76,8 @@ IsNoKind Transaction text = is_transaction text ≡ false
 IsNoKind RestorePoint text = is_restore_point text ≡ false
 
 abbrev pub IsNoEnd : RecoveryEnd → Type 0
-IsNoEnd Archive = ⊥
-IsNoEnd (Consistent action) = ⊥
 IsNoEnd (AtTarget t) = IsNoKind t.kind t.text
-IsNoEnd Standby = ⊥
+IsNoEnd other = ⊥
 
 abbrev pub IsNoTarget : RecoveryType → Type 0
 IsNoTarget (FromArchive r) = IsNoEnd r.end
@@ -94,10 +87,8 @@ IsNoTarget Without = ⊥
 
 -- the number of a timeline, where that is asked for by its number
 abbrev pub named_number : Option Timeline → Option ℕ
-named_number None = None
-named_number (Some Current) = None
-named_number (Some Latest) = None
 named_number (Some (Number n)) = Some n
+named_number other = None
 
 abbrev pub number_of : RecoveryType → Option ℕ
 number_of (FromArchive r) = named_number r.timeline

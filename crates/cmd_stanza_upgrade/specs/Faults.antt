@@ -71,10 +71,9 @@ RoomCause stanza known repo fault = (archive : ArchiveInfo) × (list : BackupInf
 
 -- why the cluster isn't added, from what the repository held
 abbrev pub UpgradeListCause : Text → Control → Option Content → UpgradeCommandFault → Type 0
-UpgradeListCause stanza known repo (HistoryDiffers at) = ⊥
-UpgradeListCause stanza known repo (Talked fault) = ⊥
 UpgradeListCause stanza known repo (TooMany limit) = RoomCause stanza known repo (upgrades.TooMany limit)
 UpgradeListCause stanza known repo (TooLong name limit) = RoomCause stanza known repo (upgrades.TooLong name limit)
+UpgradeListCause stanza known repo other = ⊥
 
 -- why stanza-upgrade is refused: for what the repository held, or for what the server that is asked states
 abbrev pub UpgradeCommandCause : Text → Control → Option Server → Option Content → Option (List ℕ)
@@ -89,8 +88,7 @@ UpgradeCommandCause stanza known server repo pending other = UpgradeListCause st
 abbrev pub UpgradeCloses : Type 0 → Option (List ℕ) → Option (List ℕ) → UpgradeCommandFault → Type 0
 UpgradeCloses rose old new (HistoryDiffers at) = new ≡ old
 UpgradeCloses rose old new (Talked fault) = Ended new ⊎ rose
-UpgradeCloses rose old new (TooMany limit) = Ended new ⊎ (new ≡ old)
-UpgradeCloses rose old new (TooLong name limit) = Ended new ⊎ (new ≡ old)
+UpgradeCloses rose old new other = Ended new ⊎ (new ≡ old)
 
 -- ---- the same for a call's states
 

@@ -9,7 +9,7 @@ use Rattle.base_model.specs.declared.clusters.Cluster.{Cluster}
 use Rattle.base_model.specs.declared.wal.Segment.{Segment}
 use Rattle.base_model.specs.declared.wal.ArchiveId.{ArchiveId}
 use Rattle.base_model.specs.declared.wal.ArchiveName.{ArchiveName}
-use Rattle.base_model.specs.declared.wal.ArchiveName.TheVariants.{Segment as Whole, Partial, History, Backup}
+use Rattle.base_model.specs.declared.wal.ArchiveName.TheVariants.{Segment as Whole, Partial}
 use Rattle.base_model.specs.Text.{Text, In}
 use Rattle.base_model.specs.Names.{archive_info, backup_info, manifest_name, label_folder, copy_of, archive_name}
 use Rattle.base_model.specs.declared.wal.WalPart.{WalPart}
@@ -55,8 +55,7 @@ pub data PairDeviates {V : Type 0} (IsTextOf : V → Text → Type 0) (f : Conte
 abbrev pub segment_of : ArchiveName → Option Segment
 segment_of (Whole s) = Some s
 segment_of (Partial s) = Some s
-segment_of (History timeline) = None
-segment_of (Backup s offset) = None
+segment_of other = None
 
 -- the name is the one that a segment, whole or partial, with this sum is stored under
 pub record IsStoredName (stanza : Text) (id : ArchiveId) (file : ArchiveName) (segment : Segment) (sum name : Text)

@@ -8,7 +8,7 @@ use Rattle.base_model.specs.declared.labels.Label.{Label}
 use Rattle.base_model.specs.declared.labels.Entry as rust_entry
 use Rattle.base_model.specs.declared.wal.ArchiveId.{ArchiveId}
 use Rattle.base_model.specs.declared.wal.ArchiveName.{ArchiveName}
-use Rattle.base_model.specs.declared.wal.ArchiveName.TheVariants.{Segment, Partial, History, Backup as BackupHistory}
+use Rattle.base_model.specs.declared.wal.ArchiveName.TheVariants.{History}
 use Rattle.base_model.specs.Text.{Text}
 use Rattle.base_model.specs.Names.{backup_info, label_folder, label_text, archive_name}
 use Rattle.base_model.specs.InfoFiles.{IsLabel}
@@ -91,10 +91,8 @@ names_of found = map (λ (x : Found). string_bytes x.name) found
 
 -- a history of a timeline is never removed
 abbrev pub is_passing : ArchiveName → Bool
-is_passing (Segment segment) = true
-is_passing (Partial segment) = true
 is_passing (History timeline) = false
-is_passing (BackupHistory segment offset) = true
+is_passing other = true
 
 -- the name is that of an archive file which isn't a history of a timeline
 pub record IsPassing (stanza : Text) (name : Text) : Type 0 where

@@ -13,7 +13,7 @@ use Rattle.base_model.specs.declared.wal.ArchiveName.TheVariants.{Segment as Who
 use Rattle.base_model.specs.Names.{segment_text}
 use Rattle.base_model.specs.Values.{Entry}
 use Rattle.expire_rules.specs.declared.rules.FullRule.{FullRule}
-use Rattle.expire_rules.specs.declared.rules.FullRule.TheVariants.{Unset, Count, Days}
+use Rattle.expire_rules.specs.declared.rules.FullRule.TheVariants.{Count, Days}
 use Rattle.expire_rules.specs.declared.rules.Rules.{Rules}
 use Rattle.expire_rules.specs.Condemned.{is_full, is_counted, has_some}
 
@@ -42,9 +42,8 @@ counted_spans kind number es = spans_of (filter (counts kind) (of_cluster number
 abbrev pub number_by : BackupKind → FullRule → Option ℕ → ℕ → Option ℕ
 number_by Full (Count n) diff k = Some n
 number_by Full (Days d) diff k = Some k
-number_by Full Unset diff k = None
 number_by Diff full diff k = diff
-number_by Incr full diff k = None
+number_by kind full diff k = None
 
 abbrev pub archive_number : Rules → ℕ → Option ℕ
 archive_number rules k = option_map_or (λ (n : ℕ). Some n) rules.archive

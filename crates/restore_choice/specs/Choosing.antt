@@ -29,14 +29,12 @@ unbounded = record { deadline = None; timeline = None }
 -- of a moment, the backup had ended before; a position says nothing of its time
 abbrev pub EndedBefore : Option Deadline → ℕ → Type 0
 EndedBefore (Some (Moment second)) stop = stop < second
-EndedBefore (Some (Position at)) stop = Unit {0}
-EndedBefore None stop = Unit {0}
+EndedBefore other stop = Unit {0}
 
 -- of a position, the backup has a part of the log, which ends there or before; a moment says nothing of it
 abbrev pub LogEndsBy : Option Deadline → Option WalPart → Type 0
 LogEndsBy (Some (Position at)) log = IsSomeAnd log (λ (w : WalPart). w.to.0 ≤ at.0)
-LogEndsBy (Some (Moment second)) log = Unit {0}
-LogEndsBy None log = Unit {0}
+LogEndsBy other log = Unit {0}
 
 -- the part of the log ends on one of these timelines, at the position where that was left, or before
 abbrev pub IsOnAncestor : List Ancestor → WalPart → Type 0
@@ -80,10 +78,8 @@ IsChosenOf (Last bounds) s b =
 -- a backup's part of the log has to be known: there is a position, or a timeline
 abbrev pub needs_log : Option Deadline → Option Ancestry → Bool
 needs_log (Some (Position at)) line = true
-needs_log (Some (Moment second)) None = false
-needs_log (Some (Moment second)) (Some a) = true
-needs_log None None = false
-needs_log None (Some a) = true
+needs_log deadline (Some a) = true
+needs_log deadline None = false
 
 -- f has the manifest of the label, and this holds of the part of the log that it states
 abbrev pub OfManifest : Text → Content → Label → (Option WalPart → Type 0) → Type 0
