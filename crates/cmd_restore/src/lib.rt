@@ -16,6 +16,7 @@
 //!   the recovery can begin, and it has this label in it. The one line states the label.
 //! - Where the repository represents a stanza, and all used links read that very repository, the folder is the restored
 //!   tree of the stanza's backup of that label, or of its last with which the recovery can begin.
+//! - At Ok no path of the folder is unsynced, so a crash leaves all of it.
 //! - The repository is only read, and the folder's calls are made as they ask. After a refusal there is no control
 //!   file, unless nothing was changed. Nothing was changed by a refusal before the workers, or where the repository
 //!   failed.

@@ -191,7 +191,7 @@ but_control r o new gone q off = by r gone
     go None = refl
     go (Some f) = ap (λ (v : Option Held). Some v) (set_other control_path None f q off)
 
-    by : (x : Result T E) → RemovesSynced x control_path o new → at q new ≡ at q o
+    by : {A B : Type 0} (x : Result A B) → RemovesSynced x control_path o new → at q new ≡ at q o
     by (Ok x) is = ap (at q) is ∙ go o
     by (Err e) (inl is) = ap (at q) is
     by (Err e) (inr is) = ap (at q) is ∙ go o

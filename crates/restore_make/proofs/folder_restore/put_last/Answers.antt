@@ -12,8 +12,8 @@ use Rattle.restore_make.proofs.Finished.{finished_none, put_finishes, on_ok_thre
 use Rattle.restore_make.proofs.Proper.{entry_placed}
 use Rattle.restore_make.proofs.folder_restore.put_last.Goals as goal
 
-pub returns-in-None-clause-finishes : goal.returns-in-None-clause-finishes
-returns-in-None-clause-finishes g c = λ o marks first before after start left plain.
+pub returns-in_ok-sync-in-None-clause-finishes : goal.returns-in_ok-sync-in-None-clause-finishes
+returns-in_ok-sync-in-None-clause-finishes g c = λ o marks first before after start left plain.
     let m = manifest_of c.args.what.now.manifest.now in
     let old = (g.T.DataFolder.state c.args.tree.now).nodes in
     subst (λ (n : Option Nodes). IfSome n (IsMarked c.args.what.now.stanza.now first o m marks start)) (sym c.sync.ensures.nodes)
