@@ -35,8 +35,8 @@ mod worker_start;
 
 pub use fault::RestoreCommandFault;
 pub use order::{
-    Configuration, FetchArguments, LogRecovery, RecoverOrder, RecoveryEnd, RecoveryTarget,
-    RecoveryType, TargetAction, TargetKind, Timeline, restore_order,
+    Configuration, FetchArguments, InfoValues, LogRecovery, RecoverOrder, RecoveryEnd,
+    RecoveryTarget, RecoveryType, TargetAction, TargetKind, Timeline, restore_order,
 };
 pub use restore_command::restore_backup;
 pub use texts::{restore_message, restore_status};
