@@ -11,17 +11,13 @@ use Rattle.restore_choice.specs.declared.choice.Deadline.{Deadline}
 use Rattle.restore_choice.specs.declared.choice.Deadline.TheVariants.{Moment, Position as UpTo}
 use Rattle.restore_target.specs.Moments.{IsMomentText}
 use Rattle.restore_target.specs.Targets.{is_transaction, is_restore_point}
-use Rattle.cmd_types.specs.Halts.{HaltCause}
-use Rattle.cmd_types.specs.declared.stages.halt.Halt.{Halt}
 use Rattle.cmd_restore.specs.declared.fault.RestoreCommandFault.{RestoreCommandFault}
 use Rattle.cmd_restore.specs.declared.fault.RestoreCommandFault.TheVariants.{SetForm, TargetForm}
-use Rattle.cmd_restore.specs.declared.order.RecoverOrder.{RecoverOrder}
-use Rattle.cmd_restore.specs.declared.order.RecoveryType as rust_recovery
 use Rattle.cmd_restore.specs.declared.order.TargetKind.{TargetKind}
 use Rattle.cmd_restore.specs.declared.order.TargetKind.TheVariants.{Time, Position, Transaction, RestorePoint}
 use Rattle.cmd_restore.specs.declared.order.Timeline.{Timeline}
 use Rattle.cmd_restore.specs.declared.order.Timeline.TheVariants.{Number}
-use Rattle.cmd_restore.specs.Fetching.{RecoveryType, recovery_type}
+use Rattle.cmd_restore.specs.Fetching.{RecoveryType}
 use Rattle.cmd_restore.specs.Fetching.RecoveryType.{FromArchive, Without}
 use Rattle.cmd_restore.specs.Targets.{RecoveryEnd}
 use Rattle.cmd_restore.specs.Targets.RecoveryEnd.{AtTarget}
@@ -116,13 +112,3 @@ abbrev pub WordCause : Option Text → RecoveryType → RestoreCommandFault → 
 WordCause set recovery SetForm = IsNoLabel set
 WordCause set recovery TargetForm = IsNoTarget recovery
 WordCause set recovery other = ⊥
-
--- ---- of the code's values
-
--- the order has a choice by the values
-abbrev pub ChoosesBy : Option Text → rust_recovery.RecoveryType → RecoverOrder → Type 0
-ChoosesBy set recovery order = ShowsChoice set (recovery_type recovery) order.choice
-
--- why the arguments are refused; no object fails
-abbrev pub WordHalts : Option Text → rust_recovery.RecoveryType → Halt RestoreCommandFault → Type 0
-WordHalts set recovery = HaltCause (WordCause set (recovery_type recovery)) (λ _. ⊥)

@@ -1,7 +1,8 @@
 // What is to be restored.
 ghost use Rattle.std.specs.Prelude.{◌≡◌, ◌<◌, ◌^◌, length, option_map, IfOk, IfErr, IfSome, IfNone};
+ghost use Rattle.cmd_types.specs.Halts.{HaltCause};
 ghost use Rattle.restore_choice.specs.Choices.{IsChoice-prop, IsChoice};
-ghost use Rattle.cmd_restore.specs.Words.{ShowsSet, ShowsKind, ShowsDeadline, ChoosesBy, WordHalts, IsNoLabel, IsNoKind, IsNoTarget, IsSet, number_of, choice_of};
+ghost use Rattle.cmd_restore.specs.Words.{ShowsSet, ShowsKind, ShowsDeadline, ShowsChoice, WordCause, IsNoLabel, IsNoKind, IsNoTarget, IsSet, number_of, choice_of};
 ghost use Rattle.cmd_restore.specs.Fetching.{recovery_type};
 
 use crate::fault::RestoreCommandFault;
@@ -221,8 +222,10 @@ pub fn restore_order<'a>(
         (λ o. (o.data_folder.now ≡ data_folder.now) × (o.repository.now ≡ repository.now)) }
     ensures options { IfOk result (λ o. (o.workers ≡ workers) × (o.delta ≡ delta)) }
     ensures recovery { IfOk result (λ o. recovery_type o.recovery ≡ recovery_type recovery.entry) }
-    ensures choice { IfOk result (ChoosesBy (option_map (λ w. w.now) set.entry) recovery.entry) }
-    ensures cause { IfErr result (WordHalts (option_map (λ w. w.now) set.entry) recovery.entry) }
+    ensures choice { IfOk result
+        (λ o. ShowsChoice (option_map (λ w. w.now) set.entry) (recovery_type recovery.entry) o.choice) }
+    ensures cause { IfErr result
+        (HaltCause (WordCause (option_map (λ w. w.now) set.entry) (recovery_type recovery.entry)) (λ _. ⊥)) }
 {
     let Some(label) = read_set(set) else {
         return Err(Halt::Refused(RestoreCommandFault::SetForm));
