@@ -2,7 +2,7 @@
 # The documents: README has at most 8 KiB and ARCHITECTURE 15,000 bytes; a case of RUNBOOK has at most ten lines to type; each definition
 # has a comment; the numbers of TESTING and DEFINITIONS and the rows of PROVED are those that docs/counts makes, and none is above its bound
 # in docs/bounds; each crate, option and status has its row; the areas of ARCHITECTURE are the crates of crates.txt, and the silent fields of
-# DEFINITIONS those that docs/figures finds; the program's hints are the advice of STATUS;
+# DEFINITIONS those that docs/figures finds; the program's hints are the advice of STATUS; each wrong body fits the sources;
 # each link leads to a file and a heading that are there; no sentence has more than 40 words; and none has a word of the list below.
 # Sentences of comments in the crates' code, definitions and proofs are read too.
 # A cell of a table, an item of a list and a heading end a sentence; what is in code counts as one word.
@@ -188,6 +188,7 @@ while IFS= read -r line; do complain "docs/RUNBOOK.md: $line"; done < <(awk '
 
 while IFS= read -r word; do complain "$word has no comment"; done < <(docs/tables --bare)
 while IFS= read -r line; do complain "$line"; done < <(docs/counts --check)
+while IFS= read -r line; do complain "$line"; done < <(tools/fit-edits)
 
 # listed WHAT FILE PATTERN: the file has a row of a table in which this is.
 listed() {

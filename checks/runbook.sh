@@ -219,6 +219,20 @@ rows 200 'the state of an older backup'
 rm -r data/lost
 switch
 
+# The whole server goes back, to a time before its last change.
+moment=$(ask 'select now()')
+sleep 1
+ask 'insert into orders values (202)' >/dev/null
+rows 201 'a change that is taken back'
+typed 0 'The whole server back to an earlier time' 1 "s/2026[^\"]*/$moment/"
+await_writes
+rows 200 'an earlier time'
+has 'recovery stopping before commit' data/log
+typed 0 'The whole server back to an earlier time' 2
+[ "$(ask "select count(*) from pg_file_settings where name like 'recovery_target%'")" = 0 ] || complain 'a target is left'
+rm -r data/lost
+switch
+
 # Another machine: first a standby, then one in the place of the first.
 make_host "$room/second"
 cp etc/main/* second/etc/main/
@@ -232,6 +246,8 @@ for try in $(seq 60); do
     sleep 0.5
 done
 ask 'select status from pg_stat_wal_receiver' | grep -q streaming || complain "the standby doesn't stream: $(tail -n 5 second/data/log)"
+typed 0 'A standby' 2
+[ "$(ask 'select pg_is_in_recovery()')" = f ] || complain 'the standby is no server of its own'
 # (its server and its folder are in the place of those that Debian's package makes)
 typed 0 'Restore on another host' 1
 rm -r second/data/fresh

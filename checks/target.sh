@@ -110,6 +110,12 @@ reaches() {
     goes_live "$*" "$wanted"
 }
 
+# stays_down WHAT LINE: the server of the copy doesn't start, and this line is in its log.
+stays_down() {
+    start_copy
+    [ ! -f copy/postmaster.pid ] && grep -q -F -e "$2" copy/log || complain "with $1 the copy's log ends with: $(tail -n 5 copy/log)"
+}
+
 configure
 # (nothing crashes here, so no server waits for its disk)
 printf 'fsync = off\ntrack_commit_timestamp = on\nwal_retrieve_retry_interval = 500ms\n' >>pg/postgresql.conf
@@ -153,6 +159,11 @@ early='ERROR: [102]: no backup is early enough for the target
 restore 102 "$early" --type=time --target="$(stop_of "$first")"
 restore 102 "$early" --type=lsn --target=0/1
 [ -z "$(ls -A copy)" ] || complain 'a restore that found no backup put something into the folder'
+
+# Where the log ends before the target, no server goes live.
+restore 0 "INFO: restored backup $last
+" --type=lsn --target=F/0
+stays_down 'a target after the end' 'recovery ended before configured recovery target was reached'
 
 # What the server does at its target where it isn't promoted.
 restore 0 "INFO: restored backup $last
@@ -237,6 +248,11 @@ goes_live 'the timeline of the backup' '1 2 3 4 5 6 7'
 restore 0 "INFO: restored backup $first
 " --set="$first" --target-timeline=latest
 goes_live 'the latest timeline' '1 2 8'
+
+# Without a word the last backup is taken, which was made after the latest timeline had left its own.
+restore 0 "INFO: restored backup $last
+"
+stays_down 'the latest timeline' "requested timeline 2 is not a child of this server's history"
 
 # By its number. The last backup lies on the timeline before, and was made after this one had left that.
 restore 0 "INFO: restored backup $first
