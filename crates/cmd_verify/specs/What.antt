@@ -80,7 +80,3 @@ pub record Shows (x : Finding) (name : Text) (what : What) : Type 0 where
   pub named : string_bytes x.name ≡ name
   pub kind : x.kind ≡ kind_of what
   pub line : string_bytes x.line ≡ line_of what
-
--- it states that the name deviates by the contradiction that has this line
-abbrev pub ShowsLine : Text → Text → Finding → Type 0
-ShowsLine name line x = (c : Contradiction) → line ≡ contradiction_line c → Shows x name (Contradicts c)

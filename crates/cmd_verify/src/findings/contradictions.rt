@@ -4,9 +4,8 @@ ghost use Rattle.base_model.specs.InfoFiles.{IsArchiveInfo, IsBackupInfo};
 ghost use Rattle.base_model.specs.Values.{archive_info_of, backup_info_of};
 ghost use Rattle.repo_stanza.specs.Pairs.{AreTogether};
 ghost use Rattle.cmd_verify.specs.Adding.{Adds, OfSome};
-ghost use Rattle.cmd_verify.specs.Contradicting.{AddsApart, AddsHistories, AddsOutside, IsOutsideOf};
+ghost use Rattle.cmd_verify.specs.Contradicting.{AddsApart, AddsHistories, AddsOutside, IsOutsideOf, ShowsLine};
 ghost use Rattle.cmd_verify.specs.Contradictions.{HasId, IsIdOf};
-ghost use Rattle.cmd_verify.specs.What.{ShowsLine};
 
 use crate::findings::finding::{Finding, FindingKind};
 use archive_lookup::Stored;
