@@ -2,7 +2,8 @@
 # Restores with targets, and the servers of PostgreSQL 15 that start from them: by the rows that are there, each type reaches its target,
 # with it and before it, and nothing after it. A server pauses at its target, goes live or shuts down. A standby follows by archive-get
 # alone, or streams by a setting of one's own. A cluster that was restored begins a timeline; that one and the one before are reached by
-# their numbers, from a backup that lies on them, and not without their history. Targets of an earlier restore are out of force.
+# their numbers, from a backup that lies on them, and not without their history. Targets of an earlier restore are out of force. Where a
+# target is after the log's end, or the backup after the fork of the timeline, the server says so and doesn't start.
 . "$(dirname "$0")/server"
 
 # The server starts this program by its name.
