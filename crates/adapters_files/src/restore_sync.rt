@@ -98,7 +98,10 @@ pub fn move_file(place: &Place, handles: &mut Handles, from: &str, to: &str) -> 
 /// Moves a file, and syncs both names. What failed has done nothing.
 pub fn move_synced(place: &Place, handles: &mut Handles, from: &str, to: &str) -> io::Result<()> {
     move_file(place, handles, from, to)?;
-    let done = sync_name(place, to).and_then(|()| sync_name(place, from));
+    let mut done = sync_name(place, to);
+    if done.is_ok() && folder_of(from) != folder_of(to) {
+        done = sync_name(place, from);
+    }
     if done.is_err() {
         let _ = place.rename(to, from);
     }

@@ -21,7 +21,7 @@ use crate::stanza_setup::read_archive;
 use archive_lookup::all;
 use base_devices::{DataFolder, Disk, Link, Scheduler};
 use base_sample::spoil_cluster;
-use cmd_restore::{RecoverOrder, RecoveryType, restore_backup};
+use cmd_restore::{InfoValues, RecoverOrder, RecoveryType, restore_backup};
 use cmd_types::{Halt, Object, Outcome, halted};
 use cmd_verify::verify_stanza;
 use restore_choice::{Bounds, Choice};
@@ -69,16 +69,11 @@ fn restore_last<D: Disk, T: DataFolder, L: Link, U: Scheduler>(
         delta: true,
         recovery: RecoveryType::Nothing,
     };
-    let restored = restore_backup(
-        alloc,
-        repo,
-        tree,
-        pool,
-        order.stanza,
-        &recover,
-        &archive,
-        &backup,
-    );
+    let pairs = InfoValues {
+        archive: &archive,
+        backup: &backup,
+    };
+    let restored = restore_backup(alloc, repo, tree, pool, order.stanza, &recover, pairs);
     match restored {
         Ok(_) => Ok(()),
         Err(halt) => Err(of_restore(halt)),

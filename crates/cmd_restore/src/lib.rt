@@ -16,6 +16,7 @@
 //!   the recovery can begin, and it has this label in it. The one line states the label.
 //! - Where the repository represents a stanza, and all used links read that very repository, the folder is the restored
 //!   tree of the stanza's backup of that label, or of its last with which the recovery can begin.
+//! - At Ok no path of the folder is unsynced, so a crash leaves all of it.
 //! - The repository is only read, and the folder's calls are made as they ask. After a refusal there is no control
 //!   file, unless nothing was changed. Nothing was changed by a refusal before the workers, or where the repository
 //!   failed.
@@ -34,8 +35,8 @@ mod worker_start;
 
 pub use fault::RestoreCommandFault;
 pub use order::{
-    Configuration, FetchArguments, LogRecovery, RecoverOrder, RecoveryEnd, RecoveryTarget,
-    RecoveryType, TargetAction, TargetKind, Timeline, restore_order,
+    Configuration, FetchArguments, InfoValues, LogRecovery, RecoverOrder, RecoveryEnd,
+    RecoveryTarget, RecoveryType, TargetAction, TargetKind, Timeline, restore_order,
 };
 pub use restore_command::restore_backup;
 pub use texts::{restore_message, restore_status};

@@ -6,7 +6,7 @@ ghost use Rattle.cmd_restore.specs.Words.{ShowsSet, ShowsKind, ShowsDeadline, Sh
 ghost use Rattle.cmd_restore.specs.Fetching.{recovery_type};
 
 use crate::fault::RestoreCommandFault;
-use base_model::Label;
+use base_model::{ArchiveInfo, BackupInfo, Label};
 use cmd_types::Halt;
 use repo_names::{read_label, read_lsn};
 use restore_choice::{Bounds, Choice, Deadline};
@@ -117,6 +117,13 @@ pub struct RecoverOrder<'a> {
     ghost short: { length data_folder.now < 2 ^ 16 },
     ghost repository_short: { length repository.now < 2 ^ 16 },
     ghost label: { IsChoice choice } by { IsChoice-prop choice },
+}
+
+/// The values of the two info pairs.
+#[derive(Clone, Copy)]
+pub struct InfoValues<'a> {
+    pub archive: &'a ArchiveInfo,
+    pub backup: &'a BackupInfo,
 }
 
 // The label of which the value of the option `set` is the text, where one is given; None where it is no label's.

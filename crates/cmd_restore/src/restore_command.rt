@@ -17,10 +17,10 @@ ghost use Rattle.cmd_restore.specs.Ends.{LeavesFolder};
 use crate::fault::{RestoreCommandFault, of_choice, of_load};
 use crate::folder_fill::{FillOrder, fill};
 use crate::folder_listing::look;
-use crate::order::RecoverOrder;
+use crate::order::{InfoValues, RecoverOrder};
 use crate::texts::restored_line;
 use base_devices::{DataFolder, Disk, Link, Scheduler};
-use base_model::{ArchiveInfo, BackupInfo, Manifest};
+use base_model::Manifest;
 use cmd_types::{Halt, Outcome};
 use restore_choice::{Chosen, DamagedManifest, choose, load};
 use std::alloc::Global;
@@ -56,14 +56,13 @@ pub fn restore_backup<D: Disk, T: DataFolder, L: Link, U: Scheduler>(
     pool: &mut Pool<L, U>,
     stanza: &str,
     order: &RecoverOrder<'_>,
-    archive: &ArchiveInfo,
-    backup: &BackupInfo,
+    pairs: InfoValues<'_>,
 ) -> Result<Outcome, Halt<RestoreCommandFault>>
     requires few { vec_len pool.old.links < 2 ^ 32 }
     requires ready { AreReady (links_in L.link_state pool.old) }
     requires stanza { is_stanza stanza.now ≡ true }
-    requires archive { IsArchiveOf stanza.now (D.state repo.old).view.now archive.now }
-    requires backup { IsBackupOf stanza.now (D.state repo.old).view.now backup.now }
+    requires archive { IsArchiveOf stanza.now (D.state repo.old).view.now pairs.archive.now }
+    requires backup { IsBackupOf stanza.now (D.state repo.old).view.now pairs.backup.now }
     ensures looks { OnlyReads (D.state repo.old) (D.state repo.new) }
     ensures restored { IfOk result
         (RecoversBy stanza.now order.now (D.state repo.old) L.link_state pool.old T.state tree.old tree.new) }
@@ -83,6 +82,7 @@ pub fn restore_backup<D: Disk, T: DataFolder, L: Link, U: Scheduler>(
         (HaltsBy stanza.now order.now D.state repo.old repo.new L.link_state pool.old T.state tree.old tree.new) }
 {
     pool.lost.clear();
+    let InfoValues { archive, backup } = pairs;
     let chosen = match choose(alloc, repo, stanza, archive, backup, &order.choice) {
         Ok(chosen) => chosen,
         Err(halt) => return Err(of_choice(halt)),

@@ -1,7 +1,8 @@
 // The settings of a recovery that say where it ends, a line each.
 ghost use Rattle.std.specs.Prelude.{◌≡◌, ◌++◌, ◌∷◌, [], map, string_bytes, IfOk, OnOk};
 ghost use Rattle.base_model.specs.Text.{Text};
-ghost use Rattle.cmd_restore.specs.Targets.{target_of, end_of, escaped_byte, escaped, setting, target_name, inclusive_lines, end_lines, timeline_text, timeline_for, timeline_lines, action_lines, action_of, own_setting, settings_of, lines_in};
+ghost use Rattle.cmd_restore.specs.Targets.RecoveryEnd.{AtTarget};
+ghost use Rattle.cmd_restore.specs.Targets.{target_of, end_of, escaped_byte, escaped, setting, target_name, end_lines, timeline_text, timeline_for, timeline_lines, action_lines, action_of, own_setting, settings_of, lines_in};
 
 use crate::order::{RecoveryEnd, RecoveryTarget, TargetAction, TargetKind, Timeline};
 use repo_ini::cut_at;
@@ -68,9 +69,7 @@ fn add_target(
     lines: &mut Vec<Vec<u8>>,
     target: &RecoveryTarget<'_>,
 ) -> Result<(), AllocError>
-    ensures { OnOk result (lines_in lines.new
-        ≡ lines_in lines.old ++ setting (target_name target.now.kind) target.now.text.now
-        ∷ inclusive_lines target.now.exclusive) }
+    ensures { OnOk result (lines_in lines.new ≡ lines_in lines.old ++ end_lines (AtTarget (target_of target.now))) }
 {
     add_setting(alloc, lines, target_name(target.kind), target.text)?;
     if target.exclusive {

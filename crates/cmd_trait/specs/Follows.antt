@@ -50,7 +50,7 @@ abbrev pub EndsWell : ℕ → Type 0
 EndsWell status = (status ≤ 1) ⊎ (status ≡ 65)
 
 -- at one of these: it ended in this way, keeps its promise, also of all that a crash leaves, acknowledges what is so, and
--- wrote its lines; a crash leaves the data folder as it is, where the command syncs it
+-- wrote its lines. A crash leaves the data folder as it is, where the command syncs it.
 pub record Fulfils {F : Type 0} (p : Place) (m : Meaning F) (before after : World) (result : ℕ) : Type 0 where
   pub outcome : Outcome
   pub is : result ≡ status m (ending_of (Ok outcome))

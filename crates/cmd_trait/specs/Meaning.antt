@@ -1,19 +1,20 @@
 -- What a command means: all that `run` says of it, in one value that its own crate gives.
-use Rattle.std.specs.Prelude.{◌≡◌, ◌≤◌, ◌⊎◌, ◌≢◌, ℕ, Bool, true, false, Option, None, IsSome, IsSomeAnd}
+use Rattle.std.specs.Prelude.{◌≡◌, ◌≤◌, ◌⊎◌, ◌≢◌, ℕ, Bool, true, false, [], Option, None, IsSome, IsSomeAnd}
 use Rattle.std.proofs.Common.{inl, inr, ap, arith}
 use Rattle.base_devices.specs.Content.{Content}
 use Rattle.base_devices.specs.Moments.{View}
 use Rattle.base_devices.specs.DataFolder.{Nodes}
 use Rattle.base_model.specs.Text.{Text}
-use Rattle.base_model.specs.Steps.{Command}
+use Rattle.base_model.specs.Steps.{Command, Reading}
 use Rattle.archive_lookup.specs.Turns.{ProcessesState}
+use Rattle.archive_store.specs.Still.{IsStill}
 use Rattle.server_talk.specs.Sends.{Ended}
 use Rattle.cmd_types.specs.declared.stages.object.Object.{Object}
 use Rattle.cmd_types.specs.declared.stages.object.Object.TheVariants.{Server}
 use Rattle.cmd_types.specs.declared.stages.outcome.Outcome.{Outcome}
-use Rattle.cmd_types.specs.declared.stages.plan.Pairs.TheVariants.{Unread}
+use Rattle.cmd_types.specs.declared.stages.plan.Pairs.TheVariants.{Unread, ReadBoth}
 use Rattle.cmd_types.specs.declared.stages.plan.Plan.{Plan}
-use Rattle.cmd_types.specs.declared.stages.plan.SyncScope.TheVariants.{Looked}
+use Rattle.cmd_types.specs.declared.stages.plan.SyncScope.TheVariants.{Whole, Looked}
 use Rattle.cmd_types.specs.Plans.{Heals, OnReading}
 use Rattle.cmd_types.specs.DisksEffect.{Manner, each, one, provided, On}
 use Rattle.cmd_types.specs.World.{World, AreRead}
@@ -87,6 +88,49 @@ pub record Meaning (F : Type 0) : Type 1 where
   -- and what it has left unchanged where it was refused early, with this status
   pub turned : Place → KnownWorld → KnownWorld → ℕ → Type 0
 
+-- the places are opened, and nothing more is done before the command's own part
+abbrev pub places_plan : Plan
+places_plan = record {
+  sync_scope = Looked;
+  folder = true;
+  backup_lock = false;
+  archive_lock = false;
+  control = false;
+  pairs = Unread;
+}
+
+-- no folder, no lock: the stanza is synced, and both pairs are read
+abbrev pub reading_plan : Plan
+reading_plan = record places_plan { sync_scope = Whole; folder = false; pairs = ReadBoth }
+
+-- What is usual of a command whose refusals have these statuses and messages: it only reads the repository, and changes
+-- nothing else. A command's meaning says where it differs, and what it promises: here nothing is Ok.
+abbrev pub usual_meaning : {F : Type 0} → (F → ℕ) → (F → Text) → Meaning F
+usual_meaning status message = record {
+  plan = reading_plan;
+  staged = true;
+  spool = None;
+  uses = nothing;
+  unsyncs = false;
+  folder_unsynced = true;
+  manner = λ p old new. each (λ command. command ≡ Reading);
+  promise = λ p old new outcome. ⊥;
+  lasts = λ p nodes repo now_nodes outcome. Unit {0};
+  acknowledges = λ p old new. Unit {0};
+  arguments = λ p. Unit {0};
+  arguments_cause = λ p fault. ⊥;
+  cause = λ p old new failed fault. ⊥;
+  closes = λ p old new failed fault. Unit {0};
+  status = status;
+  message = message;
+  early = λ fault. true;
+  lines = λ fault. [];
+  repo_effect = λ p least old new. IsStill old new;
+  folder_effect = λ p old nodes. nodes ≡ old.nodes;
+  others_effect = λ p old new. new ≡ old;
+  turned = λ p old new n. new.nodes ≡ old.nodes;
+}
+
 -- this holds of a command that doesn't use it
 abbrev pub Unless : Bool → Type 0 → Type 0
 Unless true P = Unit {0}
@@ -128,17 +172,6 @@ HasOne (provided known Is) = known → (command : Command) × Is command
 -- to its server failed
 abbrev pub IsEarly : ℕ → Type 0
 IsEarly status = ((1 ≤ status) × (status ≤ 72) × (status ≢ 65)) ⊎ (((101 ≤ status) × (status ≤ 104)) ⊎ (status ≡ 83))
-
--- the places are opened, and nothing more is done before the command's own part
-abbrev pub places_plan : Plan
-places_plan = record {
-  sync_scope = Looked;
-  folder = true;
-  backup_lock = false;
-  archive_lock = false;
-  control = false;
-  pairs = Unread;
-}
 
 -- true isn't false
 pub apart : ◌≡◌ {A = Bool} true false → ⊥

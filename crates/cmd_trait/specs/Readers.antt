@@ -1,55 +1,18 @@
 -- What a command means that only reads the repository.
-use Rattle.std.specs.Prelude.{◌≡◌, ◌≢◌, ◌≤◌, ◌⊎◌, ℕ, Bool, true, false, [], None, refl}
-use Rattle.std.proofs.Common.{◌∙◌}
-use Rattle.base_devices.specs.Moments.{View}
+use Rattle.std.specs.Prelude.{◌≢◌, ◌≤◌, ◌⊎◌, ℕ, refl}
 use Rattle.base_model.specs.Text.{Text}
-use Rattle.base_model.specs.Steps.{Command, Reading}
-use Rattle.archive_store.specs.Still.{IsStill, still_on}
+use Rattle.base_model.specs.Steps.{Reading}
+use Rattle.archive_store.specs.Still.{still_on}
 use Rattle.cmd_types.specs.declared.stages.outcome.Outcome.{Outcome}
-use Rattle.cmd_types.specs.declared.stages.plan.Plan.{Plan}
-use Rattle.cmd_types.specs.declared.stages.plan.SyncScope.TheVariants.{Whole}
-use Rattle.cmd_types.specs.declared.stages.plan.Pairs.TheVariants.{ReadBoth}
-use Rattle.cmd_types.specs.DisksEffect.{each}
 use Rattle.cmd_trait.specs.KnownWorld.{KnownWorld}
-use Rattle.cmd_trait.specs.Meaning.{Place, Meaning, IsLawful, nothing, apart as falsely, quiet_talk}
-
--- no folder, no lock: the stanza is synced, and both pairs are read
-abbrev pub reading_plan : Plan
-reading_plan = record {
-  sync_scope = Whole;
-  folder = false;
-  backup_lock = false;
-  archive_lock = false;
-  control = false;
-  pairs = ReadBoth;
-}
+use Rattle.cmd_trait.specs.Meaning.{Place, Meaning, IsLawful, usual_meaning, apart as falsely, quiet_talk}
 
 -- It promises this, and is refused for this, with these statuses and messages.
 abbrev pub reader_meaning : {F : Type 0} → (Place → KnownWorld → Outcome → Type 0) → (Place → KnownWorld → F → Type 0) → (F → ℕ)
     → (F → Text) → Meaning F
-reader_meaning promise cause status message = record {
-  plan = reading_plan;
-  staged = true;
-  spool = None;
-  uses = nothing;
-  unsyncs = false;
-  folder_unsynced = true;
-  manner = λ p old new. each (λ command. command ≡ Reading);
+reader_meaning promise cause status message = record (usual_meaning status message) {
   promise = λ p old new outcome. promise p old outcome;
-  lasts = λ p nodes repo now_nodes outcome. Unit {0};
-  acknowledges = λ p old new. Unit {0};
-  arguments = λ p. Unit {0};
-  arguments_cause = λ p fault. ⊥;
   cause = λ p old new failed fault. cause p old fault;
-  closes = λ p old new failed fault. Unit {0};
-  status = status;
-  message = message;
-  early = λ fault. true;
-  lines = λ fault. [];
-  repo_effect = λ p least old new. IsStill old new;
-  folder_effect = λ p old nodes. nodes ≡ old.nodes;
-  others_effect = λ p old new. new ≡ old;
-  turned = λ p old new n. new.nodes ≡ old.nodes;
 }
 
 -- its statuses are those of refusals, none of a server's answer

@@ -16,7 +16,12 @@ use Rattle.cmd_verify.specs.Adding.{Adds, OfSome}
 use Rattle.cmd_verify.specs.Contradictions.{EntryContradicts, FileContradicts, HasId, HasOtherPrior, HistoriesContradict, IsAt}
 use Rattle.cmd_verify.specs.Looking.{FindingList}
 use Rattle.cmd_verify.specs.Members.{ValueSo}
-use Rattle.cmd_verify.specs.What.{What, Contradicts, HistoriesDiffer, NoCluster, OtherPrior}
+use Rattle.cmd_verify.specs.What.{What, Contradiction, Contradicts, HistoriesDiffer, NoCluster, OtherPrior, Shows, contradiction_line}
+use Rattle.cmd_verify.specs.declared.findings.finding.Finding.{Finding}
+
+-- the finding states that the name deviates by the contradiction that has this line
+abbrev pub ShowsLine : Text → Text → Finding → Type 0
+ShowsLine name line x = (c : Contradiction) → line ≡ contradiction_line c → Shows x name (Contradicts c)
 
 -- ---- the pairs, and the archive's names
 

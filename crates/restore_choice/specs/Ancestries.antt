@@ -3,8 +3,10 @@ use Rattle.std.specs.Prelude.{ℕ, ◌≡◌, ◌≢◌, ◌⊎◌, ◌<◌, ◌
 use Rattle.sha1.specs.Sha1.{sha1}
 use Rattle.base_devices.specs.Content.{Content}
 use Rattle.base_devices.specs.States.{DiskState, DiskFailed}
+use Rattle.base_model.specs.declared.clusters.ArchiveInfo.{ArchiveInfo}
 use Rattle.base_model.specs.declared.clusters.Cluster.{Cluster}
 use Rattle.base_model.specs.declared.clusters.ClusterId.{ClusterId}
+use Rattle.base_model.specs.declared.wal.ArchiveId.{ArchiveId}
 use Rattle.base_model.specs.declared.wal.ArchiveName.TheVariants.{History}
 use Rattle.base_model.specs.Fields.{at_number}
 use Rattle.base_model.specs.Repository.{Stanza, current_number, id_of}
@@ -41,6 +43,10 @@ abbrev pub IsAncestryBy : (ℕ → Text → Type 0) → Option ℕ → Option An
 IsAncestryBy HasBytes None ancestry = ancestry ≡ None
 IsAncestryBy HasBytes (Some n) ancestry = (ancestors : List Ancestor)
     × (ancestry ≡ Some (record { timeline = n; ancestors = ancestors })) × GoesBackBy HasBytes n ancestors
+
+-- the id is that of the pair's current cluster
+abbrev pub IsCurrentId : ArchiveInfo → ArchiveId → Type 0
+IsCurrentId info id = (c : ClusterId) × (at_number info.current info.history.items ≡ Some c) × (id ≡ id_kept c)
 
 -- ---- in what a disk holds
 

@@ -1,13 +1,10 @@
 // What a timeline goes back to, by its history file in the archive.
-ghost use Rattle.std.specs.Prelude.{◌≡◌, ◌≤◌, ◌^◌, length, Some, IfOk, IfErr};
+ghost use Rattle.std.specs.Prelude.{◌≤◌, ◌^◌, length, IfOk, IfErr};
 ghost use Rattle.base_devices.specs.States.{OnlyReads};
-ghost use Rattle.base_model.specs.declared.clusters.ClusterId.{ClusterId};
-ghost use Rattle.base_model.specs.Fields.{at_number};
 ghost use Rattle.base_model.specs.InfoFiles.{IsArchiveInfo};
 ghost use Rattle.base_model.specs.Values.{archive_info_of};
-ghost use Rattle.cmd_types.specs.Current.{id_kept};
 ghost use Rattle.cmd_setup.specs.Readies.{IsArchiveOf};
-ghost use Rattle.restore_choice.specs.Ancestries.{ReadsHistory, HistoryHalts, GoesBack, BackHalts, ReadsAncestry, AncestryHalts};
+ghost use Rattle.restore_choice.specs.Ancestries.{IsCurrentId, ReadsHistory, HistoryHalts, GoesBack, BackHalts, ReadsAncestry, AncestryHalts};
 
 use crate::fault::{ChoiceFault, of_archive, of_history};
 use archive_store::get;
@@ -27,8 +24,7 @@ pub(crate) struct Ancestry {
 // The archive id of the current cluster.
 fn current_id(archive: &ArchiveInfo) -> ArchiveId
     requires { IsArchiveInfo (archive_info_of archive.now) }
-    ensures { (c : ClusterId) × (at_number archive.now.current archive.now.history.items ≡ Some c)
-        × (result ≡ id_kept c) }
+    ensures { IsCurrentId archive.now result }
 {
     let current = &archive.history[archive.current as usize - 1];
     ArchiveId {

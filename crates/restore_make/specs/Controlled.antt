@@ -3,7 +3,7 @@ use Rattle.std.specs.Prelude.{◌≡◌, ◌≢◌, List, [], ◌∷◌, Result,
 use Rattle.base_devices.specs.Content.{at}
 use Rattle.base_devices.specs.DataFolder.{ChangesTree, moved_node}
 use Rattle.base_devices.specs.Links.{LinkState}
-use Rattle.base_devices.specs.States.{DataFolderState}
+use Rattle.base_devices.specs.States.{DataFolderState, IsSyncedAt}
 use Rattle.base_model.specs.Text.{Text, In}
 use Rattle.base_model.specs.Values.{FileEntry, file_entry_of}
 use Rattle.worker_pool.specs.Pools.{links_in}
@@ -27,6 +27,10 @@ HasBackupFile file path of pool tree = IfSome tree.nodes
 -- where nothing was at a path nothing is
 abbrev pub StaysAway : Text → DataFolderState → DataFolderState → Type 0
 StaysAway path old new = IsAway path old.nodes → IsAway path new.nodes
+
+-- where what is at the path was synced it is
+abbrev pub KeepsSynced : Text → DataFolderState → DataFolderState → Type 0
+KeepsSynced path old new = IsSyncedAt old path → IsSyncedAt new path
 
 -- the control file that waits gets its own name
 abbrev pub MovesControl : {A E : Type 0} → Result A E → DataFolderState → DataFolderState → Type 0

@@ -12,6 +12,7 @@ ghost use Rattle.worker_pool.specs.Pools.{links_in};
 ghost use Rattle.worker_pool.specs.Run.{AreReady};
 ghost use Rattle.restore_steps.specs.Clearing.{control_path, seen_of, HasNone, StaysNone};
 ghost use Rattle.restore_make.specs.Listed.{is_control_node, IsListedBut};
+ghost use Rattle.restore_make.specs.Controlled.{KeepsSynced};
 ghost use Rattle.restore_make.specs.Restorations.{MarksShown, ProperInFolders, StopsSafely, FinishesAll, CompletesAll, PutsRest, LeavesFinished, LeavesRestored, FailsToRestore};
 
 use crate::control::{BackupFile, control_of, put_control};
@@ -45,6 +46,7 @@ fn remove_control<T: DataFolder>(tree: &mut T, seen: &[FolderEntry]) -> Result<(
     requires seen { IfSome (T.state tree.old).nodes (λ f. IsTreeListing f (map seen_of seen.now)) }
     ensures listed { OnOk result (IfSome (T.state tree.new).nodes (λ f. IsListedBut f (map seen_of seen.now))) }
     ensures none { OnOk result (HasNone control_path (T.state tree.new).nodes) }
+    ensures gone { OnOk result (KeepsSynced control_path (T.state tree.old) (T.state tree.new)) }
     ensures others { OnOk result (SameBut control_path (T.state tree.old).nodes (T.state tree.new).nodes) }
     ensures safe { OnErr result (StopsSafely (T.state tree.old) (T.state tree.new)) }
     ensures proper { (T.state tree.new).faulty_calls ≡ (T.state tree.old).faulty_calls }

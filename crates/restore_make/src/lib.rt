@@ -4,11 +4,12 @@
 //!   are requested. It names a file that is damaged, or that a worker couldn't read (`specs/Written`,
 //!   `specs/Faults`).
 //! - `restore_files` restores a whole backup into a folder that was listed immediately before (`specs/Finished`). The
-//!   control file goes first and comes last, so after a refusal there is none, unless nothing was changed. At the end
-//!   each file of the manifest is there, with bytes that a link read at its place, each folder, and nothing else; over
-//!   links that read the repository this is the restored tree of the backup. Each file has the time that the backup has
-//!   of it. With delta a file keeps its bytes where a link reports that they are the backup's (`specs/Kept`). With a
-//!   recovery its settings are added (`specs/Settings`).
+//!   old control file is removed and synced first, and the new one comes last, after all else was synced. So after a
+//!   refusal there is none, unless nothing was changed.
+//! - At its end each file of the manifest is there, with bytes that a link read at its place, each folder, and nothing
+//!   else; over links that read the repository this is the restored tree of the backup. Each file has the time that the
+//!   backup has of it. With delta a file keeps its bytes where a link reports that they are the backup's (`specs/Kept`).
+//!   With a recovery its settings are added (`specs/Settings`).
 //!
 //! What is proved, by the contract of the function that is named:
 //!
@@ -25,6 +26,8 @@
 //! - Where all links read a repository that holds the manifest's backup, this is the backup's restored tree. With delta
 //!   that rests on links that read the folder as it was, and on no file there having the number and the SHA-1 of the
 //!   backup's and other bytes.
+//! - At Ok no path of the folder is unsynced, so a crash leaves all of it. What one in the middle leaves is said by the
+//!   order of the calls alone.
 //! - After a refusal there is no control file, unless nothing was changed. Each refusal has its cause. A file is
 //!   damaged only where a link read bytes of another number or SHA-1 at its place.
 //! - A file is unread only where the one link that is left gave that frame last, and one of the links couldn't read the

@@ -1,23 +1,20 @@
 -- What archive-get means that serves through the spool.
-use Rattle.std.specs.Prelude.{◌≡◌, ℕ, true, false, [], Some, IsSome}
+use Rattle.std.specs.Prelude.{ℕ, true, Some, IsSome}
 use Rattle.base_devices.specs.Content.{Content}
 use Rattle.base_devices.specs.Crash.{Leaves}
 use Rattle.base_model.specs.declared.wal.ArchiveName.{ArchiveName}
 use Rattle.base_model.specs.Now.{NowRepresents}
 use Rattle.base_model.specs.Repository.{Stanza}
-use Rattle.base_model.specs.Steps.{Reading}
 use Rattle.base_model.specs.Text.{Text}
-use Rattle.archive_store.specs.Still.{IsStill}
 use Rattle.repo_stanza.specs.declared.control.Control.{Control}
 use Rattle.cmd_types.specs.declared.stages.outcome.Outcome.{Outcome}
-use Rattle.cmd_types.specs.DisksEffect.{each}
 use Rattle.cmd_archive_get.specs.declared.fault.GetFault.{GetFault}
 use Rattle.cmd_archive_get.specs.Getting.{AreArguments, ArgumentsCause, ChangesPath, GivenBy, IsWanted, get_early, served_path}
 use Rattle.cmd_archive_get.specs.Texts.{get_status, get_message}
 use Rattle.cmd_archive_get_async.specs.Following.{QuietOthers}
 use Rattle.cmd_archive_get_async.specs.Getting.{FollowsUp, GetAheadCause, GotAhead, IsServedBySum, NoTwins}
 use Rattle.cmd_trait.specs.KnownWorld.{KnownWorld}
-use Rattle.cmd_trait.specs.Meaning.{Place, Meaning, nothing}
+use Rattle.cmd_trait.specs.Meaning.{Place, Meaning, nothing, usual_meaning}
 use Rattle.run_archive_get.specs.Getting.{get_plan}
 use Rattle.run_archive_get.specs.Started.{fetch_argument_list}
 
@@ -45,29 +42,18 @@ ThroughCause p name path old fault = (file : ArchiveName) × (known : Control)
 -- As archive-get; but it opens the spool, changes that, and starts another process at most, with these arguments. That
 -- takes no step meanwhile.
 abbrev pub through_meaning : Text → Text → Text → ℕ → Meaning GetFault
-through_meaning name path spool queue = record {
+through_meaning name path spool queue = record (usual_meaning get_status get_message) {
   plan = get_plan;
-  staged = true;
   spool = Some spool;
   uses = record nothing { spool = true };
-  unsyncs = false;
-  folder_unsynced = true;
-  manner = λ p old new. each (λ command. command ≡ Reading);
   promise = λ p old new outcome. GetsThrough p name path spool queue old new outcome;
   lasts = λ p nodes repo now_nodes outcome. (f : Content) → Leaves repo repo.moment f
       → GotAhead p.stanza p.data_folder name path (Some f) nodes now_nodes outcome;
-  acknowledges = λ p old new. Unit {0};
   arguments = λ p. (file : ArchiveName) × AreArguments p.data_folder name path file;
   arguments_cause = λ p fault. ArgumentsCause p.data_folder name path fault;
   cause = λ p old new failed fault. ThroughCause p name path old fault;
-  closes = λ p old new failed fault. Unit {0};
-  status = get_status;
-  message = get_message;
   early = get_early;
-  lines = λ fault. [];
-  repo_effect = λ p least old new. IsStill old new;
   folder_effect = λ p old nodes. ChangesPath (served_path p.data_folder path)
       (IsServedBySum p.stanza p.data_folder name path old.repo old.nodes) old.nodes nodes;
   others_effect = λ p old new. QuietOthers (fetch_argument_list p name spool queue) old new;
-  turned = λ p old new n. new.nodes ≡ old.nodes;
 }

@@ -1,6 +1,6 @@
 -- What archive-get:async's own part did, known of all objects.
 use Rattle.std.proofs.Common.{◌≡◌, ℕ, Bool, true, false, [], Option, Some, None, Result, Ok, Err, IfOk, IfErr, refl, sym, subst, ap}
-use Rattle.std.specs.Prelude.{IfSome, IsSome, IsSomeAnd}
+use Rattle.std.specs.Prelude.{IfSome, IsSome, IsSomeAnd, true}
 use Rattle.base_devices.specs.Content.{Content, at}
 use Rattle.base_devices.specs.DataFolder.{Nodes}
 use Rattle.base_devices.specs.Moments.{View}
@@ -17,6 +17,7 @@ use Rattle.cmd_types.specs.declared.stages.object.Object.{Object}
 use Rattle.cmd_types.specs.declared.stages.outcome.Outcome.{Outcome}
 use Rattle.cmd_types.specs.declared.stages.plan.SyncScope.{SyncScope}
 use Rattle.cmd_types.specs.declared.stages.plan.SyncScope.TheVariants.{Looked}
+use Rattle.cmd_types.specs.declared.stages.plan.Pairs.TheVariants.{ReadArchive}
 use Rattle.cmd_types.specs.declared.stages.halt.Halt.{Halt}
 use Rattle.cmd_types.specs.declared.stages.halt.Halt.TheVariants.{Refused, Failed as HaltFailed, NoMemory as HaltMemory}
 use Rattle.cmd_types.specs.Cluster.{FolderShows}
@@ -33,19 +34,19 @@ use Rattle.cmd_archive_get.specs.declared.fault.GetFault.{GetFault}
 use Rattle.cmd_archive_get.specs.Getting.{get_early}
 use Rattle.cmd_archive_get_async.specs.FollowUp.{FollowUpCause, FetchedBy, IsSegmentName}
 use Rattle.cmd_archive_get_async.proofs.Receipts.{spool_reads}
-use Rattle.cmd_trait.specs.Meaning.{Place, Meaning}
+use Rattle.cmd_trait.specs.Meaning.{Place, Meaning, places_plan}
 use Rattle.cmd_trait.specs.Ends.{ending_of, reached_of}
 use Rattle.cmd_trait.specs.Faults.{own_of}
 use Rattle.cmd_trait.specs.CallEffect.{OwnLasts, PartEffect, SamePlaces, StaysHealed, Closes}
 use Rattle.cmd_trait.proofs.CallEffects.{all_none}
 use Rattle.cmd_trait.proofs.PartEffects.{ran_of, all_on, any_ok, any_some}
-use Rattle.run_archive_get_async.specs.Fetching.{fetch_meaning, fetch_plan}
+use Rattle.run_archive_get_async.specs.Fetching.{fetch_meaning}
 
 there : {T : Type 0} (o : Option T) (x : T) (P : T → Type 0) → o ≡ Some x → IsSomeAnd o P → P x
 there o x P is h = subst (λ (y : Option _). IsSomeAnd y P) is h
 
 -- the data folder states the cluster that was read
-pub shows : (stanza : Text) (repo : Option Content) (nodes : Option Nodes) (ready : Ready) → IsReady fetch_plan stanza repo nodes ready → (known : Control) → ready.control ≡ Some known → IfSome nodes (λ f. FolderShows f known)
+pub shows : (stanza : Text) (repo : Option Content) (nodes : Option Nodes) (ready : Ready) → IsReady (record places_plan { control = true; pairs = ReadArchive }) stanza repo nodes ready → (known : Control) → ready.control ≡ Some known → IfSome nodes (λ f. FolderShows f known)
 shows stanza repo nodes ready is_ready known some = there ready.control known _ some (is_ready.control refl)
 
 -- ---- to the log it only reads

@@ -1,11 +1,9 @@
 -- What archive-push means.
-use Rattle.std.specs.Prelude.{◌≡◌, ◌≤◌, true, false, List, [], Option, None, IsSomeAnd, length}
+use Rattle.std.specs.Prelude.{◌≤◌, true, List, Option, IsSomeAnd, length}
 use Rattle.base_model.specs.declared.wal.ArchiveName.{ArchiveName}
 use Rattle.base_devices.specs.Content.{Content}
 use Rattle.base_model.specs.Steps.{Named}
 use Rattle.base_model.specs.Text.{Text, In}
-use Rattle.cmd_types.specs.declared.stages.plan.Plan.{Plan}
-use Rattle.cmd_types.specs.declared.stages.plan.SyncScope.TheVariants.{Looked}
 use Rattle.cmd_types.specs.declared.stages.plan.Pairs.TheVariants.{HealArchive}
 use Rattle.cmd_types.specs.Reached.{OnFinished}
 use Rattle.cmd_types.specs.DisksEffect.{each}
@@ -17,18 +15,7 @@ use Rattle.cmd_archive_push.specs.Putting.{PutsAtMost}
 use Rattle.cmd_archive_push.specs.Texts.{push_status, push_message}
 use Rattle.cmd_archive_push.specs.WalCause.{WordCause}
 use Rattle.cmd_archive_push.specs.WalPath.{IsWalPath}
-use Rattle.cmd_trait.specs.Meaning.{Meaning, Place, nothing}
-
--- the archive lock is taken, the folder of the archive pair synced, the control file read and the archive pair healed
-abbrev pub push_plan : Plan
-push_plan = record {
-  sync_scope = Looked;
-  folder = true;
-  backup_lock = false;
-  archive_lock = true;
-  control = true;
-  pairs = HealArchive;
-}
+use Rattle.cmd_trait.specs.Meaning.{Meaning, Place, places_plan, usual_meaning}
 
 -- What it may change in the repository, whatever lies there. Of what the disk holds no name changes but the members of
 -- the archive pair, temporary ones, and the path of the file that the server names, with the sum of its bytes. The bytes
@@ -40,27 +27,15 @@ pub record PushEffect (p : Place) (path : Text) (old new : Option Content) : Typ
   pub puts : PutsAtMost p.stanza files old new
 
 abbrev pub push_meaning : Text → Meaning PushFault
-push_meaning path = record {
-  plan = push_plan;
-  staged = true;
-  spool = None;
-  uses = nothing;
-  unsyncs = false;
-  folder_unsynced = true;
+push_meaning path = record (usual_meaning push_status push_message) {
+  -- the archive lock is taken, the folder of the archive pair synced, the control file read and the archive pair healed
+  plan = record places_plan { archive_lock = true; control = true; pairs = HealArchive };
   manner = λ p old new. each (λ command. IsSomeAnd old.nodes (λ f. IsPushOf f p.data_folder path command));
   promise = λ p old new outcome. OnFinished outcome (IsStored p.stanza p.data_folder path old.nodes old.repo new.repo);
   lasts = λ p nodes repo now_nodes outcome. OnFinished outcome (λ lines. IsLasting p.stanza p.data_folder path repo);
-  acknowledges = λ p old new. Unit {0};
   arguments = λ p. (name : ArchiveName) × IsWalPath p.data_folder path name;
   arguments_cause = λ p fault. WordCause p.data_folder path fault;
   cause = λ p old new failed fault. PushCause p.stanza p.data_folder path old.repo old.nodes fault;
-  closes = λ p old new failed fault. Unit {0};
-  status = push_status;
-  message = push_message;
   early = push_early;
-  lines = λ fault. [];
   repo_effect = λ p least old new. PushEffect p path old.now new.now;
-  folder_effect = λ p old nodes. nodes ≡ old.nodes;
-  others_effect = λ p old new. new ≡ old;
-  turned = λ p old new n. new.nodes ≡ old.nodes;
 }

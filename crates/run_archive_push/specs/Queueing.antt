@@ -18,7 +18,7 @@ use Rattle.cmd_archive_push_wait.specs.Received.{Received, ReceivedCause}
 use Rattle.cmd_types.specs.DisksEffect.{provided}
 use Rattle.cmd_types.specs.Reached.{OnFinished}
 use Rattle.cmd_trait.specs.KnownWorld.{KnownWorld}
-use Rattle.cmd_trait.specs.Meaning.{Place, Disks, Meaning, TurnsKnownIf, nothing, places_plan}
+use Rattle.cmd_trait.specs.Meaning.{Place, Disks, Meaning, TurnsKnownIf, nothing, places_plan, usual_meaning}
 use Rattle.run_archive_push.specs.declared.fault.QueuedPushFault.{QueuedPushFault}
 use Rattle.run_archive_push.specs.declared.fault.QueuedPushFault.TheVariants.{Push, Queue}
 use Rattle.run_archive_push.specs.Arguments.{drain_arguments}
@@ -82,27 +82,19 @@ pub record QueueingEffect (p : Place) (spool : Text) (most : ℕ) (old new : Pro
 
 -- its places are opened, and then it waits for steps of others; it is acknowledged only where the file is stored
 abbrev pub queued_push_meaning : (path spool : Text) → (turns : ℕ) → Meaning QueuedPushFault
-queued_push_meaning path spool turns = record {
+queued_push_meaning path spool turns = record (usual_meaning queued_push_status queued_push_message) {
   plan = places_plan;
   staged = false;
   spool = Some spool;
   uses = record nothing { turns = true; spool = true };
   unsyncs = true;
-  folder_unsynced = true;
   manner = λ p old new. provided (TurnsKnownIf true p.stanza new) (IsWait old new);
   promise = λ p old new outcome. OnFinished outcome (λ lines. lines ≡ []);
-  lasts = λ p nodes repo now_nodes outcome. Unit {0};
   acknowledges = λ p old new. IsLeftStored p path old new;
   arguments = λ p. (name : ArchiveName) × IsWalPath p.data_folder path name;
   arguments_cause = λ p fault. PathCause p path fault;
   cause = λ p old new failed fault. QueuedPushCause p path spool turns old new fault;
-  closes = λ p old new failed fault. Unit {0};
-  status = queued_push_status;
-  message = queued_push_message;
   early = queued_push_early;
-  lines = λ fault. [];
   repo_effect = λ p least old new. Unit {0};
-  folder_effect = λ p old nodes. nodes ≡ old.nodes;
   others_effect = λ p old new. QueueingEffect p spool turns old new;
-  turned = λ p old new n. new.nodes ≡ old.nodes;
 }

@@ -1,5 +1,5 @@
 -- What archive-push:async means.
-use Rattle.std.specs.Prelude.{◌≡◌, Bool, true, false, List, [], Option, Some, IfSome, IsSome, IsSomeAnd}
+use Rattle.std.specs.Prelude.{Bool, true, List, Option, Some, IfSome, IsSome, IsSomeAnd}
 use Rattle.base_devices.specs.Content.{Content}
 use Rattle.base_devices.specs.DataFolder.{Nodes}
 use Rattle.base_devices.specs.Moments.{View}
@@ -12,13 +12,12 @@ use Rattle.cmd_archive_push.specs.Texts.{push_message}
 use Rattle.cmd_archive_push_async.specs.Drained.{AreLasting, IsDrainOf, IsDrained, DrainCause, drain_early, drain_status}
 use Rattle.cmd_types.specs.declared.stages.outcome.Outcome.{Outcome}
 use Rattle.cmd_types.specs.declared.stages.plan.Pairs.TheVariants.{HealArchive}
-use Rattle.cmd_types.specs.declared.stages.plan.Plan.{Plan}
 use Rattle.cmd_types.specs.declared.stages.plan.SyncScope.TheVariants.{Whole}
 use Rattle.cmd_types.specs.Cluster.{FolderShows}
 use Rattle.cmd_types.specs.DisksEffect.{provided}
 use Rattle.cmd_types.specs.Reached.{OnFinished}
 use Rattle.cmd_trait.specs.KnownWorld.{KnownWorld}
-use Rattle.cmd_trait.specs.Meaning.{Meaning, nothing}
+use Rattle.cmd_trait.specs.Meaning.{Meaning, nothing, places_plan, usual_meaning}
 
 -- it stores some of the files that the data folder has
 abbrev pub IsSomeDrain : Nodes → Command → Type 0
@@ -43,39 +42,16 @@ LastsDrained stanza nodes repo = IfSome nodes (λ f. (known : Control) × AreLas
 abbrev pub DrainEffect : Text → Option Content → Option Content → Type 0
 DrainEffect stanza old new = (files : List Named) × PutsAtMost stanza files old new
 
--- the archive lock is taken, the stanza synced, the control file read and the archive pair healed
-abbrev pub drain_plan : Plan
-drain_plan = record {
-  sync_scope = Whole;
-  folder = true;
-  backup_lock = false;
-  archive_lock = true;
-  control = true;
-  pairs = HealArchive;
-}
-
 abbrev pub drain_meaning : (spool : Text) → Meaning PushFault
-drain_meaning spool = record {
-  plan = drain_plan;
-  staged = true;
+drain_meaning spool = record (usual_meaning drain_status push_message) {
+  -- the archive lock is taken, the stanza synced, the control file read and the archive pair healed
+  plan = record places_plan { sync_scope = Whole; archive_lock = true; control = true; pairs = HealArchive };
   spool = Some spool;
   uses = record nothing { spool = true };
-  unsyncs = false;
-  folder_unsynced = true;
   manner = λ p old new. provided (IsSome old.nodes) (λ command. IsSomeAnd old.nodes (λ f. IsSomeDrain f command));
   promise = λ p old new outcome. Drains p.stanza old new outcome;
   lasts = λ p nodes repo now_nodes outcome. LastsDrained p.stanza nodes repo;
-  acknowledges = λ p old new. Unit {0};
-  arguments = λ p. Unit {0};
-  arguments_cause = λ p fault. ⊥;
   cause = λ p old new failed fault. DrainCause p.stanza old.repo new.repo old.nodes fault;
-  closes = λ p old new failed fault. Unit {0};
-  status = drain_status;
-  message = push_message;
   early = drain_early;
-  lines = λ fault. [];
   repo_effect = λ p least old new. DrainEffect p.stanza old.now new.now;
-  folder_effect = λ p old nodes. nodes ≡ old.nodes;
-  others_effect = λ p old new. new ≡ old;
-  turned = λ p old new n. new.nodes ≡ old.nodes;
 }

@@ -1,5 +1,5 @@
 -- What a backup means with the expiry that may follow it (option `expire-auto`): the same for both kinds.
-use Rattle.std.specs.Prelude.{◌≡◌, ℕ, Bool, true, false, Option, None, Some, IsSomeAnd, String, string_bytes}
+use Rattle.std.specs.Prelude.{ℕ, Bool, true, false, Option, None, Some, IsSomeAnd, String, string_bytes}
 use Rattle.std.specs.declared.alloc.Global.{Global}
 use Rattle.base_devices.specs.Content.{Content}
 use Rattle.base_devices.specs.Moments.{View}
@@ -10,9 +10,7 @@ use Rattle.cmd_types.specs.declared.stages.object.Object.{Object}
 use Rattle.cmd_types.specs.declared.stages.object.Object.TheVariants.{Repo, Clock as TheClock}
 use Rattle.cmd_types.specs.declared.stages.outcome.Outcome.{Outcome}
 use Rattle.cmd_types.specs.declared.stages.outcome.Outcome.TheVariants.{Finished}
-use Rattle.cmd_types.specs.declared.stages.plan.Pairs.TheVariants.{ReadBoth}
 use Rattle.cmd_types.specs.declared.stages.plan.Plan.{Plan}
-use Rattle.cmd_types.specs.declared.stages.plan.SyncScope.TheVariants.{Whole}
 use Rattle.cmd_types.specs.DisksEffect.{Manner, one, provided}
 use Rattle.cmd_types.specs.Reached.{OnFinished}
 use Rattle.expire_rules.specs.declared.rules.Rules.{Rules}
@@ -21,7 +19,7 @@ use Rattle.cmd_expire.specs.Changing.{ExpiresNow}
 use Rattle.cmd_expire.specs.FollowUp.{AddsLines, FollowUpCause, IsFollowed, WasKnown}
 use Rattle.cmd_expire.specs.Pruning.{IsMomentIn}
 use Rattle.cmd_trait.specs.KnownWorld.{KnownWorld}
-use Rattle.cmd_trait.specs.Meaning.{Place, Meaning, TurnsKnownIf}
+use Rattle.cmd_trait.specs.Meaning.{Place, Meaning, TurnsKnownIf, reading_plan, usual_meaning}
 use Rattle.run_backup.specs.declared.fault.BackupCommandFault.{BackupCommandFault}
 use Rattle.run_backup.specs.declared.fault.BackupCommandFault.TheVariants.{Backup, FollowUp}
 use Rattle.run_backup.specs.Faults.{backup_early, backup_lines, backup_message, backup_status}
@@ -110,39 +108,21 @@ CommandCloses m p old new failed (FollowUp lines fault) = Unit {0}
 -- the whole stanza is synced, the data folder is opened and its control file is read, the backup lock is taken, and
 -- both pairs are read
 abbrev pub backup_stages : Plan
-backup_stages = record {
-  sync_scope = Whole;
-  folder = true;
-  backup_lock = true;
-  archive_lock = false;
-  control = true;
-  pairs = ReadBoth;
-}
+backup_stages = record reading_plan { folder = true; backup_lock = true; control = true }
 
 -- a backup of this kind, and then the expiry by these rules, where there are some
 abbrev pub backup_meaning : {F : Type 0} → BackupMeaning F → Option Rules → Meaning (BackupCommandFault F)
-backup_meaning m expires = record {
+backup_meaning m expires = record (usual_meaning (backup_status m.status) (backup_message m.message)) {
   plan = backup_stages;
-  staged = true;
-  spool = None;
   uses = record { turns = m.running; spool = m.running; server = m.running; workers = true; clock = true };
   unsyncs = true;
-  folder_unsynced = true;
   manner = λ p old new. manner_by m.running p.stanza new
       (WithExpiry expires old.clock.least new.clock.least (m.makes p old new));
   promise = λ p old new outcome. AfterIt expires p.stanza old.clock.least (IsBackedUp m p old new) new outcome;
-  lasts = λ p nodes repo now_nodes outcome. Unit {0};
-  acknowledges = λ p old new. Unit {0};
-  arguments = λ p. Unit {0};
-  arguments_cause = λ p fault. ⊥;
   cause = CommandCause m expires;
   closes = CommandCloses m;
-  status = backup_status m.status;
-  message = backup_message m.message;
   early = backup_early;
   lines = backup_lines;
   repo_effect = λ p least old new. m.changes expires p least old new;
-  folder_effect = λ p old nodes. nodes ≡ old.nodes;
   others_effect = m.others_effect;
-  turned = λ p old new n. new.nodes ≡ old.nodes;
 }

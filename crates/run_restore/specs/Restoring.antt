@@ -1,19 +1,13 @@
 -- What restore means.
-use Rattle.std.specs.Prelude.{◌≡◌, ◌⊎◌, ◌≢◌, ℕ, Bool, true, false, [], take, Option, Some, None}
+use Rattle.std.specs.Prelude.{◌≡◌, ◌⊎◌, ◌≢◌, ℕ, Bool, true, false, take, Option, Some}
 use Rattle.base_devices.specs.Content.{Content}
 use Rattle.base_devices.specs.DataFolder.{Nodes}
 use Rattle.base_model.specs.Now.{NowRepresents}
 use Rattle.base_model.specs.Repository.{Stanza}
-use Rattle.base_model.specs.Steps.{Reading}
 use Rattle.base_model.specs.Text.{Text}
-use Rattle.archive_store.specs.Still.{IsStill}
 use Rattle.restore_steps.specs.Clearing.{control_path, HasNone}
 use Rattle.cmd_types.specs.declared.stages.outcome.Outcome.{Outcome}
-use Rattle.cmd_types.specs.declared.stages.plan.Plan.{Plan}
-use Rattle.cmd_types.specs.declared.stages.plan.SyncScope.TheVariants.{Whole}
-use Rattle.cmd_types.specs.declared.stages.plan.Pairs.TheVariants.{ReadBoth}
 use Rattle.cmd_types.specs.Reached.{OnFinished}
-use Rattle.cmd_types.specs.DisksEffect.{each}
 use Rattle.cmd_restore.specs.declared.fault.RestoreCommandFault.{RestoreCommandFault}
 use Rattle.cmd_restore.specs.Causes.{RestoreCommandCause}
 use Rattle.cmd_restore.specs.Ends.{restore_early}
@@ -23,7 +17,7 @@ use Rattle.cmd_restore.specs.Texts.{restore_status, restore_message}
 use Rattle.cmd_restore.specs.Words.{ShowsChoice, WordCause}
 use Rattle.restore_choice.specs.declared.choice.Choice.{Choice}
 use Rattle.cmd_trait.specs.KnownWorld.{KnownWorld}
-use Rattle.cmd_trait.specs.Meaning.{Place, Meaning, nothing}
+use Rattle.cmd_trait.specs.Meaning.{Place, Meaning, nothing, reading_plan, usual_meaning}
 
 -- how a backup is restored: with how many workers, whether equal files stay, and how the server is to recover
 pub record RestoreHow : Type 0 where
@@ -78,39 +72,17 @@ LeavesWhole p set how old new = LeavesNoHalf old new ⊎ HoldsAsked p set how ol
 abbrev pub LeavesRefused : KnownWorld → KnownWorld → ℕ → Type 0
 LeavesRefused old new n = LeavesNoHalf old new.nodes × (n ≢ 55 → n ≢ 56 → n ≢ 63 → new.nodes ≡ old.nodes)
 
--- no lock: the data folder is opened, the stanza is synced, and both pairs are read
-abbrev pub restore_plan : Plan
-restore_plan = record {
-  sync_scope = Whole;
-  folder = true;
-  backup_lock = false;
-  archive_lock = false;
-  control = false;
-  pairs = ReadBoth;
-}
-
 abbrev pub restore_meaning : Option Text → RestoreHow → Meaning RestoreCommandFault
-restore_meaning set how = record {
-  plan = restore_plan;
-  staged = true;
-  spool = None;
+restore_meaning set how = record (usual_meaning restore_status restore_message) {
+  -- no lock: the data folder is opened, the stanza is synced, and both pairs are read
+  plan = record reading_plan { folder = true };
   uses = record nothing { workers = true };
-  unsyncs = false;
   folder_unsynced = false;
-  manner = λ p old new. each (λ command. command ≡ Reading);
   promise = λ p old new outcome. Restores p set how old new outcome;
-  lasts = λ p nodes repo now_nodes outcome. Unit {0};
-  acknowledges = λ p old new. Unit {0};
   arguments = λ p. Chooses set how.recovery;
   arguments_cause = λ p fault. WordCause set how.recovery fault;
   cause = λ p old new failed fault. RestoreCause p set how old fault;
-  closes = λ p old new failed fault. Unit {0};
-  status = restore_status;
-  message = restore_message;
   early = restore_early;
-  lines = λ fault. [];
-  repo_effect = λ p least old new. IsStill old new;
   folder_effect = λ p old nodes. LeavesWhole p set how old nodes;
-  others_effect = λ p old new. new ≡ old;
   turned = λ p old new n. LeavesRefused old new n;
 }

@@ -9,7 +9,7 @@ use base_devices::{
 };
 use base_text::NoMemory;
 use cmd_restore::{
-    RecoverOrder, RecoveryType, RestoreCommandFault, restore_backup, restore_message,
+    InfoValues, RecoverOrder, RecoveryType, RestoreCommandFault, restore_backup, restore_message,
     restore_order, restore_status,
 };
 use cmd_setup::Ready;
@@ -114,8 +114,7 @@ impl<'a> Command<'a> for Restore<'a> {
             &mut outside.pool,
             places.stanza,
             &order,
-            archive,
-            backup,
+            InfoValues { archive, backup },
         )
     }
 }

@@ -1,5 +1,5 @@
 -- What stanza-create means.
-use Rattle.std.specs.Prelude.{◌≡◌, true, [], Option, None, is_some, IfSome, IsSomeAnd}
+use Rattle.std.specs.Prelude.{◌≡◌, true, Option, is_some, IfSome, IsSomeAnd}
 use Rattle.base_devices.specs.DataFolder.{Nodes}
 use Rattle.base_disk.specs.Store.{ChangesOnly}
 use Rattle.base_model.specs.declared.clusters.Cluster.{Cluster}
@@ -10,9 +10,7 @@ use Rattle.repo_stanza.specs.Owned.{IsOfPairs}
 use Rattle.cmd_types.specs.declared.stages.halt.Halt.TheVariants.{Refused}
 use Rattle.cmd_types.specs.declared.stages.object.Object.TheVariants.{Server as TheServer}
 use Rattle.cmd_types.specs.declared.stages.outcome.Outcome.{Outcome}
-use Rattle.cmd_types.specs.declared.stages.plan.Plan.{Plan}
 use Rattle.cmd_types.specs.declared.stages.plan.SyncScope.TheVariants.{Whole}
-use Rattle.cmd_types.specs.declared.stages.plan.Pairs.TheVariants.{Unread}
 use Rattle.cmd_types.specs.Cluster.{FolderShows, IsClusterOf}
 use Rattle.cmd_types.specs.DisksEffect.{each}
 use Rattle.cmd_stanza_create.specs.declared.fault.CreateFault.{CreateFault}
@@ -21,7 +19,7 @@ use Rattle.cmd_stanza_create.specs.Server.{Server}
 use Rattle.cmd_stanza_create.specs.Talking.{Asks, IsOf}
 use Rattle.cmd_stanza_create.specs.Texts.{create_status, create_message}
 use Rattle.cmd_trait.specs.KnownWorld.{KnownWorld}
-use Rattle.cmd_trait.specs.Meaning.{Meaning, nothing}
+use Rattle.cmd_trait.specs.Meaning.{Meaning, nothing, places_plan, usual_meaning}
 
 -- stanza-create of the cluster that the folder states, where one is known
 abbrev pub IsCreateOf : Nodes → Command → Type 0
@@ -40,40 +38,18 @@ pub record Creates (stanza : Text) (server : Option Server) (old new : KnownWorl
   pub agrees : IfSome server (λ _. IsOf known.system old.server.pending)
   pub asks : Asks server new.server.place old.server.sent new.server.sent
 
--- both locks are taken, the whole stanza is synced, and of the data folder the control file is read
-abbrev pub create_plan : Plan
-create_plan = record {
-  sync_scope = Whole;
-  folder = true;
-  backup_lock = true;
-  archive_lock = true;
-  control = true;
-  pairs = Unread;
-}
-
 abbrev pub create_meaning : Option Server → Meaning CreateFault
-create_meaning server = record {
-  plan = create_plan;
-  staged = true;
-  spool = None;
+create_meaning server = record (usual_meaning create_status create_message) {
+  -- both locks are taken, the whole stanza is synced, and of the data folder the control file is read
+  plan = record places_plan { sync_scope = Whole; backup_lock = true; archive_lock = true; control = true };
   uses = record nothing { server = is_some server };
   unsyncs = true;
-  folder_unsynced = true;
   manner = λ p old new. each (λ command. IsSomeAnd old.nodes (λ f. IsCreateOf f command));
   promise = λ p old new outcome. Creates p.stanza server old new outcome;
-  lasts = λ p nodes repo now_nodes outcome. Unit {0};
-  acknowledges = λ p old new. Unit {0};
-  arguments = λ p. Unit {0};
-  arguments_cause = λ p fault. ⊥;
   cause = λ p old new failed fault. OnCluster old.nodes
       (λ known. CreateCause p.stanza known server old.repo old.server.pending fault);
   closes = λ p old new failed fault. CreateCloses (failed TheServer) new.server.sent (Refused fault);
-  status = create_status;
-  message = create_message;
   early = create_early;
-  lines = λ fault. [];
   repo_effect = λ p least old new. ChangesOnly (IsOfPairs p.stanza) old new;
-  folder_effect = λ p old nodes. nodes ≡ old.nodes;
-  others_effect = λ p old new. new ≡ old;
   turned = λ p old new n. (new.nodes ≡ old.nodes) × (new.repo ≡ old.repo);
 }

@@ -1,6 +1,6 @@
 -- What stanza-upgrade's own part did, known of all objects.
 use Rattle.std.proofs.Common.{◌≡◌, Option, Some, None, Result, Ok, Err, IfOk, IfErr, refl, sym, subst, ap, ◌∙◌, Bool, true, false}
-use Rattle.std.specs.Prelude.{is_some, IfSome, IsSomeAnd, OnOk}
+use Rattle.std.specs.Prelude.{is_some, IfSome, IsSomeAnd, OnOk, true}
 use Rattle.base_devices.specs.Content.{Content}
 use Rattle.base_devices.specs.DataFolder.{Nodes}
 use Rattle.base_devices.specs.Moments.{View}
@@ -33,20 +33,20 @@ use Rattle.cmd_stanza_create.proofs.OneCluster.{cluster_is}
 use Rattle.cmd_stanza_upgrade.specs.declared.fault.UpgradeCommandFault.{UpgradeCommandFault}
 use Rattle.cmd_stanza_upgrade.specs.Faults.{UpgradeCommandCause, ClosesTalk, upgrade_early}
 use Rattle.cmd_stanza_upgrade.specs.Upgrading.{IsUpgraded}
-use Rattle.cmd_trait.specs.Meaning.{Place, Unless}
+use Rattle.cmd_trait.specs.Meaning.{Place, Unless, reading_plan}
 use Rattle.cmd_trait.specs.Faults.{own_of, of_own}
 use Rattle.cmd_trait.specs.CallEffect.{PartEffect, SamePlaces, StaysHealed, Closes}
 use Rattle.cmd_trait.proofs.Ends.{reached_same, own_err}
 use Rattle.cmd_trait.proofs.CallEffects.{none_as}
 use Rattle.cmd_trait.proofs.PartEffects.{ran_of, all_on, any_some, spool_kept}
-use Rattle.run_stanza_upgrade.specs.Upgrading.{IsUpgradeOf, upgrade_plan, upgrade_meaning}
+use Rattle.run_stanza_upgrade.specs.Upgrading.{IsUpgradeOf, upgrade_meaning}
 
 -- ---- what was made ready
 
 there : {T : Type 0} (o : Option T) (x : T) (P : T → Type 0) → o ≡ Some x → IsSomeAnd o P → P x
 there o x P is h = subst (λ (y : Option _). IsSomeAnd y P) is h
 
-pub upgrade_shows : (stanza : Text) (repo : Option Content) (nodes : Option Nodes) (ready : Ready) → IsReady upgrade_plan stanza repo nodes ready → (known : Control) → ready.control ≡ Some known → IfSome nodes (λ f. FolderShows f known)
+pub upgrade_shows : (stanza : Text) (repo : Option Content) (nodes : Option Nodes) (ready : Ready) → IsReady (record reading_plan { folder = true; backup_lock = true; archive_lock = true; control = true }) stanza repo nodes ready → (known : Control) → ready.control ≡ Some known → IfSome nodes (λ f. FolderShows f known)
 upgrade_shows stanza repo nodes ready is known some = there ready.control known _ some (is.control refl)
 
 unless_used : (uses : Bool) (P : Type 0) → (uses ≡ false → P) → Unless uses P

@@ -1,5 +1,5 @@
 -- What stanza-upgrade means.
-use Rattle.std.specs.Prelude.{◌≡◌, true, [], Option, None, is_some, IfSome, IsSomeAnd}
+use Rattle.std.specs.Prelude.{◌≡◌, true, Option, is_some, IfSome, IsSomeAnd}
 use Rattle.base_devices.specs.DataFolder.{Nodes}
 use Rattle.base_disk.specs.Store.{ChangesOnly}
 use Rattle.base_model.specs.declared.clusters.Cluster.{Cluster}
@@ -9,9 +9,6 @@ use Rattle.repo_stanza.specs.declared.control.Control.{Control}
 use Rattle.repo_stanza.specs.Owned.{IsOfPairs}
 use Rattle.cmd_types.specs.declared.stages.object.Object.TheVariants.{Server as TheServer}
 use Rattle.cmd_types.specs.declared.stages.outcome.Outcome.{Outcome}
-use Rattle.cmd_types.specs.declared.stages.plan.Plan.{Plan}
-use Rattle.cmd_types.specs.declared.stages.plan.SyncScope.TheVariants.{Whole}
-use Rattle.cmd_types.specs.declared.stages.plan.Pairs.TheVariants.{ReadBoth}
 use Rattle.cmd_types.specs.Cluster.{FolderShows, IsClusterOf}
 use Rattle.cmd_types.specs.Reached.{OnFinished}
 use Rattle.cmd_types.specs.DisksEffect.{each}
@@ -22,7 +19,7 @@ use Rattle.cmd_stanza_upgrade.specs.Faults.{UpgradeCommandCause, UpgradeCloses, 
 use Rattle.cmd_stanza_upgrade.specs.Texts.{upgrade_status, upgrade_message}
 use Rattle.cmd_stanza_upgrade.specs.Upgrading.{IsUpgraded}
 use Rattle.cmd_trait.specs.KnownWorld.{KnownWorld}
-use Rattle.cmd_trait.specs.Meaning.{Meaning, nothing}
+use Rattle.cmd_trait.specs.Meaning.{Meaning, nothing, reading_plan, usual_meaning}
 
 -- stanza-upgrade to the cluster that the folder states, where one is known
 abbrev pub IsUpgradeOf : Nodes → Command → Type 0
@@ -41,40 +38,18 @@ pub record Upgrades (stanza : Text) (server : Option Server) (old new : KnownWor
   pub agrees : IfSome server (λ _. IsOf known.system old.server.pending)
   pub asks : Asks server new.server.place old.server.sent new.server.sent
 
--- both locks are taken, the whole stanza is synced, of the data folder the control file is read, and both pairs are
-abbrev pub upgrade_plan : Plan
-upgrade_plan = record {
-  sync_scope = Whole;
-  folder = true;
-  backup_lock = true;
-  archive_lock = true;
-  control = true;
-  pairs = ReadBoth;
-}
-
 abbrev pub upgrade_meaning : Option Server → Meaning UpgradeCommandFault
-upgrade_meaning server = record {
-  plan = upgrade_plan;
-  staged = true;
-  spool = None;
+upgrade_meaning server = record (usual_meaning upgrade_status upgrade_message) {
+  -- both locks are taken, the whole stanza is synced, of the data folder the control file is read, and both pairs are
+  plan = record reading_plan { folder = true; backup_lock = true; archive_lock = true; control = true };
   uses = record nothing { server = is_some server };
   unsyncs = true;
-  folder_unsynced = true;
   manner = λ p old new. each (λ command. IsSomeAnd old.nodes (λ f. IsUpgradeOf f command));
   promise = λ p old new outcome. Upgrades p.stanza server old new outcome;
-  lasts = λ p nodes repo now_nodes outcome. Unit {0};
-  acknowledges = λ p old new. Unit {0};
-  arguments = λ p. Unit {0};
-  arguments_cause = λ p fault. ⊥;
   cause = λ p old new failed fault. OnStated old.nodes
       (λ known. UpgradeCommandCause p.stanza known server old.repo old.server.pending fault);
   closes = λ p old new failed fault. UpgradeCloses (failed TheServer) old.server.sent new.server.sent fault;
-  status = upgrade_status;
-  message = upgrade_message;
   early = upgrade_early;
-  lines = λ fault. [];
   repo_effect = λ p least old new. ChangesOnly (IsOfPairs p.stanza) old new;
-  folder_effect = λ p old nodes. nodes ≡ old.nodes;
-  others_effect = λ p old new. new ≡ old;
   turned = λ p old new n. (new.nodes ≡ old.nodes) × (new.repo ≡ old.repo);
 }

@@ -40,11 +40,8 @@ fn known(
 }
 
 // What the files hold, and which of them the manifest states.
-fn contents(alloc: Global, disk: &mut MemDisk) -> Result<String, AllocError> {
-    let manifest = match load_manifest(alloc, disk, "demo", &FIRST) {
-        Ok(manifest) => manifest,
-        Err(fault) => return format!(in alloc; "{fault:?}"),
-    };
+fn contents(rt: &impl Abort, alloc: Global, disk: &mut MemDisk) -> Result<String, AllocError> {
+    let manifest = well(rt, load_manifest(alloc, disk, "demo", &FIRST));
     let mut text = String::new(alloc);
     for file in &manifest.files {
         let path = file.path.as_str();
@@ -71,7 +68,11 @@ fn check_made(rt: &impl Abort, alloc: Global, fails: &[&[u64]]) {
     same(rt, ending.as_str(), "made");
     let mut again = well(rt, reopened(alloc, &disk, &[]));
     same(rt, well(rt, listed(alloc, &mut again)).as_str(), LISTED);
-    same(rt, well(rt, contents(alloc, &mut again)).as_str(), CONTENTS);
+    same(
+        rt,
+        well(rt, contents(rt, alloc, &mut again)).as_str(),
+        CONTENTS,
+    );
     same(rt, disk.faulty_calls(), 0);
 }
 
@@ -97,7 +98,7 @@ fn check_list(rt: &impl Abort, alloc: Global, disk: &mut MemDisk) -> bool {
         return false;
     }
     same(rt, list.as_str(), LISTED);
-    same(rt, well(rt, contents(alloc, disk)).as_str(), CONTENTS);
+    same(rt, well(rt, contents(rt, alloc, disk)).as_str(), CONTENTS);
     true
 }
 

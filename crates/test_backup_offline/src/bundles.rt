@@ -140,11 +140,8 @@ fn add_bundles(alloc: Global, disk: &mut MemDisk, text: &mut String) -> Result<(
 }
 
 // What the manifest states of each file, and what each bundle holds.
-fn contents(alloc: Global, disk: &mut MemDisk) -> Result<String, AllocError> {
-    let manifest = match load_manifest(alloc, disk, "demo", &FIRST) {
-        Ok(manifest) => manifest,
-        Err(fault) => return format!(in alloc; "{fault:?}"),
-    };
+fn contents(rt: &impl Abort, alloc: Global, disk: &mut MemDisk) -> Result<String, AllocError> {
+    let manifest = well(rt, load_manifest(alloc, disk, "demo", &FIRST));
     let mut text = String::new(alloc);
     for file in &manifest.files {
         let path = file.path.as_str();
@@ -164,7 +161,11 @@ fn check_made(rt: &impl Abort, alloc: Global, files: Files, fails: &[&[u64]], wa
     let ending = well(rt, known(alloc, &mut disk, files, fails));
     same(rt, ending.as_str(), "made");
     let mut again = well(rt, reopened(alloc, &disk, &[]));
-    same(rt, well(rt, contents(alloc, &mut again)).as_str(), wanted);
+    same(
+        rt,
+        well(rt, contents(rt, alloc, &mut again)).as_str(),
+        wanted,
+    );
     same(rt, disk.faulty_calls(), 0);
 }
 
@@ -195,7 +196,7 @@ fn check_list(rt: &impl Abort, alloc: Global, disk: &mut MemDisk) -> bool {
         return false;
     }
     same(rt, list.as_str(), LISTED);
-    same(rt, well(rt, contents(alloc, disk)).as_str(), WHOLE);
+    same(rt, well(rt, contents(rt, alloc, disk)).as_str(), WHOLE);
     true
 }
 

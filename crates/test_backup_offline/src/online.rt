@@ -26,11 +26,8 @@ fn known(alloc: Global, disk: &mut MemDisk, label_file: &str) -> Result<String, 
 }
 
 // The manifest's files with their times, and what the label file holds.
-fn contents(alloc: Global, disk: &mut MemDisk) -> Result<String, AllocError> {
-    let manifest = match load_manifest(alloc, disk, "demo", &FIRST) {
-        Ok(manifest) => manifest,
-        Err(fault) => return format!(in alloc; "{fault:?}"),
-    };
+fn contents(rt: &impl Abort, alloc: Global, disk: &mut MemDisk) -> Result<String, AllocError> {
+    let manifest = well(rt, load_manifest(alloc, disk, "demo", &FIRST));
     let mut text = String::new(alloc);
     for file in &manifest.files {
         let path = file.path.as_str();
@@ -59,7 +56,7 @@ fn the_label_file_is_one_of_its_files(rt: HostRuntime) {
     same(&rt, well(&rt, listed(alloc, &mut again)).as_str(), LISTED);
     same(
         &rt,
-        well(&rt, contents(alloc, &mut again)).as_str(),
+        well(&rt, contents(&rt, alloc, &mut again)).as_str(),
         CONTENTS,
     );
     same(&rt, disk.faulty_calls(), 0);
@@ -87,7 +84,7 @@ fn each_call_of_the_disk_fails(rt: HostRuntime) {
             same(&rt, list.as_str(), LISTED);
             same(
                 &rt,
-                well(&rt, contents(alloc, &mut again)).as_str(),
+                well(&rt, contents(&rt, alloc, &mut again)).as_str(),
                 CONTENTS,
             );
         }

@@ -4,9 +4,8 @@ ghost use Rattle.base_model.specs.InfoFiles.{IsArchiveInfo, IsBackupInfo};
 ghost use Rattle.base_model.specs.Values.{archive_info_of, backup_info_of};
 ghost use Rattle.repo_stanza.specs.Pairs.{AreTogether};
 ghost use Rattle.cmd_verify.specs.Adding.{Adds, OfSome};
-ghost use Rattle.cmd_verify.specs.Contradicting.{AddsApart, AddsHistories, AddsOutside, IsOutsideOf};
+ghost use Rattle.cmd_verify.specs.Contradicting.{AddsApart, AddsHistories, AddsOutside, IsOutsideOf, ShowsLine};
 ghost use Rattle.cmd_verify.specs.Contradictions.{HasId, IsIdOf};
-ghost use Rattle.cmd_verify.specs.What.{Contradiction, Contradicts, Shows, contradiction_line};
 
 use crate::findings::finding::{Finding, FindingKind};
 use archive_lookup::Stored;
@@ -17,8 +16,7 @@ use std::alloc::Global;
 
 /// A contradiction at a name.
 pub(crate) fn contradiction(alloc: Global, name: &str, line: &str) -> Result<Finding, NoMemory>
-    ensures { IfOk result (λ x. (c : Contradiction) → line.now ≡ contradiction_line c
-        → Shows x name.now (Contradicts c)) }
+    ensures { IfOk result (ShowsLine name.now line.now) }
 {
     Ok(Finding {
         name: String::from_str(alloc, name)?,

@@ -22,6 +22,14 @@ fn only(alloc: Global, number: u64) -> Result<Vec<u64>, AllocError> {
     Ok(fail)
 }
 
+// The two disks, and the drain beside the push.
+#[derive(Drop)]
+struct Devices {
+    repo: MemDisk,
+    spool: MemDisk,
+    others: Drains,
+}
+
 fn beside(alloc: Global, tree: MemDataFolder, idle: u64, works: bool) -> Drains {
     Drains {
         alloc,
@@ -38,9 +46,7 @@ fn beside(alloc: Global, tree: MemDataFolder, idle: u64, works: bool) -> Drains 
 fn ended(
     rt: &impl Abort,
     alloc: Global,
-    repo: &mut MemDisk,
-    spool: &mut MemDisk,
-    others: &mut Drains,
+    devices: &mut Devices,
     name: ArchiveName,
     bytes: &[u8],
     turns: u64,
@@ -48,9 +54,9 @@ fn ended(
     let arguments = Vec::new(alloc);
     let done = queue_file(
         alloc,
-        repo,
-        spool,
-        others,
+        &mut devices.repo,
+        &mut devices.spool,
+        &mut devices.others,
         "main",
         name,
         &Sum::of(bytes),
@@ -70,36 +76,29 @@ fn check(
     turns: u64,
     want: (&str, u64, u64),
 ) {
-    let mut repo = well(rt, empty(alloc, Vec::new(alloc)));
-    let mut spool = well(rt, empty(alloc, Vec::new(alloc)));
     let tree = well(
         rt,
         folder(alloc, &[("00000002.history", b"hello")], Vec::new(alloc)),
     );
-    let mut others = beside(alloc, tree, idle, works);
-    let found = ended(
-        rt,
-        alloc,
-        &mut repo,
-        &mut spool,
-        &mut others,
-        HISTORY,
-        b"hello",
-        turns,
-    );
+    let mut devices = Devices {
+        repo: well(rt, empty(alloc, Vec::new(alloc))),
+        spool: well(rt, empty(alloc, Vec::new(alloc))),
+        others: beside(alloc, tree, idle, works),
+    };
+    let found = ended(rt, alloc, &mut devices, HISTORY, b"hello", turns);
     same(rt, found.as_str(), want.0);
-    same(rt, others.starts, want.1);
-    same(rt, others.turns, want.2);
-    let kept = well(rt, reopened(alloc, &repo));
+    same(rt, devices.others.starts, want.1);
+    same(rt, devices.others.turns, want.2);
+    let kept = well(rt, reopened(alloc, &devices.repo));
     let stored = kept.bytes("archive/main/16-1/00000002.history").is_some();
     same(rt, stored, found.as_str() == "Ok(())");
-    let kept = well(rt, reopened(alloc, &spool));
+    let kept = well(rt, reopened(alloc, &devices.spool));
     assert!(rt;
         kept.bytes("archive/main/out/00000002.history.ok").is_none() || stored,
         "a receipt alone"
     );
-    same(rt, repo.faulty_calls(), 0);
-    same(rt, spool.faulty_calls(), 0);
+    same(rt, devices.repo.faulty_calls(), 0);
+    same(rt, devices.spool.faulty_calls(), 0);
 }
 
 #[test]
@@ -140,48 +139,30 @@ fn asks_before_it_starts(rt: HostRuntime) {
         ("000000010000000000000004", fourth.as_slice()),
         ("000000010000000000000005", fifth.as_slice()),
     ];
-    let mut repo = well(&rt, empty(alloc, Vec::new(alloc)));
-    let mut spool = well(&rt, empty(alloc, Vec::new(alloc)));
     let tree = well(&rt, folder(alloc, &files, Vec::new(alloc)));
-    let mut others = beside(alloc, tree, 0, true);
+    let mut devices = Devices {
+        repo: well(&rt, empty(alloc, Vec::new(alloc))),
+        spool: well(&rt, empty(alloc, Vec::new(alloc))),
+        others: beside(alloc, tree, 0, true),
+    };
     // The drain stores the first two and refuses the third.
     for (seg, bytes, want, starts) in [
         (3, third.as_slice(), "Ok(())", 1u64),
         (4, fourth.as_slice(), "Ok(())", 1),
         (5, fifth.as_slice(), OTHER, 1),
     ] {
-        let found = ended(
-            &rt,
-            alloc,
-            &mut repo,
-            &mut spool,
-            &mut others,
-            segment(seg),
-            bytes,
-            2,
-        );
+        let found = ended(&rt, alloc, &mut devices, segment(seg), bytes, 2);
         same(&rt, found.as_str(), want);
-        same(&rt, others.starts, starts);
+        same(&rt, devices.others.starts, starts);
     }
     // A receipt of other bytes counts for nothing.
-    let found = ended(
-        &rt,
-        alloc,
-        &mut repo,
-        &mut spool,
-        &mut others,
-        segment(3),
-        &fourth,
-        1,
-    );
+    let found = ended(&rt, alloc, &mut devices, segment(3), &fourth, 1);
     same(&rt, found.as_str(), "Err(Refused(NotYet { turns: 1 }))");
-    same(&rt, others.starts, 2);
+    same(&rt, devices.others.starts, 2);
 }
 
 // A queued push of which these calls fail: it succeeds only where nothing failed, and then every crash leaves the file.
 fn check_failing(rt: &impl Abort, alloc: Global, repo: u64, spool: u64, tree: u64) {
-    let mut repo = well(rt, empty(alloc, well(rt, only(alloc, repo))));
-    let mut spool = well(rt, empty(alloc, well(rt, only(alloc, spool))));
     let tree = well(
         rt,
         folder(
@@ -190,45 +171,42 @@ fn check_failing(rt: &impl Abort, alloc: Global, repo: u64, spool: u64, tree: u6
             well(rt, only(alloc, tree)),
         ),
     );
-    let mut others = beside(alloc, tree, 1, true);
-    let found = ended(
-        rt,
-        alloc,
-        &mut repo,
-        &mut spool,
-        &mut others,
-        HISTORY,
-        b"hello",
-        3,
-    );
-    let whole = repo.faults() == 0 && spool.faults() == 0 && others.tree.faults() == 0;
+    let mut devices = Devices {
+        repo: well(rt, empty(alloc, well(rt, only(alloc, repo)))),
+        spool: well(rt, empty(alloc, well(rt, only(alloc, spool)))),
+        others: beside(alloc, tree, 1, true),
+    };
+    let found = ended(rt, alloc, &mut devices, HISTORY, b"hello", 3);
+    let whole = devices.repo.faults() == 0
+        && devices.spool.faults() == 0
+        && devices.others.tree.faults() == 0;
     same(rt, found.as_str() == "Ok(())", whole);
-    let mut repo = well(rt, reopened(alloc, &repo));
-    let mut spool = well(rt, reopened(alloc, &spool));
-    let stored = repo.bytes("archive/main/16-1/00000002.history").is_some();
-    assert!(rt; stored || !whole, "acknowledged and not stored");
-    let receipt = spool
-        .bytes("archive/main/out/00000002.history.ok")
-        .is_some();
-    assert!(rt; stored || !receipt, "a receipt without its file");
     let tree = well(
         rt,
         folder(alloc, &[("00000002.history", b"hello")], Vec::new(alloc)),
     );
-    let mut others = beside(alloc, tree, 0, true);
-    let again = ended(
-        rt,
-        alloc,
-        &mut repo,
-        &mut spool,
-        &mut others,
-        HISTORY,
-        b"hello",
-        3,
-    );
+    let mut devices = Devices {
+        repo: well(rt, reopened(alloc, &devices.repo)),
+        spool: well(rt, reopened(alloc, &devices.spool)),
+        others: beside(alloc, tree, 0, true),
+    };
+    let stored = devices
+        .repo
+        .bytes("archive/main/16-1/00000002.history")
+        .is_some();
+    assert!(rt; stored || !whole, "acknowledged and not stored");
+    let receipt = devices
+        .spool
+        .bytes("archive/main/out/00000002.history.ok")
+        .is_some();
+    assert!(rt; stored || !receipt, "a receipt without its file");
+    let again = ended(rt, alloc, &mut devices, HISTORY, b"hello", 3);
     same(rt, again.as_str(), "Ok(())");
     assert!(rt;
-        repo.bytes("archive/main/16-1/00000002.history").is_some(),
+        devices
+            .repo
+            .bytes("archive/main/16-1/00000002.history")
+            .is_some(),
         "acknowledged and not stored"
     );
 }

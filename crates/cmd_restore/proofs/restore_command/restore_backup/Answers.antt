@@ -33,7 +33,7 @@ returns-in_err-fill-clause-cause g c =
     let repo_rose = Rises (g.D.Disk.state c.args.repo.now).faults (g.D.Disk.state c.manifest_for.new.repo).faults in
     let rose = rose_in (record none { repo = repo_rose; tree = Rises first new }) in
     let halt = c.in_err-fill.field-0.0 in
-    let chosen : Chooses b label = on_list stanza repo (backup_info_of c.args.backup.now) c.requires.backup.0 (λ f v. IsChosen stanza choice f v label) c.in-Ok.ensures.chosen in
+    let chosen : Chooses b label = on_list stanza repo (backup_info_of c.args.pairs.backup.now) c.requires.backup.0 (λ f v. IsChosen stanza choice f v label) c.in-Ok.ensures.chosen in
     let has = subst (λ (o : Option Content). IfSome o (HasManifest stanza label m)) c.in-Ok.ensures.looks.now c.in-Ok-manifest_for.ensures.found in
     ends_with (HaltCause (RestoreCommandCause b) rose) c.from_residual-in_err-fill.result halt c.from_residual-in_err-fill.ensures.1
     (halt_as (FillCause stanza m b.used) (RestoreCommandCause b) (Only TheDataFolder (Rises old new)) rose
@@ -53,7 +53,7 @@ returns-clause-given g c = λ s f known now.
     let recovers : Recovers b nodes (string_bytes c.in-Ok-restored_line.lines) = record {
       label = label;
       line = c.in-Ok-restored_line.ensures;
-      chosen = on_list stanza repo (backup_info_of c.args.backup.now) c.requires.backup.0 (λ f v. IsChosen stanza choice f v label) c.in-Ok.ensures.chosen;
+      chosen = on_list stanza repo (backup_info_of c.args.pairs.backup.now) c.requires.backup.0 (λ f v. IsChosen stanza choice f v label) c.in-Ok.ensures.chosen;
       open_before = c.in_ok-seen.ensures.open;
       manifest = m;
       has = subst (λ (o : Option Content). IfSome o (HasManifest stanza label m)) c.in-Ok.ensures.looks.now c.in-Ok-manifest_for.ensures.found;

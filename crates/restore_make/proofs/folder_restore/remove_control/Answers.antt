@@ -1,4 +1,5 @@
 use Rattle.std.proofs.Common.{◌≡◌, ◌∙◌, sym, map}
+use Rattle.std.proofs.lemmas.Result.{on_ok_weaker}
 use Rattle.restore_steps.specs.Clearing.{control_path, seen_of}
 use Rattle.restore_make.specs.Listed.{is_control_node}
 use Rattle.restore_make.proofs.Finished.{on_removed, stops_safely, but_control, listed_but, listed_none, none_there, none_after, any_map}
@@ -13,6 +14,9 @@ returns-then-has_control-clause-listed g c = on_removed c.remove_synced.result _
 pub returns-then-has_control-clause-none : goal.returns-then-has_control-clause-none
 returns-then-has_control-clause-none g c = on_removed c.remove_synced.result _ (g.T.DataFolder.state c.args.tree.now).nodes (g.T.DataFolder.state c.remove_synced.new.self).nodes c.remove_synced.ensures.nodes
     (none_after (g.T.DataFolder.state c.args.tree.now).nodes (g.T.DataFolder.state c.remove_synced.new.self).nodes)
+
+pub returns-then-has_control-clause-gone : goal.returns-then-has_control-clause-gone
+returns-then-has_control-clause-gone g c = on_ok_weaker c.remove_synced.result (λ synced was. synced) c.remove_synced.ensures.gone
 
 pub returns-then-has_control-clause-safe : goal.returns-then-has_control-clause-safe
 returns-then-has_control-clause-safe g c = stops_safely c.remove_synced.result (g.T.DataFolder.state c.args.tree.now) (g.T.DataFolder.state c.remove_synced.new.self) c.remove_synced.ensures.nodes
