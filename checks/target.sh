@@ -111,9 +111,13 @@ reaches() {
     goes_live "$*" "$wanted"
 }
 
-# stays_down WHAT LINE: the server of the copy doesn't start, and this line is in its log.
+# stays_down WHAT LINE: the server of the copy ends by itself, and this line is in its log.
 stays_down() {
     start_copy
+    for _ in $(seq 120); do
+        if [ ! -f copy/postmaster.pid ]; then break; fi
+        sleep 0.25
+    done
     [ ! -f copy/postmaster.pid ] && grep -q -F -e "$2" copy/log || complain "with $1 the copy's log ends with: $(tail -n 5 copy/log)"
 }
 
