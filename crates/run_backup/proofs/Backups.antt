@@ -250,6 +250,7 @@ module _ {F : Type 0} (M : BackupMeaning F) (facts : IsFollowable M) (p : Place)
     promise = record { repo = m.repo.view.now; lines = lines; was = was f.later; moment = f.moment; may_be = from_first (Ok (Finished more)) f; known = f.known; adds = f.adds };
     lasts = tt;
     synced = tt;
+    folder_synced = tt;
     acknowledges = tt;
     cause = tt;
     healed = record { agree = λ some x. any_some repo.view.now; lasts = λ synced some x. tt };
@@ -264,6 +265,7 @@ module _ {F : Type 0} (M : BackupMeaning F) (facts : IsFollowable M) (p : Place)
     promise = tt;
     lasts = tt;
     synced = tt;
+    folder_synced = tt;
     acknowledges = tt;
     cause = (
       m.repo.view.now,
