@@ -22,7 +22,7 @@ fn only(alloc: Global, number: u64) -> Result<Vec<u64>, AllocError> {
     Ok(fail)
 }
 
-// The two disks, and the drain beside the push.
+// The two disks, and the other process that pushes in the background.
 #[derive(Drop)]
 struct Devices {
     repo: MemDisk,
