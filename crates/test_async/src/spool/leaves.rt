@@ -22,11 +22,7 @@ fn only(alloc: Global, number: u64) -> Result<Vec<u64>, AllocError> {
     Ok(fail)
 }
 
-<<<<<<< HEAD
-// The two disks, and the drain that runs with the push.
-=======
 // The two disks, and the other process that pushes in the background.
->>>>>>> origin/HEAD
 #[derive(Drop)]
 struct Devices {
     repo: MemDisk,
